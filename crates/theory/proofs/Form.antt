@@ -1,0 +1,113 @@
+-- What a code 0 says of the literal's form.
+use mathlib.Core.Path.{_≡_, refl, sym, ap, ap₂, subst, _∙_}
+use mathlib.Core.Bool.{Bool, true, false, cond}
+use mathlib.Core.List.{List, [], _∷_, map}
+use mathlib.Core.Option.{Option, none, some}
+use Prim.Native.Nat.{ℕ}
+use native.Mathlib.Omega.{arith}
+use lib.Dec.{T, eqb, eqb→eq}
+use Rattle.theory.specs.Kind.{Op, True, False, kind, indices}
+use Rattle.theory.specs.Term.{Term, node, nil, cons, to-list, from-list, same-term}
+use Rattle.theory.specs.Rule.{args-of, one-of, two-of, form, unary, binary, compare, literal-bit, literal-bits}
+use Rattle.theory.proofs.Basics.{none-some, some-inj, taken, cons-some-is}
+use Rattle.theory.proofs.Blast.{from-to-list}
+use Rattle.theory.proofs.Slices.{literal}
+use Rattle.theory.proofs.Same.{decode, decode-kind, same-eq}
+
+pub form-held : {A : Type 0} (p : Option A) (f : A → ℕ) → form p f ≡ 0 → (a : A) × (p ≡ some a) × (f a ≡ 0)
+form-held none f e = absurd (omega arith)
+form-held (some a) f e = (a, refl, e)
+
+pub same-of : (e c : Term) → compare 0 e c ≡ 0 → e ≡ c
+same-of e c h = same-eq e c (taken (same-term e c) 15 0 h .0)
+
+-- ---- a term of kind k
+kind-is : (o : Op) (k : ℕ) → kind o ≡ k → o ≡ decode k (indices o)
+kind-is o k e = sym (decode-kind o) ∙ ap (λ (j : ℕ). decode j (indices o)) e
+
+pub args-held : (k : ℕ) (t : Term) (ts : List Term) → args-of k t ≡ some ts → (is : List ℕ) × (t ≡ node (decode k is) (from-list ts))
+unfolding args-of
+args-held k (node o us) ts e = go (eqb (kind o) k) refl e
+  where
+    go : (b : Bool) → eqb (kind o) k ≡ b → cond b (some (to-list us)) none ≡ some ts → (is : List ℕ) × (node o us ≡ node (decode k is) (from-list ts))
+    go true t d =
+        (indices o, ap₂ node (kind-is o k (eqb→eq (kind o) k (subst T (sym t) tt))) (sym (from-to-list us) ∙ ap from-list (some-inj (to-list us) ts d)))
+    go false t d = absurd (none-some ts d)
+
+one-held : (ts : List Term) (x : Term) → one-of ts ≡ some x → ts ≡ x ∷ []
+one-held [] x e = absurd (none-some x e)
+one-held (y ∷ []) x e = ap (λ (z : Term). z ∷ []) (some-inj y x e)
+one-held (y ∷ z ∷ zs) x e = absurd (none-some x e)
+
+two-held : (ts : List Term) (p : Term × Term) → two-of ts ≡ some p → ts ≡ p .0 ∷ p .1 ∷ []
+two-held [] p e = absurd (none-some p e)
+two-held (x ∷ []) p e = absurd (none-some p e)
+two-held (x ∷ y ∷ []) p e = ap (λ (q : Term × Term). q .0 ∷ q .1 ∷ []) (some-inj (x, y) p e)
+two-held (x ∷ y ∷ z ∷ zs) p e = absurd (none-some p e)
+
+pub record Unary (k : ℕ) (t : Term) (f : Term → ℕ) : Type 0 where
+  pub one : Term
+  pub numbers : List ℕ
+  pub is : t ≡ node (decode k numbers) (cons one nil)
+  pub after : f one ≡ 0
+
+pub unary-held : (k : ℕ) (t : Term) (f : Term → ℕ) → unary k t f ≡ 0 → Unary k t f
+unary-held k t f e =
+    let p = form-held (args-of k t) (λ ts. form (one-of ts) f) e in
+    let q = form-held (one-of (p .0)) f (p .2) in
+    let a = args-held k t (p .0) (p .1) in
+    record {
+      one = q .0;
+      numbers = a .0;
+      is = a .1 ∙ ap (λ (ts : List Term). node (decode k (a .0)) (from-list ts)) (one-held (p .0) (q .0) (q .1));
+      after = q .2;
+    }
+
+pub record Binary (k : ℕ) (t : Term) (f : Term → Term → ℕ) : Type 0 where
+  pub left : Term
+  pub right : Term
+  pub numbers : List ℕ
+  pub is : t ≡ node (decode k numbers) (cons left (cons right nil))
+  pub after : f left right ≡ 0
+
+pub binary-held : (k : ℕ) (t : Term) (f : Term → Term → ℕ) → binary k t f ≡ 0 → Binary k t f
+binary-held k t f e =
+    let p = form-held (args-of k t) (λ ts. form (two-of ts) (λ p. f (p .0) (p .1))) e in
+    let q = form-held (two-of (p .0)) (λ p. f (p .0) (p .1)) (p .2) in
+    let a = args-held k t (p .0) (p .1) in
+    record {
+      left = q .0 .0;
+      right = q .0 .1;
+      numbers = a .0;
+      is = a .1 ∙ ap (λ (ts : List Term). node (decode k (a .0)) (from-list ts)) (two-held (p .0) (q .0) (q .1));
+      after = q .2;
+    }
+
+pub record Many (k : ℕ) (t : Term) (f : List Term → ℕ) : Type 0 where
+  pub all : List Term
+  pub numbers : List ℕ
+  pub is : t ≡ node (decode k numbers) (from-list all)
+  pub after : f all ≡ 0
+
+pub many-held : (k : ℕ) (t : Term) (f : List Term → ℕ) → form (args-of k t) f ≡ 0 → Many k t f
+many-held k t f e =
+    let p = form-held (args-of k t) f e in
+    let a = args-held k t (p .0) (p .1) in
+    record { all = p .0; numbers = a .0; is = a .1; after = p .2 }
+
+-- ---- bits that are literally true or false
+literal-bit-is : (t : Term) (b : Bool) → literal-bit t ≡ some b → t ≡ literal b
+literal-bit-is t b e = go (same-term t (node True nil)) (same-term t (node False nil)) (same-eq t (node True nil)) (same-eq t (node False nil)) e
+  where
+    go : (p q : Bool) → (T p → t ≡ node True nil) → (T q → t ≡ node False nil)
+        → cond p (some true) (cond q (some false) none) ≡ some b → t ≡ literal b
+    go true q f g d = f tt ∙ ap literal (some-inj true b d)
+    go false true f g d = g tt ∙ ap literal (some-inj false b d)
+    go false false f g d = absurd (none-some b d)
+
+pub literal-bits-are : (ts : List Term) (bs : List Bool) → literal-bits ts ≡ some bs → ts ≡ map literal bs
+unfolding literal-bits
+literal-bits-are [] bs e = ap (map literal) (some-inj [] bs e)
+literal-bits-are (t ∷ ts) bs e =
+    let q = cons-some-is (literal-bit t) (literal-bits ts) bs e in
+    ap₂ (λ (u : Term) (us : List Term). u ∷ us) (literal-bit-is t (q .0) (q .2)) (literal-bits-are ts (q .1) (q .3)) ∙ ap (map literal) (sym (q .4))

@@ -1,0 +1,332 @@
+-- What holds all through a run: the list is the plain list, every term on it has a sort, no record done has a fault, and each answer
+-- is the answer to its step.
+use mathlib.Core.Path.{_≡_, refl, sym, ap, ap₂, subst, subst₂, _∙_}
+use mathlib.Core.Bool.{Bool, true, false, _||_, cond}
+use mathlib.Core.List.{List, [], _∷_, _++_, map, foldl, append-assoc, append-nil}
+use mathlib.Core.Option.{Option, none, some}
+use Prim.Native.Nat.{ℕ, zero, suc, _+_, _*_, _<_, _≤_}
+use native.Mathlib.Nat.{suc-add}
+use native.Mathlib.Numerals.{add-one}
+use native.Mathlib.Omega.{arith}
+use native.Mathlib.Decide.{ℕ-discrete}
+use lib.Dec.{T, leb, leb→le}
+use lib.ListN.{length, take, getElem?, length-append}
+use lib.Seq.{take-append-seam}
+use Rattle.theory.specs.Limit.{max-job, answer-bytes}
+use Rattle.theory.specs.Kind.{Op}
+use Rattle.theory.specs.Term.{Term, fold}
+use Rattle.theory.specs.Sort.{guard, good, sort-of}
+use Rattle.theory.specs.Optional.{is-some}
+use Rattle.theory.specs.RuleTable.{Rule, rule-at}
+use Rattle.theory.specs.Record.{Bytes, records-of, ending, Item, term, step, back, unknown, misfit, read, is-step, step-count}
+use Rattle.theory.specs.Plain.{Entry, entry, Plain, start, at-places, term-of, has, put, feed-item, feed, plain-after}
+use Rattle.theory.specs.Codes.{first-fault, all-below, well-sorted, room, tests, fault}
+use Rattle.theory.specs.Job.{Answer, answer-to, reply, item-answers, answers-to, Outcome, outcome, run-from, run}
+use Rattle.theory.proofs.Basics.{none-some, some-inj, taken, foldl-append, getElem-seam, snoc-elim}
+use Rattle.theory.proofs.Places.{tree-at, tree-of, at-places-are, term-of-is}
+
+step-count-append : (xs : List Bytes) (r : Bytes) → step-count (xs ++ (r ∷ [])) ≡ step-count xs + cond (is-step (read r)) 1 0
+step-count-append [] r = go (is-step (read r))
+  where
+    go : (b : Bool) → _≡_ {A = ℕ} (cond b (suc 0) 0) (0 + cond b 1 0)
+    go true = refl
+    go false = refl
+step-count-append (x ∷ xs) r = go (is-step (read x)) (step-count-append xs r)
+  where
+    go : (b : Bool) → step-count (xs ++ (r ∷ [])) ≡ step-count xs + cond (is-step (read r)) 1 0
+        → cond b (suc (step-count (xs ++ (r ∷ [])))) (step-count (xs ++ (r ∷ []))) ≡ cond b (suc (step-count xs)) (step-count xs) + cond (is-step (read r)) 1 0
+    go true e = ap suc e ∙ sym (suc-add (step-count xs) (cond (is-step (read r)) 1 0))
+    go false e = e
+
+-- ---- every term of the list has a sort
+abbrev pub AllGood : Plain → Type 0
+AllGood [] = Unit {0}
+AllGood (e ∷ list) = T (good (sort-of (e .tree))) × AllGood list
+
+good-snoc : (list : Plain) (e : Entry) → AllGood list → T (good (sort-of (e .tree))) → AllGood (list ++ (e ∷ []))
+good-snoc [] e h g = (g, tt)
+good-snoc (d ∷ list) e h g = (h .0, good-snoc list e (h .1) g)
+
+good-take : (n : ℕ) (list : Plain) → AllGood list → AllGood (take n list)
+good-take zero list h = tt
+good-take (suc n) [] h = tt
+good-take (suc n) (e ∷ list) h = (h .0, good-take n list (h .1))
+
+pub good-at : (list : Plain) (i : ℕ) → AllGood list → i < length list → T (good (sort-of (tree-at list i)))
+good-at [] i h l = absurd (omega arith)
+good-at (e ∷ list) zero h l = h .0
+good-at (e ∷ list) (suc i) h l = good-at list i (h .1) (omega arith)
+
+start-good : AllGood start
+unfolding fold guard
+start-good = (tt, (tt, tt))
+
+-- ---- a record with no fault
+-- what its tests say
+pub record TermPassed (work : ℕ) (list : Plain) (r : Bytes) (o : Op) (ks : List ℕ) : Type 0 where
+  pub below : T (all-below (length list) ks)
+  pub sorted : T (good (sort-of (tree-of list o ks)))
+  pub roomy : T (has list r || room work list)
+
+pub term-passed : (work : ℕ) (list : Plain) (r : Bytes) (o : Op) (ks : List ℕ)
+    → first-fault ((all-below (length list) ks, 6) ∷ (well-sorted (term-of list o ks), 7) ∷ (has list r || room work list, 8) ∷ []) ≡ 0
+    → TermPassed work list r o ks
+term-passed work list r o ks e =
+    let w = well-sorted (term-of list o ks) in
+    let m = has list r || room work list in
+    let a = taken (all-below (length list) ks) 5 (cond w (cond m 0 8) 7) e in
+    let b = taken w 6 (cond m 0 8) (a .1) in
+    record {
+      below = a .0;
+      sorted = subst (λ (q : Option Term). T (well-sorted q)) (term-of-is list o ks (a .0)) (b .0);
+      roomy = taken m 7 0 (b .1) .0;
+    }
+
+pub record StepPassed (space : ℕ) (list : Plain) (answered n : ℕ) (ks : List ℕ) : Type 0 where
+  pub below : T (all-below (length list) ks)
+  pub rule : Rule
+  pub rule-is : rule-at n ≡ some rule
+  pub roomy : answer-bytes * suc answered ≤ space
+
+there : {A : Type 0} (q : Option A) → T (is-some q) → (a : A) × (q ≡ some a)
+there none h = absurd h
+there (some a) h = (a, refl)
+
+pub step-passed : (space : ℕ) (list : Plain) (answered n : ℕ) (ks : List ℕ)
+    → first-fault ((all-below (length list) ks, 6) ∷ (is-some (rule-at n), 9) ∷ (leb (answer-bytes * suc answered) space, 19) ∷ []) ≡ 0
+    → StepPassed space list answered n ks
+step-passed space list answered n ks e =
+    let m = leb (answer-bytes * suc answered) space in
+    let a = taken (all-below (length list) ks) 5 (cond (is-some (rule-at n)) (cond m 0 19) 9) e in
+    let b = taken (is-some (rule-at n)) 8 (cond m 0 19) (a .1) in
+    let q = there (rule-at n) (b .0) in
+    record { below = a .0; rule = q .0; rule-is = q .1; roomy = leb→le (answer-bytes * suc answered) space (taken m 18 0 (b .1) .0) }
+
+-- the answer to a step that passed
+pub step-answer : (space : ℕ) (list : Plain) (answered n : ℕ) (ks : List ℕ) (p : StepPassed space list answered n ks)
+    → reply n (rule-at n) (at-places list ks) ≡ answer-to n (p .rule) (map (tree-at list) ks) ∷ []
+step-answer space list answered n ks p = ap₂ (reply n) (p .rule-is) (at-places-are list ks (p .below))
+
+-- a new term at the end, or nothing new
+pub put-cases : (P : Plain → Type 0) (list : Plain) (r : Bytes) (t : Term) → P list → ((T (has list r) → ⊥) → P (list ++ (entry t r ∷ []))) → P (put list r (some t))
+put-cases P list r t old new = go (has list r) new
+  where
+    go : (b : Bool) → ((T b → ⊥) → P (list ++ (entry t r ∷ []))) → P (cond b list (list ++ (entry t r ∷ [])))
+    go true f = old
+    go false f = f (λ z. z)
+
+-- what a record without a fault makes of the list: a property that a new term and a shorter list keep
+pub fed : (P : Plain → Type 0) (work space : ℕ) (list : Plain) (answered : ℕ) (r : Bytes) → fault work space list answered r ≡ 0 → P list
+    → ((o : Op) (ks : List ℕ) → read r ≡ term o ks → TermPassed work list r o ks → (T (has list r) → ⊥) → P (list ++ (entry (tree-of list o ks) r ∷ [])))
+    → ((n : ℕ) → P (take n list)) → P (feed list r)
+unfolding feed fault
+fed P work space list answered r e old new shorter = go (read r) e refl
+  where
+    go : (i : Item) → first-fault (tests work space list answered r i) ≡ 0 → read r ≡ i → P (feed-item list r i)
+    go (term o ks) f d =
+        let p = term-passed work list r o ks f in
+        subst (λ (q : Option Term). P (put list r q)) (sym (term-of-is list o ks (p .below)))
+        (put-cases P list r (tree-of list o ks) old (new o ks d p))
+    go (step n ks) f d = old
+    go (back n) f d = shorter n
+    go unknown f d = old
+    go misfit f d = old
+
+feed-good : (work space : ℕ) (list : Plain) (answered : ℕ) (r : Bytes) → fault work space list answered r ≡ 0 → AllGood list → AllGood (feed list r)
+feed-good work space list answered r e h =
+    fed AllGood work space list answered r e h
+    (λ o ks d p n. good-snoc list (entry (tree-of list o ks) r) h (p .sorted)) (λ n. good-take n list h)
+
+-- the answers to a record without a fault: one to a step, none to any other
+pub answers-cases : (P : List Answer → Type 0) (work space : ℕ) (list : Plain) (answered : ℕ) (r : Bytes) → fault work space list answered r ≡ 0
+    → ((n : ℕ) (ks : List ℕ) → read r ≡ step n ks → (p : StepPassed space list answered n ks) → P (answer-to n (p .rule) (map (tree-at list) ks) ∷ []))
+    → (is-step (read r) ≡ false → P []) → P (answers-to list r)
+unfolding answers-to fault
+answers-cases P work space list answered r e one other = go (read r) e refl
+  where
+    go : (i : Item) → first-fault (tests work space list answered r i) ≡ 0 → read r ≡ i → P (item-answers list i)
+    go (step n ks) f d =
+        let p = step-passed space list answered n ks f in
+        subst P (sym (step-answer space list answered n ks p)) (one n ks d p)
+    go (term o ks) f d = other (ap is-step d)
+    go (back n) f d = other (ap is-step d)
+    go unknown f d = other (ap is-step d)
+    go misfit f d = other (ap is-step d)
+
+module _ (job : Bytes) (work space : ℕ) where
+  -- answer k of the first `done` records is the answer to step k, from the plain list just then
+  pub record Answered (done k : ℕ) (a : Answer) : Type 0 where
+    pub m : ℕ
+    pub bytes : Bytes
+    pub number : ℕ
+    pub rule : Rule
+    pub literals : List ℕ
+    pub m-done : m < done
+    pub stands : getElem? (records-of job) m ≡ some bytes
+    pub is-step : read bytes ≡ step number literals
+    pub kth : step-count (take m (records-of job)) ≡ k
+    pub rule-is : rule-at number ≡ some rule
+    pub below : T (all-below (length (plain-after m job)) literals)
+    pub sorted : AllGood (plain-after m job)
+    pub is : a ≡ answer-to number rule (map (tree-at (plain-after m job)) literals)
+
+  -- record m, which is r, has no fault
+  abbrev pub Passes : ℕ → Bytes → Type 0
+  Passes m r = fault work space (plain-after m job) (step-count (take m (records-of job))) r ≡ 0
+
+  -- after the records `pre`
+  pub record Good (pre : List Bytes) (list : Plain) (answers : List Answer) : Type 0 where
+    pub plain : list ≡ foldl feed start pre
+    pub sorted : AllGood list
+    pub counted : length answers ≡ step-count pre
+    pub exact : (k : ℕ) (a : Answer) → getElem? answers k ≡ some a → Answered (length pre) k a
+    pub passed : (m : ℕ) (r : Bytes) → m < length pre → getElem? (records-of job) m ≡ some r → Passes m r
+
+  later : (d d′ k : ℕ) (a : Answer) → d ≤ d′ → Answered d k a → Answered d′ k a
+  later d d′ k a l h =
+      let b = h .m-done in
+      record {
+        m = h .m;
+        bytes = h .bytes;
+        number = h .number;
+        rule = h .rule;
+        literals = h .literals;
+        m-done = omega arith;
+        stands = h .stands;
+        is-step = h .is-step;
+        kth = h .kth;
+        rule-is = h .rule-is;
+        below = h .below;
+        sorted = h .sorted;
+        is = h .is;
+      }
+
+  module _ (pre : List Bytes) (list : Plain) (answers : List Answer) (r : Bytes) (rs : List Bytes)
+      (all : records-of job ≡ pre ++ (r ∷ rs)) (before : Good pre list answers) (e : fault work space list (length answers) r ≡ 0) where
+    so-far : take (length pre) (records-of job) ≡ pre
+    so-far = ap (take (length pre)) all ∙ take-append-seam pre (r ∷ rs)
+
+    plain-now : list ≡ plain-after (length pre) job
+    plain-now = before .plain ∙ ap (foldl feed start) (sym so-far)
+
+    stands-now : getElem? (records-of job) (length pre) ≡ some r
+    stands-now = ap (λ (l : List Bytes). getElem? l (length pre)) all ∙ getElem-seam pre r rs
+
+    count-now : step-count (take (length pre) (records-of job)) ≡ length answers
+    count-now = ap step-count so-far ∙ sym (before .counted)
+
+    passes-now : Passes (length pre) r
+    passes-now = subst₂ (λ (l : Plain) (k : ℕ). fault work space l k r ≡ 0) plain-now (sym count-now) e
+
+    -- the step that comes now
+    new-answer : (n : ℕ) (ks : List ℕ) → read r ≡ step n ks → (p : StepPassed space list (length answers) n ks)
+        → Answered (suc (length pre)) (length answers) (answer-to n (p .rule) (map (tree-at list) ks))
+    new-answer n ks d p = record {
+      m = length pre;
+      bytes = r;
+      number = n;
+      rule = p .rule;
+      literals = ks;
+      m-done = omega arith;
+      stands = stands-now;
+      is-step = d;
+      kth = count-now;
+      rule-is = p .rule-is;
+      below = subst (λ (l : Plain). T (all-below (length l) ks)) plain-now (p .below);
+      sorted = subst AllGood plain-now (before .sorted);
+      is = ap (λ (l : Plain). answer-to n (p .rule) (map (tree-at l) ks)) plain-now;
+    }
+
+    after-exact : (k : ℕ) (a : Answer) → getElem? (answers ++ answers-to list r) k ≡ some a → Answered (suc (length pre)) k a
+    after-exact k a =
+        answers-cases (λ (new : List Answer). getElem? (answers ++ new) k ≡ some a → Answered (suc (length pre)) k a) work space list (length answers) r e
+        (λ n ks d p g. snoc-elim answers (answer-to n (p .rule) (map (tree-at list) ks)) k a g
+        (λ h. later (length pre) (suc (length pre)) k a (omega arith) (before .exact k a h))
+        (λ i j. subst₂ (Answered (suc (length pre))) (sym i) j (new-answer n ks d p)))
+        (λ d g. later (length pre) (suc (length pre)) k a (omega arith)
+        (before .exact k a (ap (λ (l : List Answer). getElem? l k) (sym (append-nil answers)) ∙ g)))
+
+    after-counted : length (answers ++ answers-to list r) ≡ step-count (pre ++ (r ∷ []))
+    after-counted =
+        answers-cases (λ (new : List Answer). length (answers ++ new) ≡ step-count (pre ++ (r ∷ []))) work space list (length answers) r e
+        (λ n ks d p. length-append answers (answer-to n (p .rule) (map (tree-at list) ks) ∷ []) ∙ ap₂ _+_ (before .counted) (ap (λ (i : Item). cond (is-step i) 1 0) (sym d))
+        ∙ sym (step-count-append pre r))
+        (λ d. length-append answers [] ∙ ap₂ _+_ (before .counted) (ap (λ (b : Bool). cond b 1 0) (sym d)) ∙ sym (step-count-append pre r))
+
+    after-passed : (m : ℕ) (s : Bytes) → m < suc (length pre) → getElem? (records-of job) m ≡ some s → Passes m s
+    after-passed m s l f = go (ℕ-discrete m (length pre))
+      where
+        go : Dec (m ≡ length pre) → Passes m s
+        go (yes d) = subst₂ Passes (sym d) (some-inj r s (sym stands-now ∙ ap (getElem? (records-of job)) (sym d) ∙ f)) passes-now
+        go (no d) = before .passed m s (omega arith) f
+
+    next : Good (pre ++ (r ∷ [])) (feed list r) (answers ++ answers-to list r)
+    next =
+        let l : length (pre ++ (r ∷ [])) ≡ suc (length pre) = length-append pre (r ∷ []) ∙ add-one (length pre) in
+        record {
+          plain = ap (λ (p : Plain). feed p r) (before .plain) ∙ sym (foldl-append feed start pre (r ∷ []));
+          sorted = feed-good work space list (length answers) r e (before .sorted);
+          counted = after-counted;
+          exact = λ k a f. subst (λ (n : ℕ). Answered n k a) (sym l) (after-exact k a f);
+          passed = λ m s h f. after-passed m s (subst (λ (n : ℕ). m < n) l h) f;
+        }
+
+  -- what a run's outcome says of the job
+  pub record Ran (o : Outcome) : Type 0 where
+    pub short : (m : ℕ) → m < o .records → length job ≤ max-job
+    pub within : o .records ≤ length (records-of job)
+    pub terms-are : o .terms ≡ length (plain-after (o .records) job)
+    pub all-sorted : AllGood (plain-after (o .records) job)
+    pub answers-are : length (o .answers) ≡ step-count (take (o .records) (records-of job))
+    pub all-passed : (m : ℕ) (r : Bytes) → m < o .records → getElem? (records-of job) m ≡ some r → Passes m r
+    pub exact-answers : (k : ℕ) (a : Answer) → getElem? (o .answers) k ≡ some a → Answered (o .records) k a
+
+  stopped : (stop : ℕ) (pre rs : List Bytes) (list : Plain) (answers : List Answer) → records-of job ≡ pre ++ rs → Good pre list answers
+      → ((m : ℕ) → m < length pre → length job ≤ max-job) → Ran (outcome stop (length pre) answers list)
+  stopped stop pre rs list answers all g short =
+      let t : take (length pre) (records-of job) ≡ pre = ap (take (length pre)) all ∙ take-append-seam pre rs in
+      let p : list ≡ plain-after (length pre) job = g .plain ∙ ap (foldl feed start) (sym t) in
+      let l : length (records-of job) ≡ length pre + length rs = ap length all ∙ length-append pre rs in
+      record {
+        short = short;
+        within = omega arith;
+        terms-are = ap length p;
+        all-sorted = subst AllGood p (g .sorted);
+        answers-are = g .counted ∙ ap step-count (sym t);
+        all-passed = g .passed;
+        exact-answers = g .exact;
+      }
+
+  by-fault : (f : ℕ) (x : Outcome) (y : ℕ → Outcome) → (f ≡ 0 → Ran x) → ((c : ℕ) → Ran (y c))
+      → Ran (elim f as (λ z. Outcome) [ zero ↦ x | suc c ↦ y c ])
+  by-fault zero x y p q = p refl
+  by-fault (suc c) x y p q = q c
+
+  module _ (end : ℕ) (short : length job ≤ max-job) where
+    runs : (rs pre : List Bytes) (list : Plain) (answers : List Answer) (done : ℕ) → done ≡ length pre → records-of job ≡ pre ++ rs → Good pre list answers
+        → Ran (run-from work space end done list answers rs)
+    unfolding run-from
+    runs [] pre list answers done d all g =
+        subst (λ (n : ℕ). Ran (outcome end n answers list)) (sym d) (stopped end pre [] list answers all g (λ m l. short))
+    runs (r ∷ rs) pre list answers done d all g =
+        by-fault (fault work space list (length answers) r) (run-from work space end (suc done) (feed list r) (answers ++ answers-to list r) rs) (λ c. outcome (suc c) done answers list)
+        (λ e. runs rs (pre ++ (r ∷ [])) (feed list r) (answers ++ answers-to list r) (suc done)
+        (ap suc d ∙ sym (length-append pre (r ∷ []) ∙ add-one (length pre)))
+        (all ∙ sym (append-assoc pre (r ∷ []) rs))
+        (next pre list answers r rs all g e))
+        (λ c. subst (λ (n : ℕ). Ran (outcome (suc c) n answers list)) (sym d) (stopped (suc c) pre (r ∷ rs) list answers all g (λ m l. short)))
+
+  good-start : Good [] start []
+  good-start = record { plain = refl; sorted = start-good; counted = refl; exact = λ k a f. absurd (none-some a f); passed = λ m r l f. absurd (omega arith) }
+
+  by-length : (b : Bool) → (T b → length job ≤ max-job) → (x y : Outcome) → (length job ≤ max-job → Ran x) → Ran y
+      → Ran (elim b as (λ z. Outcome) [ true ↦ x | false ↦ y ])
+  by-length true f x y p q = p (f tt)
+  by-length false f x y p q = q
+
+  pub ran : Ran (run job work space)
+  unfolding run
+  ran =
+      by-length (leb (length job) max-job) (leb→le (length job) max-job) (run-from work space (ending job) 0 start [] (records-of job)) (outcome 2 0 [] start)
+      (λ s. runs (ending job) s (records-of job) [] start [] 0 refl refl good-start)
+      (stopped 2 [] (records-of job) start [] refl good-start (λ m l. absurd (omega arith)))

@@ -1,0 +1,46 @@
+-- Document 01, "Codes": what stops the job. Codes 3 to 9, 18 and 19, in their order; code 2 and the ending's 3 are in Job.
+use mathlib.Core.Bool.{Bool, true, false, _&&_, _||_, cond}
+use mathlib.Core.List.{List, [], _∷_}
+use mathlib.Core.Option.{Option}
+use Prim.Native.Nat.{ℕ, suc, _-_, _*_}
+use lib.Dec.{leb, ltb}
+use lib.ListN.{length}
+use Rattle.theory.specs.Limit.{max-terms, first-terms, term-bytes, answer-bytes}
+use Rattle.theory.specs.Term.{Term}
+use Rattle.theory.specs.Sort.{good, sort-of}
+use Rattle.theory.specs.Optional.{is-some, either}
+use Rattle.theory.specs.RuleTable.{rule-at}
+use Rattle.theory.specs.Record.{Bytes, Item, term, step, back, unknown, misfit, read}
+use Rattle.theory.specs.Plain.{Plain, term-of, has}
+
+-- tests in their order, each with the code where it fails
+abbrev pub first-fault : List (Bool × ℕ) → ℕ
+first-fault [] = 0
+first-fault (t ∷ ts) = cond (t .0) (first-fault ts) (t .1)
+
+-- each number is below n
+abbrev pub all-below : ℕ → List ℕ → Bool
+all-below n [] = true
+all-below n (k ∷ ks) = ltb k n && all-below n ks
+
+-- sorts, widths, indices and values fit
+abbrev pub well-sorted : Option Term → Bool
+well-sorted = either false (λ t. good (sort-of t))
+
+-- one more term has 8 bytes of work memory and a number; `true` and `false` are free
+abbrev pub room : ℕ → Plain → Bool
+room work list = leb (term-bytes * (suc (length list) - first-terms)) work && ltb (length list) max-terms
+
+-- the tests of a record; `work` and `space` are the lent bytes, `answered` the answers written so far
+abbrev pub tests : ℕ → ℕ → Plain → ℕ → Bytes → Item → List (Bool × ℕ)
+tests work space list answered r unknown = (false, 4) ∷ []
+tests work space list answered r misfit = (false, 5) ∷ []
+tests work space list answered r (term o ks) =
+    (all-below (length list) ks, 6) ∷ (well-sorted (term-of list o ks), 7) ∷ (has list r || room work list, 8) ∷ []
+tests work space list answered r (step n ks) =
+    (all-below (length list) ks, 6) ∷ (is-some (rule-at n), 9) ∷ (leb (answer-bytes * suc answered) space, 19) ∷ []
+tests work space list answered r (back n) = (leb first-terms n && leb n (length list), 18) ∷ []
+
+-- the code that stops the job at record r, or 0
+unfoldable pub fault : ℕ → ℕ → Plain → ℕ → Bytes → ℕ
+fault work space list answered r = first-fault (tests work space list answered r (read r))

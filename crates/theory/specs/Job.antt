@@ -1,0 +1,136 @@
+-- Document 01, "The job" and "Codes": the run of a job; what it returns, and what it leaves in the lent memory.
+use mathlib.Core.Bool.{true, false, cond}
+use mathlib.Core.List.{List, [], _∷_, _++_}
+use mathlib.Core.Option.{Option, none, some}
+use Prim.Native.Nat.{ℕ, zero, suc, _-_, _/_, _%_}
+use lib.Dec.{leb}
+use lib.ListN.{length, drop, getElem?, replicate}
+use Rattle.theory.specs.Limit.{max-job, number-bytes, answer-bytes}
+use Rattle.theory.specs.Term.{Term, node, to-list}
+use Rattle.theory.specs.Depth.{depth}
+use Rattle.theory.specs.Optional.{either}
+use Rattle.theory.specs.RuleTable.{Rule, rule-at}
+use Rattle.theory.specs.Rule.{verdict}
+use Rattle.theory.specs.Record.{Bytes, records-of, ending, Item, term, step, back, unknown, misfit, read}
+use Rattle.theory.specs.Plain.{Plain, start, feed, at-places}
+use Rattle.theory.specs.Codes.{fault}
+
+-- ---- a step's answer: rule, code, depth
+pub record Answer : Type 0 where
+  pub rule : ℕ
+  pub code : ℕ
+  pub depth : ℕ
+
+-- the depth of the right side; 0 where there is none
+abbrev pub right-depth : Term → ℕ
+right-depth (node o ts) = either 0 depth (getElem? (to-list ts) 1)
+
+-- accepted are codes 0 and 1: the answer then has the right side's depth, else 0
+abbrev pub judged : ℕ → ℕ → Term → Answer
+judged n code literal = record { rule = n; code = code; depth = cond (leb code 1) (right-depth literal) 0 }
+
+-- the clause is not of one literal
+abbrev pub no-single-literal : ℕ → Answer
+no-single-literal n = record { rule = n; code = 10; depth = 0 }
+
+-- the answer of rule n to a clause
+abbrev pub answer-to : ℕ → Rule → List Term → Answer
+answer-to n rule [] = no-single-literal n
+answer-to n rule (t ∷ []) = judged n (verdict rule t) t
+answer-to n rule (t ∷ u ∷ us) = no-single-literal n
+
+-- one answer, where the rule and the literals are there
+abbrev pub reply : ℕ → Option Rule → Option (List Term) → List Answer
+reply n none q = []
+reply n (some rule) none = []
+reply n (some rule) (some literals) = answer-to n rule literals ∷ []
+
+-- a step is answered from the plain list just then; no other record has an answer
+abbrev pub item-answers : Plain → Item → List Answer
+item-answers list (step n ks) = reply n (rule-at n) (at-places list ks)
+item-answers list (term o ks) = []
+item-answers list (back n) = []
+item-answers list unknown = []
+item-answers list misfit = []
+
+unfoldable pub answers-to : Plain → Bytes → List Answer
+answers-to list r = item-answers list (read r)
+
+-- ---- the run: stop code, records done (the stopping one not counted), answers, terms kept
+pub record Outcome : Type 0 where
+  pub stop : ℕ
+  pub records : ℕ
+  pub answers : List Answer
+  pub terms : ℕ
+
+-- the outcome where the run ends
+abbrev pub outcome : ℕ → ℕ → List Answer → Plain → Outcome
+outcome stop done answers list = record { stop = stop; records = done; answers = answers; terms = length list }
+
+-- from `done` records on; `end` is the code where no record is left
+unfoldable pub run-from : ℕ → ℕ → ℕ → ℕ → Plain → List Answer → List Bytes → Outcome
+run-from work space end done list answers [] = outcome end done answers list
+run-from work space end done list answers (r ∷ rs) =
+    elim (fault work space list (length answers) r) [
+      | zero ↦ run-from work space end (suc done) (feed list r) (answers ++ answers-to list r) rs
+      | suc code ↦ outcome (suc code) done answers list
+    ]
+
+-- of work memory and answers a run takes their lengths alone
+unfoldable pub run : Bytes → ℕ → ℕ → Outcome
+run job work space =
+    elim (leb (length job) max-job) [
+      | true ↦ run-from work space (ending job) 0 start [] (records-of job)
+      | false ↦ outcome 2 0 [] start
+    ]
+
+-- ---- the lent memory after a call
+-- k bytes of n, little-endian
+abbrev pub bytes-of : ℕ → ℕ → Bytes
+bytes-of zero n = []
+bytes-of (suc k) n = n % 256 ∷ bytes-of k (n / 256)
+
+-- a number of two bytes
+abbrev pub word-bytes : ℕ → Bytes
+word-bytes = bytes-of number-bytes
+
+abbrev pub answer-kind : ℕ
+answer-kind = 200
+
+-- length 8, kind 200, rule, code, depth
+abbrev pub encode-answer : Answer → Bytes
+encode-answer a =
+    word-bytes (answer-bytes - number-bytes) ++ word-bytes answer-kind ++ word-bytes (a .rule) ++ word-bytes (a .code) ++ word-bytes (a .depth)
+
+-- one after the other
+abbrev pub encode-answers : List Answer → Bytes
+encode-answers [] = []
+encode-answers (a ∷ rest) = encode-answer a ++ encode-answers rest
+
+-- the answers, then what the memory held before
+abbrev pub answers-after : List Answer → Bytes → Bytes
+answers-after answers old = let bs = encode-answers answers in bs ++ drop (length bs) old
+
+-- all zero
+abbrev pub work-after : Bytes → Bytes
+work-after old = replicate (length old) 0
+
+-- ---- a call: the four numbers that it returns, and the two memories
+pub record Returned : Type 0 where
+  pub stop : ℕ
+  pub records : ℕ
+  pub answers : ℕ
+  pub terms : ℕ
+
+abbrev pub returned : Outcome → Returned
+returned o = record { stop = o .stop; records = o .records; answers = length (o .answers); terms = o .terms }
+
+pub record Call : Type 0 where
+  pub result : Returned
+  pub work-memory : Bytes
+  pub answer-memory : Bytes
+
+abbrev pub call : Bytes → Bytes → Bytes → Call
+call job work answers =
+    let o = run job (length work) (length answers) in
+    record { result = returned o; work-memory = work-after work; answer-memory = answers-after (o .answers) answers }

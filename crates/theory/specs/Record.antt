@@ -1,0 +1,156 @@
+-- Document 01, "The job": a job's bytes cut into records, and what a record says.
+-- A record is a two-byte length L and L bytes: a two-byte kind and a body.
+use mathlib.Core.Bool.{Bool, true, false, _&&_, cond}
+use mathlib.Core.List.{List, [], _∷_}
+use mathlib.Core.Option.{Option, none, some}
+use Prim.Native.Nat.{ℕ, zero, suc, _+_, _-_, _*_, _/_, _%_}
+use lib.Dec.{leb, eqb}
+use lib.ListN.{length, take, drop}
+use Rattle.theory.specs.Limit.{max-arguments, number-bytes, value-bytes}
+use Rattle.theory.specs.Kind.{Op, Not, And, Or, Xor, Equals, Ite, BoolVar, BvVar, Const, BvBitOf, BvBbTerm, BvNot, BvNeg, BvAnd, BvOr, BvXor, BvAdd, BvMul, BvXNor, BvComp, BvULt, BvSLt, BvShl, BvLShr, BvAShr, BvUDiv, BvURem, BvConcat, BvExtract, SignExtend, kind, arity, takes}
+
+-- bytes; a record too is its bytes
+abbrev pub Bytes : Type 0
+Bytes = List ℕ
+
+-- ---- numbers, little-endian
+abbrev pub little-endian : Bytes → ℕ
+little-endian [] = 0
+little-endian (b ∷ bs) = b + 256 * little-endian bs
+
+-- the two-byte number at the start
+abbrev pub word : Bytes → ℕ
+word bs = little-endian (take number-bytes bs)
+
+-- k such numbers in a row
+abbrev pub words : ℕ → Bytes → List ℕ
+words zero bs = []
+words (suc k) bs = word bs ∷ words k (drop number-bytes bs)
+
+-- ---- the job cut into records
+-- the bytes of a record whose length stands at the start
+abbrev pub extent : Bytes → ℕ
+extent bs = number-bytes + word bs
+
+-- a whole record stands at the start: not just 1 byte left, L not below 2, L not beyond the end
+abbrev pub whole : Bytes → Bool
+whole bs = leb number-bytes (length bs) && (leb number-bytes (word bs) && leb (extent bs) (length bs))
+
+-- the records, up to where no whole record stands; fuel is as many bytes
+unfoldable pub cut : ℕ → Bytes → List Bytes
+cut zero bs = []
+cut (suc fuel) bs = elim (whole bs) [ true ↦ take (extent bs) bs ∷ cut fuel (drop (extent bs) bs) | false ↦ [] ]
+
+-- the records of a job
+abbrev pub records-of : Bytes → List Bytes
+records-of job = cut (length job) job
+
+-- their bytes
+abbrev pub total-length : List Bytes → ℕ
+total-length [] = 0
+total-length (r ∷ rs) = length r + total-length rs
+
+-- 0 where the records are the whole job, 3 where bytes are left
+abbrev pub ending : Bytes → ℕ
+ending job = cond (eqb (total-length (records-of job)) (length job)) 0 3
+
+-- ---- a record's parts
+-- the kind, after the length
+abbrev pub kind-of : Bytes → ℕ
+kind-of r = word (drop number-bytes r)
+
+-- the body, after the kind
+abbrev pub body-of : Bytes → Bytes
+body-of r = drop (number-bytes + number-bytes) r
+
+-- the body is n bytes and then arguments of two bytes, in a number that is allowed
+abbrev pub fits : ℕ → (ℕ → Bool) → Bytes → Bool
+fits n allowed body =
+    leb n (length body) && (eqb ((length body - n) % number-bytes) 0 && allowed ((length body - n) / number-bytes))
+
+-- the arguments after the first n bytes
+abbrev pub arguments : ℕ → Bytes → List ℕ
+arguments n body = words ((length body - n) / number-bytes) (drop n body)
+
+-- ---- the kinds of a term, by the numbers that stand before the arguments: none, one, two, or a width and an eight-byte value
+pub data Shape : Type 0 where
+  plain : Op → Shape
+  indexed : (ℕ → Op) → Shape
+  twice-indexed valued : (ℕ → ℕ → Op) → Shape
+
+-- the bytes of these numbers
+abbrev pub front : Shape → ℕ
+front (plain o) = 0
+front (indexed f) = number-bytes
+front (twice-indexed f) = number-bytes + number-bytes
+front (valued f) = number-bytes + value-bytes
+
+-- the kind that they make at the start of a body
+abbrev pub make : Shape → Bytes → Op
+make (plain o) body = o
+make (indexed f) body = f (word body)
+make (twice-indexed f) body = f (word body) (word (drop number-bytes body))
+make (valued f) body = f (word body) (little-endian (take value-bytes (drop number-bytes body)))
+
+-- every kind that a record can have
+abbrev pub shapes : List Shape
+shapes =
+    indexed BoolVar ∷ twice-indexed BvVar ∷ valued Const
+    ∷ plain Not ∷ plain And ∷ plain Or ∷ plain Xor ∷ plain Equals ∷ plain Ite
+    ∷ indexed BvBitOf ∷ plain BvBbTerm
+    ∷ plain BvNot ∷ plain BvNeg ∷ plain BvAnd ∷ plain BvOr ∷ plain BvXor ∷ plain BvAdd ∷ plain BvMul
+    ∷ plain BvXNor ∷ plain BvComp ∷ plain BvULt ∷ plain BvSLt ∷ plain BvShl ∷ plain BvLShr ∷ plain BvAShr ∷ plain BvUDiv ∷ plain BvURem
+    ∷ plain BvConcat ∷ twice-indexed BvExtract ∷ indexed SignExtend ∷ []
+
+-- the first of these with the number k
+abbrev pub find-shape : ℕ → List Shape → Option Shape
+find-shape k [] = none
+find-shape k (s ∷ ss) = cond (eqb (kind (make s [])) k) (some s) (find-shape k ss)
+
+-- the shape of kind k
+unfoldable pub shape-of : ℕ → Option Shape
+shape-of k = find-shape k shapes
+
+-- ---- what a record says
+-- a term's kind and arguments; a step's rule and literals; a back's count; a kind that is unknown; a body that has not the kind's length
+pub data Item : Type 0 where
+  term : Op → List ℕ → Item
+  step : ℕ → List ℕ → Item
+  back : ℕ → Item
+  unknown misfit : Item
+
+abbrev pub step-kind : ℕ
+step-kind = 100
+
+abbrev pub back-kind : ℕ
+back-kind = 101
+
+abbrev pub read-term : Option Shape → Bytes → Item
+read-term none body = unknown
+read-term (some s) body =
+    cond (fits (front s) (takes (arity (make s body))) body) (term (make s body) (arguments (front s) body)) misfit
+
+abbrev pub read-step : Bytes → Item
+read-step body = cond (fits number-bytes (λ n. leb n max-arguments) body) (step (word body) (arguments number-bytes body)) misfit
+
+abbrev pub read-back : Bytes → Item
+read-back body = cond (eqb (length body) number-bytes) (back (word body)) misfit
+
+unfoldable pub read : Bytes → Item
+read r =
+    cond (eqb (kind-of r) step-kind) (read-step (body-of r))
+    (cond (eqb (kind-of r) back-kind) (read-back (body-of r))
+    (read-term (shape-of (kind-of r)) (body-of r)))
+
+-- it is a step
+abbrev pub is-step : Item → Bool
+is-step (term o ks) = false
+is-step (step n ks) = true
+is-step (back n) = false
+is-step unknown = false
+is-step misfit = false
+
+-- how many of the records are steps
+abbrev pub step-count : List Bytes → ℕ
+step-count [] = 0
+step-count (r ∷ rs) = cond (is-step (read r)) (suc (step-count rs)) (step-count rs)
