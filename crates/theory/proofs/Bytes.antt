@@ -93,14 +93,25 @@ AllLawful (twice-indexed f ∷ ss) = Lawful2 f × AllLawful ss
 AllLawful (valued f ∷ ss) = Lawful2 f × AllLawful ss
 
 shapes-lawful : AllLawful shapes
-shapes-lawful =
-    ((λ m. refl, λ m n e. cc),
-    ((λ m n. refl, λ m n p q e. (cc, cc)),
-    ((λ m n. refl, λ m n p q e. (cc, cc)),
-    ((λ m. refl, λ m n e. cc),
-    ((λ m n. refl, λ m n p q e. (cc, cc)),
-    ((λ m. refl, λ m n e. cc),
-    tt))))))
+shapes-lawful = (
+  (λ m. refl, λ m n e. cc),
+  (
+    (λ m n. refl, λ m n p q e. (cc, cc)),
+    (
+      (λ m n. refl, λ m n p q e. (cc, cc)),
+      (
+        (λ m. refl, λ m n e. cc),
+        (
+          (λ m n. refl, λ m n p q e. (cc, cc)),
+          (
+            (λ m. refl, λ m n e. cc),
+            tt,
+          ),
+        ),
+      ),
+    ),
+  ),
+)
 
 lawful-split : (t : Shape) (ss : List Shape) → AllLawful (t ∷ ss) → Lawful t × AllLawful ss
 lawful-split (plain o) ss h = (tt, h)

@@ -3,25 +3,25 @@ use mathlib.Core.Path.{_≡_, refl, sym, ap, subst, _∙_}
 use mathlib.Core.Bool.{true}
 use mathlib.Core.List.{List, [], _∷_, map}
 use mathlib.Core.Option.{some}
-use Prim.Native.Nat.{ℕ, suc, _<_, _≤_}
+use Prim.Native.Nat.{ℕ, _<_}
 use native.Mathlib.Omega.{arith}
 use lib.Dec.{T, ltb, ltb→lt}
 use lib.Ieee.Fits.{and-l}
-use lib.ListN.{length, take, getElem?}
+use lib.ListN.{length, getElem?}
 use Rattle.theory.specs.Kind.{Equals}
 use Rattle.theory.specs.Term.{Term, two}
 use Rattle.theory.specs.Value.{Assign, truth, value}
 use Rattle.theory.specs.RuleTable.{Rule}
 use Rattle.theory.specs.Rule.{verdict}
-use Rattle.theory.specs.Record.{Bytes, records-of, step, read, step-count}
-use Rattle.theory.specs.Plain.{Plain, plain-after, at-place}
+use Rattle.theory.specs.Record.{Bytes, records-of, step}
+use Rattle.theory.specs.Plain.{Plain, plain-after}
 use Rattle.theory.specs.Codes.{all-below}
 use Rattle.theory.specs.Job.{Answer, answer-to, run}
 use Rattle.theory.specs.Demand.{Reached, Held, Answers, Demand3}
 use Rattle.theory.proofs.Rules.{literal-holds}
 use Rattle.theory.proofs.Verdict.{verdict-holds}
 use Rattle.theory.proofs.Places.{tree-at, at-place-is}
-use Rattle.theory.proofs.Run.{AllGood, good-at, Answered, Ran, ran}
+use Rattle.theory.proofs.Run.{AllGood, good-at, Answered, ran}
 
 below-one : (n p : ℕ) (ks : List ℕ) → ks ≡ p ∷ [] → T (all-below n ks) → p < n
 below-one n p ks e h = ltb→lt p n (and-l (ltb p n) _ (subst (λ (js : List ℕ). T (all-below n js)) e h))

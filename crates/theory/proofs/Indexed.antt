@@ -1,17 +1,115 @@
--- Adder, ult and shifter bit by bit, as the loops of bitvectors.rs write them: bit i of each, and what one more bit changes.
+-- Circuits bit by bit: lists as the bits 0 to n - 1, what the adder and the comparisons make of such lists, and the stages of the shifter.
 use mathlib.Core.Path.{_≡_, refl, sym, ap, _∙_}
-use mathlib.Core.List.{List, [], _∷_, _++_}
+use mathlib.Core.Bool.{Bool, true, false, cond}
+use mathlib.Core.List.{List, [], _∷_, _++_, map}
 use Prim.Native.Nat.{ℕ, zero, suc, _+_, _-_, _^_, _≤_, _<_}
 use native.Mathlib.Omega.{arith}
-use native.Mathlib.Nat.{add-zero, add-suc, suc-add}
+use native.Mathlib.Decide.{decLe}
+use native.Mathlib.Nat.{add-zero, add-suc, suc-add, le-of-suc-le-suc, not-suc-le-zero}
 use lib.ListN.{length, take, drop, replicate, getD, length-replicate, length-append, length-drop, getD-replicate, List·getD-append}
-use lib.Seq.{getD-append-add, getD-drop, take-suc, length-take-le}
+use lib.Dec.{ltb}
+use borrow.Author.Tests.{lt-ltb, le-ltb}
+use lib.Seq.{getD-append-add, getD-drop, take-suc, length-take-le, ext-getD}
 use Rattle.theory.specs.Gates.{Gates}
-use Rattle.theory.specs.Circuit.{ripple-carry-adder, next-carry, last-carry, bitblast-ult, ult-from, shl-bits, shl-stage, shl-stages, shr-bits, shr-stage, shr-stages}
-use Rattle.theory.proofs.Natural.{carry-out}
+use Rattle.theory.specs.Circuit.{zip-with, ripple-carry-adder, sum-bit, next-carry, last-carry, less-step, sign-step, ult-from, slt-from, shl-bits, shl-stage, shl-stages, shr-bits, shr-stage, shr-stages}
+use Rattle.theory.specs.Alethe.{bits, bit-of}
 
+-- a choice whose test is known
+pub cond-true : {A : Type 0} {b : Bool} (x y : A) → b ≡ true → cond b x y ≡ x
+cond-true x y e = rw e
+
+pub cond-false : {A : Type 0} {b : Bool} (x y : A) → b ≡ false → cond b x y ≡ y
+cond-false x y e = rw e
+
+-- ---- lists as bits
+module _ {A : Type 0} where
+  pub length-bits : (n : ℕ) (f : ℕ → A) → length (bits n f) ≡ n
+  length-bits zero f = refl
+  length-bits (suc n) f = ap suc (length-bits n (λ i. f (suc i)))
+
+  pub getD-bits : (n : ℕ) (f : ℕ → A) (d : A) (i : ℕ) → i < n → getD (bits n f) i d ≡ f i
+  getD-bits zero f d i h = absurd (not-suc-le-zero h)
+  getD-bits (suc n) f d zero h = refl
+  getD-bits (suc n) f d (suc i) h = getD-bits n (λ k. f (suc k)) d i (le-of-suc-le-suc h)
+
+  -- a list, by what stands at each of its places
+  pub bits-by : {n : ℕ} (d : A) (l : List A) (f : ℕ → A) → length l ≡ n → ((i : ℕ) → i < n → getD l i d ≡ f i) → l ≡ bits n f
+  bits-by {n} d l f e h =
+      ext-getD d l (bits n f) (e ∙ sym (length-bits n f)) (λ i k. h i (omega arith) ∙ sym (getD-bits n f d i (omega arith)))
+
+  -- a list is the list of its bits
+  pub listed : {n : ℕ} (d : A) (l : List A) → length l ≡ n → l ≡ bits n (bit-of d l)
+  listed d l e = bits-by d l (bit-of d l) e (λ i h. refl)
+
+  pub map-bits : {B : Type 0} (g : A → B) (n : ℕ) (f : ℕ → A) → map g (bits n f) ≡ bits n (λ i. g (f i))
+  map-bits g zero f = refl
+  map-bits {B} g (suc n) f = ap (λ (zs : List B). g (f 0) ∷ zs) (map-bits g n (λ i. f (suc i)))
+
+  pub zip-bits : (gate : A → A → A) (n : ℕ) (x y : ℕ → A) → zip-with gate (bits n x) (bits n y) ≡ bits n (λ i. gate (x i) (y i))
+  unfolding zip-with
+  zip-bits gate zero x y = refl
+  zip-bits gate (suc n) x y = ap (λ (zs : List A). gate (x 0) (y 0) ∷ zs) (zip-bits gate n (λ i. x (suc i)) (λ i. y (suc i)))
+
+  pub replicate-bits : (n : ℕ) (a : A) → replicate n a ≡ bits n (λ i. a)
+  replicate-bits zero a = refl
+  replicate-bits (suc n) a = ap (λ (zs : List A). a ∷ zs) (replicate-bits n a)
+
+  -- two lists, one above the other
+  pub append-bits : (d : A) (m n : ℕ) (x y : ℕ → A) → bits m x ++ bits n y ≡ bits (m + n) (λ k. cond (ltb k m) (x k) (y (k - m)))
+  append-bits d m n x y =
+      bits-by d (bits m x ++ bits n y) (λ k. cond (ltb k m) (x k) (y (k - m))) (simp (length-append, length-bits)) (λ k h. by k h (decLe (suc k) m))
+    where
+      by : (k : ℕ) → k < m + n → Dec (k < m) → getD (bits m x ++ bits n y) k d ≡ cond (ltb k m) (x k) (y (k - m))
+      by k h (yes g) = List·getD-append (bits m x) (bits n y) d k (omega (arith, length-bits m x)) ∙ getD-bits m x d k g ∙ sym (cond-true (x k) (y (k - m)) (lt-ltb k m g))
+      by k h (no g) =
+          ap (λ (i : ℕ). getD (bits m x ++ bits n y) i d) place
+          ∙ getD-append-add (bits m x) (bits n y) (k - m) d ∙ getD-bits n y d (k - m) (omega arith) ∙ sym (cond-false (x k) (y (k - m)) (le-ltb k m (omega arith)))
+        where
+          place : k ≡ length (bits m x) + (k - m)
+          place = omega (arith, length-bits m x)
+
+-- ---- circuits with something that goes from bit to bit: r i is what goes into bit i
+module _ {A : Type 0} (G : Gates A) where
+  -- the adder, cut to the shorter list; r are the carries
+  pub adder-bits : (n m : ℕ) (x y r : ℕ → A) → n ≤ m → ((i : ℕ) → r (suc i) ≡ next-carry G (x i) (y i) (r i))
+      → ripple-carry-adder G (r 0) (bits n x) (bits m y) ≡ bits n (λ i. sum-bit G (x i) (y i) (r i))
+  unfolding ripple-carry-adder
+  adder-bits zero m x y r h s = refl
+  adder-bits (suc n) zero x y r h s = absurd (not-suc-le-zero h)
+  adder-bits (suc n) (suc m) x y r h s =
+      ap (λ (zs : List A). sum-bit G (x 0) (y 0) (r 0) ∷ zs)
+      (ap (λ (c : A). ripple-carry-adder G c (bits n (λ i. x (suc i))) (bits m (λ i. y (suc i)))) (sym (s 0))
+      ∙ adder-bits n m (λ i. x (suc i)) (λ i. y (suc i)) (λ i. r (suc i)) (le-of-suc-le-suc h) (λ i. s (suc i)))
+
+  -- the last carry that the adder lists goes into the top bit
+  pub last-carry-bits : (n : ℕ) (x y r : ℕ → A) → ((i : ℕ) → r (suc i) ≡ next-carry G (x i) (y i) (r i))
+      → last-carry G (r 0) (bits (suc n) x) (bits (suc n) y) ≡ r n
+  unfolding last-carry
+  last-carry-bits zero x y r s = refl
+  last-carry-bits (suc n) x y r s =
+      ap (λ (c : A). last-carry G c (bits (suc n) (λ i. x (suc i))) (bits (suc n) (λ i. y (suc i)))) (sym (s 0))
+      ∙ last-carry-bits n (λ i. x (suc i)) (λ i. y (suc i)) (λ i. r (suc i)) (λ i. s (suc i))
+
+  -- ult: r i is what the bits below bit i say
+  pub ult-bits : (n : ℕ) (x y r : ℕ → A) → ((i : ℕ) → r (suc i) ≡ less-step G (x i) (y i) (r i)) → ult-from G (r 0) (bits n x) (bits n y) ≡ r n
+  unfolding ult-from
+  ult-bits zero x y r s = refl
+  ult-bits (suc n) x y r s =
+      ap (λ (c : A). ult-from G c (bits n (λ i. x (suc i))) (bits n (λ i. y (suc i)))) (sym (s 0))
+      ∙ ult-bits n (λ i. x (suc i)) (λ i. y (suc i)) (λ i. r (suc i)) (λ i. s (suc i))
+
+  -- slt: the same, with another step at the top bit
+  pub slt-bits : (n : ℕ) (x y r : ℕ → A) → ((i : ℕ) → r (suc i) ≡ less-step G (x i) (y i) (r i))
+      → slt-from G (r 0) (bits (suc n) x) (bits (suc n) y) ≡ sign-step G (x n) (y n) (r n)
+  unfolding slt-from
+  slt-bits zero x y r s = refl
+  slt-bits (suc n) x y r s =
+      ap (λ (c : A). slt-from G c (bits (suc n) (λ i. x (suc i))) (bits (suc n) (λ i. y (suc i)))) (sym (s 0))
+      ∙ slt-bits n (λ i. x (suc i)) (λ i. y (suc i)) (λ i. r (suc i)) (λ i. s (suc i))
+
+-- ---- the shifter, stage by stage
 module _ {T : Type 0} (G : Gates T) (d : T) where
-  open Gates G using (true-gate, false-gate, not-gate, and-gate, or-gate, xor-gate, eq-gate, ite-gate)
+  open Gates G using (false-gate, not-gate, ite-gate)
 
   shl-bits-at : (y : T) (ps qs : List T) (i : ℕ) → i < length ps → i < length qs → getD (shl-bits G y ps qs) i d ≡ ite-gate y (getD qs i d) (getD ps i d)
   unfolding shl-bits
@@ -104,56 +202,3 @@ module _ {T : Type 0} (G : Gates T) (d : T) where
     where
       count : 0 + length (take i ys) ≡ i
       count = omega (arith, length-take-le i ys (omega arith))
-
-  -- ult, one more bit
-  abbrev pub ult-next : T → T → T → T
-  ult-next r x y = or-gate (and-gate (eq-gate x y) r) (and-gate (not-gate x) y)
-
-  ult-from-take : (r : T) (xs ys : List T) (i : ℕ) → i < length xs → i < length ys
-      → ult-from G r (take (suc i) xs) (take (suc i) ys) ≡ ult-next (ult-from G r (take i xs) (take i ys)) (getD xs i d) (getD ys i d)
-  unfolding ult-from
-  ult-from-take r [] ys i hx hy = absurd (omega arith)
-  ult-from-take r (x ∷ xs) [] i hx hy = absurd (omega arith)
-  ult-from-take r (x ∷ xs) (y ∷ ys) zero hx hy = refl
-  ult-from-take r (x ∷ xs) (y ∷ ys) (suc i) hx hy = ult-from-take (ult-next r x y) xs ys i (omega arith) (omega arith)
-
-  pub ult-take-one : (xs ys : List T) → 0 < length xs → 0 < length ys → bitblast-ult G (take 1 xs) (take 1 ys) ≡ and-gate (not-gate (getD xs 0 d)) (getD ys 0 d)
-  unfolding bitblast-ult ult-from
-  ult-take-one [] ys hx hy = absurd (omega arith)
-  ult-take-one (x ∷ xs) [] hx hy = absurd (omega arith)
-  ult-take-one (x ∷ xs) (y ∷ ys) hx hy = refl
-
-  pub ult-take : (xs ys : List T) (i : ℕ) → 0 < i → i < length xs → i < length ys
-      → bitblast-ult G (take (suc i) xs) (take (suc i) ys) ≡ ult-next (bitblast-ult G (take i xs) (take i ys)) (getD xs i d) (getD ys i d)
-  unfolding bitblast-ult
-  ult-take [] ys i hi hx hy = absurd (omega arith)
-  ult-take (x ∷ xs) [] i hi hx hy = absurd (omega arith)
-  ult-take (x ∷ xs) (y ∷ ys) zero hi hx hy = absurd (omega arith)
-  ult-take (x ∷ xs) (y ∷ ys) (suc i) hi hx hy = ult-from-take (and-gate (not-gate x) y) xs ys i (omega arith) (omega arith)
-
-  -- the adder, one more bit: the carry into bit i is the carry out of the i bits below
-  pub carry-take : (c : T) (xs ys : List T) (i : ℕ) → i < length xs → i < length ys
-      → carry-out G c (take (suc i) xs) (take (suc i) ys) ≡ next-carry G (getD xs i d) (getD ys i d) (carry-out G c (take i xs) (take i ys))
-  unfolding carry-out
-  carry-take c [] ys i hx hy = absurd (omega arith)
-  carry-take c (x ∷ xs) [] i hx hy = absurd (omega arith)
-  carry-take c (x ∷ xs) (y ∷ ys) zero hx hy = refl
-  carry-take c (x ∷ xs) (y ∷ ys) (suc i) hx hy = carry-take (next-carry G x y c) xs ys i (omega arith) (omega arith)
-
-  pub sum-at : (c : T) (xs ys : List T) (i : ℕ) → i < length xs → i < length ys
-      → getD (ripple-carry-adder G c xs ys) i d ≡ xor-gate (xor-gate (getD xs i d) (getD ys i d)) (carry-out G c (take i xs) (take i ys))
-  unfolding ripple-carry-adder carry-out
-  sum-at c [] ys i hx hy = absurd (omega arith)
-  sum-at c (x ∷ xs) [] i hx hy = absurd (omega arith)
-  sum-at c (x ∷ xs) (y ∷ ys) zero hx hy = refl
-  sum-at c (x ∷ xs) (y ∷ ys) (suc i) hx hy = sum-at (next-carry G x y c) xs ys i (omega arith) (omega arith)
-
-  -- the last listed carry goes into the top bit: it is the carry out of the bits below
-  pub last-carry-is : (c : T) (xs ys : List T) (n : ℕ) → length xs ≡ suc n → length ys ≡ suc n → last-carry G c xs ys ≡ carry-out G c (take n xs) (take n ys)
-  unfolding last-carry carry-out
-  last-carry-is c [] ys n e f = absurd (omega arith)
-  last-carry-is c (x ∷ []) ys zero e f = refl
-  last-carry-is c (x ∷ []) ys (suc n) e f = absurd (omega arith)
-  last-carry-is c (x ∷ x′ ∷ xs) [] n e f = absurd (omega arith)
-  last-carry-is c (x ∷ x′ ∷ xs) (y ∷ ys) zero e f = absurd (omega arith)
-  last-carry-is c (x ∷ x′ ∷ xs) (y ∷ ys) (suc n) e f = last-carry-is (next-carry G x y c) (x′ ∷ xs) ys n (omega arith) (omega arith)

@@ -8,8 +8,9 @@ pub mod Sorts
 pub mod Slices
 pub mod Same
 pub mod Multiplier
-pub mod Loops
 pub mod Indexed
+pub mod Loops
+pub mod Alethe
 pub mod Divider
 pub mod Shift
 pub mod Form
@@ -19,3 +20,5 @@ pub mod Bytes
 pub mod Places
 pub mod Run
 pub mod Demand
+pub mod Distinct
+pub mod Place

@@ -1,7 +1,7 @@
 -- What holds all through a run: the list is the plain list, every term on it has a sort, no record done has a fault, and each answer
 -- is the answer to its step.
 use mathlib.Core.Path.{_≡_, refl, sym, ap, ap₂, subst, subst₂, _∙_}
-use mathlib.Core.Bool.{Bool, true, false, _||_, cond}
+use mathlib.Core.Bool.{Bool, true, false, _||_, _&&_, cond}
 use mathlib.Core.List.{List, [], _∷_, _++_, map, foldl, append-assoc, append-nil}
 use mathlib.Core.Option.{Option, none, some}
 use Prim.Native.Nat.{ℕ, zero, suc, _+_, _*_, _<_, _≤_}
@@ -10,9 +10,10 @@ use native.Mathlib.Numerals.{add-one}
 use native.Mathlib.Omega.{arith}
 use native.Mathlib.Decide.{ℕ-discrete}
 use lib.Dec.{T, leb, leb→le}
+use lib.Ieee.Fits.{and-l, and-r}
 use lib.ListN.{length, take, getElem?, length-append}
 use lib.Seq.{take-append-seam}
-use Rattle.theory.specs.Limit.{max-job, answer-bytes}
+use Rattle.theory.specs.Limit.{max-job, first-terms, answer-bytes}
 use Rattle.theory.specs.Kind.{Op}
 use Rattle.theory.specs.Term.{Term, fold}
 use Rattle.theory.specs.Sort.{guard, good, sort-of}
@@ -118,7 +119,7 @@ put-cases P list r t old new = go (has list r) new
 -- what a record without a fault makes of the list: a property that a new term and a shorter list keep
 pub fed : (P : Plain → Type 0) (work space : ℕ) (list : Plain) (answered : ℕ) (r : Bytes) → fault work space list answered r ≡ 0 → P list
     → ((o : Op) (ks : List ℕ) → read r ≡ term o ks → TermPassed work list r o ks → (T (has list r) → ⊥) → P (list ++ (entry (tree-of list o ks) r ∷ [])))
-    → ((n : ℕ) → P (take n list)) → P (feed list r)
+    → ((n : ℕ) → first-terms ≤ n → n ≤ length list → P (take n list)) → P (feed list r)
 unfolding feed fault
 fed P work space list answered r e old new shorter = go (read r) e refl
   where
@@ -128,14 +129,16 @@ fed P work space list answered r e old new shorter = go (read r) e refl
         subst (λ (q : Option Term). P (put list r q)) (sym (term-of-is list o ks (p .below)))
         (put-cases P list r (tree-of list o ks) old (new o ks d p))
     go (step n ks) f d = old
-    go (back n) f d = shorter n
+    go (back n) f d =
+        let t = taken (leb first-terms n && leb n (length list)) 17 0 f .0 in
+        shorter n (leb→le first-terms n (and-l (leb first-terms n) _ t)) (leb→le n (length list) (and-r (leb first-terms n) _ t))
     go unknown f d = old
     go misfit f d = old
 
 feed-good : (work space : ℕ) (list : Plain) (answered : ℕ) (r : Bytes) → fault work space list answered r ≡ 0 → AllGood list → AllGood (feed list r)
 feed-good work space list answered r e h =
     fed AllGood work space list answered r e h
-    (λ o ks d p n. good-snoc list (entry (tree-of list o ks) r) h (p .sorted)) (λ n. good-take n list h)
+    (λ o ks d p n. good-snoc list (entry (tree-of list o ks) r) h (p .sorted)) (λ n a b. good-take n list h)
 
 -- the answers to a record without a fault: one to a step, none to any other
 pub answers-cases : (P : List Answer → Type 0) (work space : ℕ) (list : Plain) (answered : ℕ) (r : Bytes) → fault work space list answered r ≡ 0

@@ -7,6 +7,7 @@ pub mod Depth
 pub mod Optional
 pub mod Gates
 pub mod Circuit
+pub mod Alethe
 pub mod Bits
 pub mod RuleTable
 pub mod Rule

@@ -64,7 +64,7 @@ abbrev pub specimens : List Specimen
 specimens =
     specimen 9 (1 ∷ []) (λ n. two BvSLt (x n) (y n)) (λ n. two And (bit-0 (x n)) (negation (bit-0 (y n)))) (answered 0 2 ∷ [])
     ∷ specimen 13 (1 ∷ []) (λ n. two Equals (x n) (y n)) (λ n. two Equals (bit-0 (x n)) (bit-0 (y n)))
-      (answered 0 1 ∷ instead (λ n. node And (cons (two Equals (bit-0 (x n)) (bit-0 (y n))) nil)) 16 ∷ [])
+    (answered 0 1 ∷ instead (λ n. node And (cons (two Equals (bit-0 (x n)) (bit-0 (y n))) nil)) 16 ∷ [])
     ∷ specimen 3 every-width (λ n. node BvAnd (cons (x n) nil)) x (answered 0 0 ∷ [])
     ∷ specimen 10 every-width (λ n. node BvAdd (cons (x n) nil)) (λ n. bb (get-term-bits (x n))) (answered 0 0 ∷ instead x 16 ∷ [])
     ∷ specimen 17 every-width (λ n. node (SignExtend 0) (cons (x n) nil)) x (answered 0 0 ∷ [])
