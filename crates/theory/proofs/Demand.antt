@@ -11,6 +11,7 @@ use lib.ListN.{length, getElem?}
 use Rattle.theory.specs.Kind.{Equals}
 use Rattle.theory.specs.Term.{Term, two}
 use Rattle.theory.specs.Value.{Assign, truth, value}
+use Rattle.theory.specs.Verdict.{held}
 use Rattle.theory.specs.RuleTable.{Rule}
 use Rattle.theory.specs.Rule.{verdict}
 use Rattle.theory.specs.Record.{Bytes, records-of, step}
@@ -19,6 +20,7 @@ use Rattle.theory.specs.Codes.{all-below}
 use Rattle.theory.specs.Job.{Answer, answer-to, run}
 use Rattle.theory.specs.Demand.{Reached, Held, Answers, Demand3}
 use Rattle.theory.proofs.Rules.{literal-holds}
+use Rattle.theory.proofs.Form.{code-held}
 use Rattle.theory.proofs.Verdict.{verdict-holds}
 use Rattle.theory.proofs.Places.{tree-at, at-place-is}
 use Rattle.theory.proofs.Run.{AllGood, good-at, Answered, ran}
@@ -28,9 +30,9 @@ below-one n p ks e h = ltb→lt p n (and-l (ltb p n) _ (subst (λ (js : List ℕ
 
 -- code 0: one literal, and the verdict on it
 one-held : (n : ℕ) (rule : Rule) (list : Plain) (ks : List ℕ) → answer-to n rule (map (tree-at list) ks) .code ≡ 0
-    → (p : ℕ) × (ks ≡ p ∷ []) × (verdict rule (tree-at list p) ≡ 0)
+    → (p : ℕ) × (ks ≡ p ∷ []) × (verdict rule (tree-at list p) ≡ held)
 one-held n rule list [] e = absurd (omega arith)
-one-held n rule list (p ∷ []) e = (p, refl, e)
+one-held n rule list (p ∷ []) e = (p, refl, code-held (verdict rule (tree-at list p)) e)
 one-held n rule list (p ∷ q ∷ ks) e = absurd (omega arith)
 
 pub answer-rule : (n : ℕ) (rule : Rule) (ts : List Term) → answer-to n rule ts .rule ≡ n

@@ -1,14 +1,13 @@
 -- In a job of bytes, the terms at two places of the plain list are different: a term has one number.
 use mathlib.Core.Path.{_≡_, refl, sym, ap, ap₂, subst, _∙_}
-use mathlib.Core.List.{List, [], _∷_, _++_, map, foldl}
+use mathlib.Core.List.{List, [], _∷_, _++_, map}
 use mathlib.Core.Option.{some}
 use Prim.Native.Nat.{ℕ, zero, suc, _<_, _≤_}
 use native.Mathlib.Omega.{arith}
 use native.Mathlib.Decide.{ℕ-discrete}
 use lib.Dec.{T, ltb, ltb→lt}
 use lib.Ieee.Fits.{and-l, and-r}
-use lib.ListN.{length, take, drop, getD, getElem?, take-append-drop}
-use lib.Seq.{take-suc}
+use lib.ListN.{length, take, drop, getElem?, take-append-drop}
 use Rattle.theory.specs.Limit.{first-terms}
 use Rattle.theory.specs.Kind.{Op, True, False, kind}
 use Rattle.theory.specs.Term.{Term, node, nil, to-list, from-list, same-numbers}
@@ -16,12 +15,12 @@ use Rattle.theory.specs.Record.{Bytes, records-of, term, read, step-coun
 use Rattle.theory.specs.Plain.{Entry, entry, Plain, start, has, feed, plain-after}
 use Rattle.theory.specs.Codes.{all-below, fault}
 use Rattle.theory.specs.Job.{run}
-use Rattle.theory.proofs.Basics.{none-some, some-inj, or-left, or-right, foldl-append, getElem-of, getElem-lt, getElem-old, getElem-take, take-getElem, snoc-elim}
+use Rattle.theory.proofs.Basics.{none-some, some-inj, or-left, or-right, getElem-of, getElem-lt, getElem-old, getElem-take, take-getElem, snoc-elim}
 use Rattle.theory.proofs.Blast.{to-from-list}
 use Rattle.theory.proofs.Same.{same-numbers-refl}
 use Rattle.theory.proofs.Bytes.{AllBytes, Sound, same-record, record-sound, not-constant}
 use Rattle.theory.proofs.Places.{entry-at, tree-at, tree-of, trees-old, more-below}
-use Rattle.theory.proofs.Run.{fed, ran}
+use Rattle.theory.proofs.Run.{fed, plain-ind, plain-next}
 
 has-at : (list : Plain) (j : ℕ) (e : Entry) (r : Bytes) → getElem? list j ≡ some e → e .bytes ≡ r → T (has list r)
 has-at [] j e r f g = absurd (none-some e f)
@@ -106,17 +105,10 @@ feed-well work space list answered r e s w =
 module _ (job : Bytes) (bytes : AllBytes job) (work space : ℕ) where
   -- after m records done the list is well kept
   pub plain-well : (m : ℕ) → m ≤ run job work space .records → WellKept (plain-after m job)
-  plain-well zero l = start-well
-  plain-well (suc m) l =
-      let h = ran job work space in
-      let w = h .within in
-      let s = getD (records-of job) m [] in
-      let f : getElem? (records-of job) m ≡ some s = getElem-of (records-of job) m [] (omega arith) in
-      let e : plain-after (suc m) job ≡ feed (plain-after m job) s
-      = ap (foldl feed start) (take-suc (records-of job) m [] (omega arith)) ∙ foldl-append feed start (take m (records-of job)) (s ∷ []) in
-      subst WellKept (sym e)
-      (feed-well work space (plain-after m job) (step-count (take m (records-of job))) s (h .all-passed m s (omega arith) f) (record-sound job bytes m s f)
-      (plain-well m (omega arith)))
+  plain-well =
+      plain-ind job work space (λ m. WellKept (plain-after m job)) start-well
+      (λ m r l e p w. subst WellKept (sym (plain-next job work space m r e))
+      (feed-well work space (plain-after m job) (step-count (take m (records-of job))) r p (record-sound job bytes m r e) w))
 
 -- ---- the terms of a well-kept list
 module _ (list : Plain) (w : WellKept list) where

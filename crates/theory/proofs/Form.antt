@@ -1,6 +1,6 @@
 -- What a code 0 says of the literal's form.
 use mathlib.Core.Path.{_≡_, refl, sym, ap, ap₂, subst, _∙_}
-use mathlib.Core.Bool.{Bool, true, false, cond}
+use mathlib.Core.Bool.{not, Bool, true, false, cond}
 use mathlib.Core.List.{List, [], _∷_, map}
 use mathlib.Core.Option.{Option, none, some}
 use Prim.Native.Nat.{ℕ}
@@ -8,18 +8,48 @@ use native.Mathlib.Omega.{arith}
 use lib.Dec.{T, eqb, eqb→eq}
 use Rattle.theory.specs.Kind.{Op, True, False, kind, indices}
 use Rattle.theory.specs.Term.{Term, node, nil, cons, to-list, from-list, same-term}
+use Rattle.theory.specs.Verdict.{Verdict, held, form-only, not-one-literal, wrong-form, not-bit-vector, not-constant, bit-not-literal, other-value, terms-differ, index-not-next, code-of}
 use Rattle.theory.specs.Rule.{args-of, one-of, two-of, form, unary, binary, compare, literal-bit, literal-bits}
-use Rattle.theory.proofs.Basics.{none-some, some-inj, taken, cons-some-is}
+use Rattle.theory.proofs.Basics.{none-some, some-inj, cons-some-is}
 use Rattle.theory.proofs.Blast.{from-to-list}
 use Rattle.theory.proofs.Slices.{literal}
 use Rattle.theory.proofs.Same.{decode, decode-kind, same-eq}
 
-pub form-held : {A : Type 0} (p : Option A) (f : A → ℕ) → form p f ≡ 0 → (a : A) × (p ≡ some a) × (f a ≡ 0)
-form-held none f e = absurd (omega arith)
+-- a verdict other than held
+abbrev pub refusal : Verdict → Bool
+refusal v = not (eqb (code-of v) 0)
+
+pub not-held : (v : Verdict) → T (refusal v) → v ≡ held → ⊥
+not-held v r e = subst (λ (w : Verdict). T (refusal w)) e r
+
+pub form-held : {A : Type 0} (p : Option A) (f : A → Verdict) → form p f ≡ held → (a : A) × (p ≡ some a) × (f a ≡ held)
+form-held none f e = absurd (not-held wrong-form tt e)
 form-held (some a) f e = (a, refl, e)
 
-pub same-of : (e c : Term) → compare 0 e c ≡ 0 → e ≡ c
-same-of e c h = same-eq e c (taken (same-term e c) 15 0 h .0)
+-- code 0 is held alone
+pub code-held : (v : Verdict) → code-of v ≡ 0 → v ≡ held
+code-held held e = refl
+code-held form-only e = absurd (omega arith)
+code-held not-one-literal e = absurd (omega arith)
+code-held wrong-form e = absurd (omega arith)
+code-held not-bit-vector e = absurd (omega arith)
+code-held not-constant e = absurd (omega arith)
+code-held bit-not-literal e = absurd (omega arith)
+code-held other-value e = absurd (omega arith)
+code-held terms-differ e = absurd (omega arith)
+code-held index-not-next e = absurd (omega arith)
+
+-- the test passed, and what comes after it is held
+pub then-held : (b : Bool) (v w : Verdict) → T (refusal v) → cond b w v ≡ held → T b × (w ≡ held)
+then-held true v w r e = (tt, e)
+then-held false v w r e = absurd (not-held v r e)
+
+pub else-held : (b : Bool) (v w : Verdict) → T (refusal v) → cond (not b) v w ≡ held → T b × (w ≡ held)
+else-held true v w r e = (tt, e)
+else-held false v w r e = absurd (not-held v r e)
+
+pub same-of : (e c : Term) → compare held e c ≡ held → e ≡ c
+same-of e c h = same-eq e c (then-held (same-term e c) terms-differ held tt h .0)
 
 -- ---- a term of kind k
 kind-is : (o : Op) (k : ℕ) → kind o ≡ k → o ≡ decode k (indices o)
@@ -45,13 +75,13 @@ two-held (x ∷ []) p e = absurd (none-some p e)
 two-held (x ∷ y ∷ []) p e = ap (λ (q : Term × Term). q .0 ∷ q .1 ∷ []) (some-inj (x, y) p e)
 two-held (x ∷ y ∷ z ∷ zs) p e = absurd (none-some p e)
 
-pub record Unary (k : ℕ) (t : Term) (f : Term → ℕ) : Type 0 where
+pub record Unary (k : ℕ) (t : Term) (f : Term → Verdict) : Type 0 where
   pub one : Term
   pub numbers : List ℕ
   pub is : t ≡ node (decode k numbers) (cons one nil)
-  pub after : f one ≡ 0
+  pub after : f one ≡ held
 
-pub unary-held : (k : ℕ) (t : Term) (f : Term → ℕ) → unary k t f ≡ 0 → Unary k t f
+pub unary-held : (k : ℕ) (t : Term) (f : Term → Verdict) → unary k t f ≡ held → Unary k t f
 unary-held k t f e =
     let p = form-held (args-of k t) (λ ts. form (one-of ts) f) e in
     let q = form-held (one-of (p .0)) f (p .2) in
@@ -63,14 +93,14 @@ unary-held k t f e =
       after = q .2;
     }
 
-pub record Binary (k : ℕ) (t : Term) (f : Term → Term → ℕ) : Type 0 where
+pub record Binary (k : ℕ) (t : Term) (f : Term → Term → Verdict) : Type 0 where
   pub left : Term
   pub right : Term
   pub numbers : List ℕ
   pub is : t ≡ node (decode k numbers) (cons left (cons right nil))
-  pub after : f left right ≡ 0
+  pub after : f left right ≡ held
 
-pub binary-held : (k : ℕ) (t : Term) (f : Term → Term → ℕ) → binary k t f ≡ 0 → Binary k t f
+pub binary-held : (k : ℕ) (t : Term) (f : Term → Term → Verdict) → binary k t f ≡ held → Binary k t f
 binary-held k t f e =
     let p = form-held (args-of k t) (λ ts. form (two-of ts) (λ p. f (p .0) (p .1))) e in
     let q = form-held (two-of (p .0)) (λ p. f (p .0) (p .1)) (p .2) in
@@ -83,13 +113,13 @@ binary-held k t f e =
       after = q .2;
     }
 
-pub record Many (k : ℕ) (t : Term) (f : List Term → ℕ) : Type 0 where
+pub record Many (k : ℕ) (t : Term) (f : List Term → Verdict) : Type 0 where
   pub all : List Term
   pub numbers : List ℕ
   pub is : t ≡ node (decode k numbers) (from-list all)
-  pub after : f all ≡ 0
+  pub after : f all ≡ held
 
-pub many-held : (k : ℕ) (t : Term) (f : List Term → ℕ) → form (args-of k t) f ≡ 0 → Many k t f
+pub many-held : (k : ℕ) (t : Term) (f : List Term → Verdict) → form (args-of k t) f ≡ held → Many k t f
 many-held k t f e =
     let p = form-held (args-of k t) f e in
     let a = args-held k t (p .0) (p .1) in

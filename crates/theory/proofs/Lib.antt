@@ -22,3 +22,15 @@ pub mod Run
 pub mod Demand
 pub mod Distinct
 pub mod Place
+pub mod Bounds
+pub mod DepthBound
+pub mod Codes
+pub mod Cut
+pub mod Tallies
+pub mod Logarithm
+pub mod Signs
+pub mod Written
+pub mod Specimens
+pub mod Computed
+pub mod Printed
+pub mod ShutOut

@@ -11,8 +11,8 @@ use native.Mathlib.Omega.{arith}
 use native.Mathlib.Decide.{ℕ-discrete}
 use lib.Dec.{T, leb, leb→le}
 use lib.Ieee.Fits.{and-l, and-r}
-use lib.ListN.{length, take, getElem?, length-append}
-use lib.Seq.{take-append-seam}
+use lib.ListN.{length, take, getD, getElem?, length-append}
+use lib.Seq.{take-append-seam, take-suc}
 use Rattle.theory.specs.Limit.{max-job, first-terms, answer-bytes}
 use Rattle.theory.specs.Kind.{Op}
 use Rattle.theory.specs.Term.{Term, fold}
@@ -23,7 +23,7 @@ use Rattle.theory.specs.Record.{Bytes, records-of, ending, Item, term, s
 use Rattle.theory.specs.Plain.{Entry, entry, Plain, start, at-places, term-of, has, put, feed-item, feed, plain-after}
 use Rattle.theory.specs.Codes.{first-fault, all-below, well-sorted, room, tests, fault}
 use Rattle.theory.specs.Job.{Answer, answer-to, reply, item-answers, answers-to, Outcome, outcome, run-from, run}
-use Rattle.theory.proofs.Basics.{none-some, some-inj, taken, foldl-append, getElem-seam, snoc-elim}
+use Rattle.theory.proofs.Basics.{none-some, some-inj, taken, foldl-append, getElem-of, getElem-lt, getElem-seam, snoc-elim}
 use Rattle.theory.proofs.Places.{tree-at, tree-of, at-places-are, term-of-is}
 
 step-count-append : (xs : List Bytes) (r : Bytes) → step-count (xs ++ (r ∷ [])) ≡ step-count xs + cond (is-step (read r)) 1 0
@@ -69,10 +69,9 @@ pub record TermPassed (work : ℕ) (list : Plain) (r : Bytes) (o : Op) (ks : Lis
   pub sorted : T (good (sort-of (tree-of list o ks)))
   pub roomy : T (has list r || room work list)
 
-pub term-passed : (work : ℕ) (list : Plain) (r : Bytes) (o : Op) (ks : List ℕ)
-    → first-fault ((all-below (length list) ks, 6) ∷ (well-sorted (term-of list o ks), 7) ∷ (has list r || room work list, 8) ∷ []) ≡ 0
-    → TermPassed work list r o ks
-term-passed work list r o ks e =
+pub term-passed : (work space : ℕ) (list : Plain) (answered : ℕ) (r : Bytes) (o : Op) (ks : List ℕ)
+    → first-fault (tests work space list answered r (term o ks)) ≡ 0 → TermPassed work list r o ks
+term-passed work space list answered r o ks e =
     let w = well-sorted (term-of list o ks) in
     let m = has list r || room work list in
     let a = taken (all-below (length list) ks) 5 (cond w (cond m 0 8) 7) e in
@@ -93,10 +92,9 @@ there : {A : Type 0} (q : Option A) → T (is-some q) → (a : A) × (q ≡ some
 there none h = absurd h
 there (some a) h = (a, refl)
 
-pub step-passed : (space : ℕ) (list : Plain) (answered n : ℕ) (ks : List ℕ)
-    → first-fault ((all-below (length list) ks, 6) ∷ (is-some (rule-at n), 9) ∷ (leb (answer-bytes * suc answered) space, 19) ∷ []) ≡ 0
-    → StepPassed space list answered n ks
-step-passed space list answered n ks e =
+pub step-passed : (work space : ℕ) (list : Plain) (answered : ℕ) (r : Bytes) (n : ℕ) (ks : List ℕ)
+    → first-fault (tests work space list answered r (step n ks)) ≡ 0 → StepPassed space list answered n ks
+step-passed work space list answered r n ks e =
     let m = leb (answer-bytes * suc answered) space in
     let a = taken (all-below (length list) ks) 5 (cond (is-some (rule-at n)) (cond m 0 19) 9) e in
     let b = taken (is-some (rule-at n)) 8 (cond m 0 19) (a .1) in
@@ -125,7 +123,7 @@ fed P work space list answered r e old new shorter = go (read r) e refl
   where
     go : (i : Item) → first-fault (tests work space list answered r i) ≡ 0 → read r ≡ i → P (feed-item list r i)
     go (term o ks) f d =
-        let p = term-passed work list r o ks f in
+        let p = term-passed work space list answered r o ks f in
         subst (λ (q : Option Term). P (put list r q)) (sym (term-of-is list o ks (p .below)))
         (put-cases P list r (tree-of list o ks) old (new o ks d p))
     go (step n ks) f d = old
@@ -149,7 +147,7 @@ answers-cases P work space list answered r e one other = go (read r) e refl
   where
     go : (i : Item) → first-fault (tests work space list answered r i) ≡ 0 → read r ≡ i → P (item-answers list i)
     go (step n ks) f d =
-        let p = step-passed space list answered n ks f in
+        let p = step-passed work space list answered r n ks f in
         subst P (sym (step-answer space list answered n ks p)) (one n ks d p)
     go (term o ks) f d = other (ap is-step d)
     go (back n) f d = other (ap is-step d)
@@ -333,3 +331,28 @@ module _ (job : Bytes) (work space : ℕ) where
       by-length (leb (length job) max-job) (leb→le (length job) max-job) (run-from work space (ending job) 0 start [] (records-of job)) (outcome 2 0 [] start)
       (λ s. runs (ending job) s (records-of job) [] start [] 0 refl refl good-start)
       (stopped 2 [] (records-of job) start [] refl good-start (λ m l. absurd (omega arith)))
+
+  take-next : (m : ℕ) (r : Bytes) → getElem? (records-of job) m ≡ some r → take (suc m) (records-of job) ≡ take m (records-of job) ++ (r ∷ [])
+  take-next m r e =
+      let l = getElem-lt (records-of job) m r e in
+      take-suc (records-of job) m [] l
+      ∙ ap (λ (x : Bytes). take m (records-of job) ++ (x ∷ [])) (some-inj (getD (records-of job) m []) r (sym (getElem-of (records-of job) m [] l) ∙ e))
+
+  -- the list and the steps after one more record
+  pub plain-next : (m : ℕ) (r : Bytes) → getElem? (records-of job) m ≡ some r → plain-after (suc m) job ≡ feed (plain-after m job) r
+  plain-next m r e = ap (foldl feed start) (take-next m r e) ∙ foldl-append feed start (take m (records-of job)) (r ∷ [])
+
+  pub count-next : (m : ℕ) (r : Bytes) → getElem? (records-of job) m ≡ some r
+      → step-count (take (suc m) (records-of job)) ≡ step-count (take m (records-of job)) + cond (is-step (read r)) 1 0
+  count-next m r e = ap step-count (take-next m r e) ∙ step-count-append (take m (records-of job)) r
+
+  -- a property that holds at the start and that every record without a fault keeps holds all through the run
+  pub plain-ind : (P : ℕ → Type 0) → P 0
+      → ((m : ℕ) (r : Bytes) → m < run job work space .records → getElem? (records-of job) m ≡ some r → Passes m r → P m → P (suc m))
+      → (m : ℕ) → m ≤ run job work space .records → P m
+  plain-ind P base next zero l = base
+  plain-ind P base next (suc m) l =
+      let w = ran .within in
+      let r = getD (records-of job) m [] in
+      let e : getElem? (records-of job) m ≡ some r = getElem-of (records-of job) m [] (omega arith) in
+      next m r (omega arith) e (ran .all-passed m r (omega arith) e) (plain-ind P base next m (omega arith))

@@ -14,32 +14,32 @@ use Rattle.theory.specs.Kind.{BvAnd, BvConcat, BvExtract, many, takes}
 use Rattle.theory.specs.Term.{fold, Term, Terms, node, nil, cons, to-list, same-term, two}
 use Rattle.theory.specs.Sort.{guard, Sort, bv, is-bv-sort, all-bv, sort-width, sum-widths, width, sort-of, sorts-of}
 use Rattle.theory.specs.Value.{Assign, Val, number, number-of, value-width, and-n, concat2, meaning, value, values}
-use Rattle.theory.specs.Rule.{nth, index-of, slice-code, slices-code}
-use Rattle.theory.proofs.Basics.{passed}
+use Rattle.theory.specs.Verdict.{Verdict, held, wrong-form, terms-differ, index-not-next}
+use Rattle.theory.specs.Rule.{nth, index-of, slice-verdict, slices-verdict}
 use Rattle.theory.proofs.Sound.{bv-value}
 use Rattle.theory.proofs.Blast.{guard-yes}
 use Rattle.theory.proofs.Sorts.{is-bv}
 use Rattle.theory.proofs.Same.{same-eq}
-use Rattle.theory.proofs.Form.{unary-held, binary-held}
+use Rattle.theory.proofs.Form.{else-held, unary-held, binary-held}
 
 -- ---- the form of a slice
-pub record Slice (done : ℕ) (a c slice : Term) (next : ℕ → ℕ) : Type 0 where
+pub record Slice (done : ℕ) (a c slice : Term) (next : ℕ → Verdict) : Type 0 where
   pub i : ℕ
   pub j : ℕ
   pub is : slice ≡ two BvAnd (node (BvExtract i j) (cons a nil)) (node (BvExtract i j) (cons c nil))
   pub top : suc i ≡ done
-  pub after : next j ≡ 0
+  pub after : next j ≡ held
 
-pub slice-held : (done : ℕ) (a c slice : Term) (next : ℕ → ℕ) → slice-code done a c slice next ≡ 0 → Slice done a c slice next
+pub slice-held : (done : ℕ) (a c slice : Term) (next : ℕ → Verdict) → slice-verdict done a c slice next ≡ held → Slice done a c slice next
 slice-held done a c slice next e =
     let b = binary-held 42 slice _ e in
     let p = b .left in
     let q = b .right in
     let up = unary-held 57 p _ (b .after) in
     let uq = unary-held 57 q _ (up .after) in
-    let t₁ = passed (eqb (index-of 0 p) (index-of 0 q) && eqb (index-of 1 p) (index-of 1 q)) 10 _ (uq .after) in
-    let t₂ = passed (eqb (suc (index-of 0 p)) done) 16 _ (t₁ .1) in
-    let t₃ = passed (same-term a (up .one) && same-term c (uq .one)) 15 _ (t₂ .1) in
+    let t₁ = else-held (eqb (index-of 0 p) (index-of 0 q) && eqb (index-of 1 p) (index-of 1 q)) wrong-form _ tt (uq .after) in
+    let t₂ = else-held (eqb (suc (index-of 0 p)) done) index-not-next _ tt (t₁ .1) in
+    let t₃ = else-held (same-term a (up .one) && same-term c (uq .one)) terms-differ _ tt (t₂ .1) in
     let ip : index-of 0 p ≡ nth 0 (up .numbers) = ap (index-of 0) (up .is) in
     let jp : index-of 1 p ≡ nth 1 (up .numbers) = ap (index-of 1) (up .is) in
     let iq : index-of 0 q ≡ nth 0 (uq .numbers) = ap (index-of 0) (uq .is) in
@@ -108,14 +108,14 @@ module _ (ρ : Assign) (a c : Term) (n : ℕ) (sa : sort-of a ≡ bv n) (sc : so
   slice-value i j = ap (number (suc (i - j))) (and-part (number-of (value ρ a)) (number-of (value ρ c)) j (suc (i - j)))
 
   -- from the slices above `done` to all of them
-  slices-fold : (us : Terms) (done : ℕ) → slices-code a c done (to-list us) ≡ 0 → T (all-bv (sorts-of us)) → done ≤ n
+  slices-fold : (us : Terms) (done : ℕ) → slices-verdict a c done (to-list us) ≡ held → T (all-bv (sorts-of us)) → done ≤ n
       → (sum-widths (sorts-of us) ≤ done)
       × (foldl concat2 (number (n - done) (both / 2 ^ done)) (values ρ us)
       ≡ number (n - done + sum-widths (sorts-of us)) (both / 2 ^ (done - sum-widths (sorts-of us))))
-  unfolding fold slices-code
+  unfolding fold slices-verdict
   slices-fold nil done e h l = (omega arith, ap₂ number (sym (add-zero (n - done))) (ap (λ (k : ℕ). both / 2 ^ k) (let z : done ≡ done - 0 = omega arith in z)))
   slices-fold (cons s us) done e h l =
-      let f = slice-held done a c s (λ j. slices-code a c j (to-list us)) e in
+      let f = slice-held done a c s (λ j. slices-verdict a c j (to-list us)) e in
       let w = suc (f .i - f .j) in
       let t = slice-sort (f .i) (f .j) a c (subst (λ (u : Term). T (is-bv-sort (sort-of u))) (f .is) (and-l (is-bv-sort (sort-of s)) _ h)) in
       let ij : f .j ≤ f .i = t .0 in
@@ -151,7 +151,7 @@ module _ (ρ : Assign) (a c : Term) (n : ℕ) (sa : sort-of a ≡ bv n) (sc : so
       ap₂ (λ (u : ℕ) (z : ℕ). concat2 (number u z) (value ρ s)) (sub-self n) (div-eq-of-lt both-lt)
       ∙ ap (concat2 (number 0 0)) v ∙ ap₂ number (zero-add m) (let z : 0 * 2 ^ m + number-of (value ρ s) ≡ number-of (value ρ s) = omega arith in z) ∙ sym v
 
-  pub slicing-holds : (us : Terms) → slices-code a c n (to-list us) ≡ 0 → sort-of (node BvConcat us) ≡ bv n
+  pub slicing-holds : (us : Terms) → slices-verdict a c n (to-list us) ≡ held → sort-of (node BvConcat us) ≡ bv n
       → value ρ (node BvConcat us) ≡ value ρ (two BvAnd a c)
   unfolding fold meaning
   slicing-holds nil e s = absurd (guard-yes _ (bv 0) (bv n) tt s .0)

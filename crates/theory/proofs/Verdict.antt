@@ -15,9 +15,9 @@ use Rattle.theory.specs.Value.{Assign, to-number, value}
 use Rattle.theory.specs.Gates.{term-gates}
 use Rattle.theory.specs.Circuit.{negate, bitblast-ult, slt, equality, shl, lshr, ashr, udiv, urem}
 use Rattle.theory.specs.Bits.{get-term-bits, bb, fold-terms, zipped, add-bits, product, extract-bits, concat-bits, extend-bits, shifted, divided}
+use Rattle.theory.specs.Verdict.{Verdict, held, form-only, not-bit-vector, other-value, terms-differ, not-constant, bit-not-literal}
 use Rattle.theory.specs.RuleTable.{Rule, by-value, by-var, by-and, by-or, by-xor, by-xnor, by-not, by-ult, by-slt, by-add, by-mult, by-neg, by-equality, by-comp, by-extract, by-concat, by-sign-extend, by-shl, by-lshr, by-ashr, by-udiv, by-urem, by-bitwise-slicing}
-use Rattle.theory.specs.Rule.{nth, args-of, index-of, form, unary, binary, compare, on-one, on-two, on-many, literal-bits, value-code, constant, value-rule, of-bits, slices-code, slicing-rule, on-sides, verdict}
-use Rattle.theory.proofs.Basics.{taken}
+use Rattle.theory.specs.Rule.{nth, args-of, index-of, form, unary, binary, compare, on-one, on-two, on-many, literal-bits, value-bits, constant, value-rule, of-bits, slices-verdict, slicing-rule, on-sides, verdict}
 use Rattle.theory.proofs.Sound.{same-sort-eq}
 use Rattle.theory.proofs.Blast.{guard-yes, to-from-list, folds-from-list}
 use Rattle.theory.proofs.Rules.{ult-holds, slt-holds, equality-holds, comp-holds, neg-holds, not-holds, add-holds, and-holds, or-holds, xor-holds, xnor-holds}
@@ -26,7 +26,7 @@ use Rattle.theory.proofs.Slices.{var-holds, literal, value-holds, extra
 use Rattle.theory.proofs.Same.{decode}
 use Rattle.theory.proofs.Multiplier.{mult-holds}
 use Rattle.theory.proofs.Shift.{shl-holds, lshr-holds}
-use Rattle.theory.proofs.Form.{form-held, same-of, args-held, unary-held, binary-held, many-held, literal-bits-are}
+use Rattle.theory.proofs.Form.{not-held, then-held, form-held, same-of, args-held, unary-held, binary-held, many-held, literal-bits-are}
 use Rattle.theory.proofs.Slicing.{slicing-holds}
 
 -- ---- what a good sort says of the arguments
@@ -79,9 +79,9 @@ module _ (k : ℕ) (o : Op) (known : (is : List ℕ) → decode k is ≡ o) wher
   one-rule : (expected : Term → Term)
       → ((x : Term) → T (good (sort-of (node o (cons x nil)))) → sort-of x ≡ bv (sort-width (sort-of x)))
       → ((ρ : Assign) (x : Term) (n : ℕ) → sort-of x ≡ bv n → value ρ (expected x) ≡ value ρ (node o (cons x nil)))
-      → (l r : Term) → T (good (sort-of l)) → on-one k expected l r ≡ 0 → Holds l r
+      → (l r : Term) → T (good (sort-of l)) → on-one k expected l r ≡ held → Holds l r
   one-rule expected wide holds l r g e ρ =
-      let u = unary-held k l (λ x. compare 0 (expected x) r) e in
+      let u = unary-held k l (λ x. compare held (expected x) r) e in
       let i : l ≡ node o (cons (u .one) nil) = u .is ∙ ap (λ (p : Op). node p (cons (u .one) nil)) (known (u .numbers)) in
       let w = wide (u .one) (subst (λ (t : Term). T (good (sort-of t))) i g) in
       ap (value ρ) i ∙ sym (holds ρ (u .one) (sort-width (sort-of (u .one))) w) ∙ ap (value ρ) (same-of (expected (u .one)) r (u .after))
@@ -89,9 +89,9 @@ module _ (k : ℕ) (o : Op) (known : (is : List ℕ) → decode k is ≡ o) wher
   two-rule : (expected : Term → Term → Term)
       → ((x y : Term) → T (good (sort-of (two o x y))) → (sort-of x ≡ bv (sort-width (sort-of x))) × (sort-of y ≡ bv (sort-width (sort-of x))))
       → ((ρ : Assign) (x y : Term) (n : ℕ) → sort-of x ≡ bv n → sort-of y ≡ bv n → value ρ (expected x y) ≡ value ρ (two o x y))
-      → (l r : Term) → T (good (sort-of l)) → on-two 0 k expected l r ≡ 0 → Holds l r
+      → (l r : Term) → T (good (sort-of l)) → on-two held k expected l r ≡ held → Holds l r
   two-rule expected wide holds l r g e ρ =
-      let u = binary-held k l (λ x y. compare 0 (expected x y) r) e in
+      let u = binary-held k l (λ x y. compare held (expected x y) r) e in
       let i : l ≡ two o (u .left) (u .right) = u .is ∙ ap (λ (p : Op). two p (u .left) (u .right)) (known (u .numbers)) in
       let w = wide (u .left) (u .right) (subst (λ (t : Term). T (good (sort-of t))) i g) in
       ap (value ρ) i ∙ sym (holds ρ (u .left) (u .right) (sort-width (sort-of (u .left))) (w .0) (w .1))
@@ -100,9 +100,9 @@ module _ (k : ℕ) (o : Op) (known : (is : List ℕ) → decode k is ≡ o) wher
   many-rule : (expected : List Term → Term)
       → ((ts : Terms) → T (good (sort-of (node o ts))) → sort-of (node o ts) ≡ bv (sort-width (sort-of (node o ts))))
       → ((ρ : Assign) (ts : Terms) (n : ℕ) → sort-of (node o ts) ≡ bv n → value ρ (expected (to-list ts)) ≡ value ρ (node o ts))
-      → (l r : Term) → T (good (sort-of l)) → on-many k expected l r ≡ 0 → Holds l r
+      → (l r : Term) → T (good (sort-of l)) → on-many k expected l r ≡ held → Holds l r
   many-rule expected wide holds l r g e ρ =
-      let u = many-held k l (λ ts. compare 0 (expected ts) r) e in
+      let u = many-held k l (λ ts. compare held (expected ts) r) e in
       let ts = from-list (u .all) in
       let i : l ≡ node o ts = u .is ∙ ap (λ (p : Op). node p ts) (known (u .numbers)) in
       let w = wide ts (subst (λ (t : Term). T (good (sort-of t))) i g) in
@@ -114,15 +114,11 @@ module _ (k : ℕ) (o : Op) (known : (is : List ℕ) → decode k is ≡ o) wher
 bv-of-width : (s : Sort) (n : ℕ) → s ≡ bv n → s ≡ bv (sort-width s)
 bv-of-width s n e = e ∙ ap bv (sym (ap sort-width e))
 
--- code 0 is not of rules 20 to 22
-never : (k : ℕ) (expected : Term → Term → Term) (l r : Term) → on-two 1 k expected l r ≡ 0 → ⊥
+-- rules 20 to 22 never answer held
+never : (k : ℕ) (expected : Term → Term → Term) (l r : Term) → on-two form-only k expected l r ≡ held → ⊥
 never k expected l r e =
-    let u = binary-held k l (λ x y. compare 1 (expected x y) r) e in
-    go (same-term (expected (u .left) (u .right)) r) (u .after)
-  where
-    go : (b : Bool) → _≡_ {A = ℕ} (cond b 1 16) 0 → ⊥
-    go true d = omega arith
-    go false d = omega arith
+    let u = binary-held k l (λ x y. compare form-only (expected x y) r) e in
+    not-held form-only tt (then-held (same-term (expected (u .left) (u .right)) r) terms-differ form-only tt (u .after) .1)
 
 -- ---- the arguments, kind by kind
 xnor-wide : (x y : Term) → T (good (sort-of (two BvXNor x y))) → (sort-of x ≡ bv (sort-width (sort-of x))) × (sort-of y ≡ bv (sort-width (sort-of x)))
@@ -210,19 +206,19 @@ literals-sort bs n e =
     let g = guard-yes _ (bv (length (sorts-of (from-list (map literal bs))))) (bv n) tt e .1 in
     sym (length-map bs literal) ∙ sym (length-map (map literal bs) sort-of) ∙ ap length (sym (folds-from-list sort-op (map literal bs))) ∙ ap sort-width g
 
-code-held : (x : ℕ) (q : Option (List Bool)) → value-code x q ≡ 0 → (bs : List Bool) × (q ≡ some bs) × (x ≡ to-number bs)
-code-held x none e = absurd (omega arith)
-code-held x (some bs) e = (bs, refl, eqb→eq x (to-number bs) (taken (eqb x (to-number bs)) 14 0 e .0))
+value-bits-held : (x : ℕ) (q : Option (List Bool)) → value-bits x q ≡ held → (bs : List Bool) × (q ≡ some bs) × (x ≡ to-number bs)
+value-bits-held x none e = absurd (not-held bit-not-literal tt e)
+value-bits-held x (some bs) e = (bs, refl, eqb→eq x (to-number bs) (then-held (eqb x (to-number bs)) other-value held tt e .0))
 
-constant-held : (q : Option (List Term)) (c : ℕ) → constant q c ≡ 0 → (ts : List Term) × (q ≡ some ts) × (c ≡ 0)
-constant-held none c e = absurd (omega arith)
+constant-held : (q : Option (List Term)) (c : Verdict) → constant q c ≡ held → (ts : List Term) × (q ≡ some ts) × (c ≡ held)
+constant-held none c e = absurd (not-held not-constant tt e)
 constant-held (some ts) c e = (ts, refl, e)
 
-value-held : (l r : Term) → T (good (sort-of l)) → sort-of l ≡ sort-of r → value-rule l r ≡ 0 → Holds l r
+value-held : (l r : Term) → T (good (sort-of l)) → sort-of l ≡ sort-of r → value-rule l r ≡ held → Holds l r
 value-held l r g s e ρ =
-    let u = many-held 31 r (λ bits. constant (args-of 12 l) (value-code (index-of 1 l) (literal-bits bits))) e in
-    let c = constant-held (args-of 12 l) (value-code (index-of 1 l) (literal-bits (u .all))) (u .after) in
-    let v = code-held (index-of 1 l) (literal-bits (u .all)) (c .2) in
+    let u = many-held 31 r (λ bits. constant (args-of 12 l) (value-bits (index-of 1 l) (literal-bits bits))) e in
+    let c = constant-held (args-of 12 l) (value-bits (index-of 1 l) (literal-bits (u .all))) (u .after) in
+    let v = value-bits-held (index-of 1 l) (literal-bits (u .all)) (c .2) in
     let a = args-held 12 l (c .0) (c .1) in
     let n = nth 0 (a .0) in
     let x = nth 1 (a .0) in
@@ -233,21 +229,21 @@ value-held l r g s e ρ =
     ap (value ρ) i ∙ sym (value-holds ρ n x (v .0) (literals-sort (v .0) n z) (sym (v .2) ∙ ap (index-of 1) (a .1))) ∙ ap (value ρ) (sym j)
 
 -- ---- rules 2 and 13
-wide-held : (x : Term) (c : ℕ) → of-bits x c ≡ 0 → (sort-of x ≡ bv (sort-width (sort-of x))) × (c ≡ 0)
-wide-held x c e = let t = taken (is-bv-sort (sort-of x)) 11 c e in (is-bv (sort-of x) (t .0), t .1)
+wide-held : (x : Term) (c : Verdict) → of-bits x c ≡ held → (sort-of x ≡ bv (sort-width (sort-of x))) × (c ≡ held)
+wide-held x c e = let t = then-held (is-bv-sort (sort-of x)) not-bit-vector c tt e in (is-bv (sort-of x) (t .0), t .1)
 
-var-held : (l r : Term) → of-bits l (compare 0 (bb (get-term-bits l)) r) ≡ 0 → Holds l r
+var-held : (l r : Term) → of-bits l (compare held (bb (get-term-bits l)) r) ≡ held → Holds l r
 var-held l r e ρ =
-    let w = wide-held l (compare 0 (bb (get-term-bits l)) r) e in
+    let w = wide-held l (compare held (bb (get-term-bits l)) r) e in
     sym (var-holds ρ l (sort-width (sort-of l)) (w .0)) ∙ ap (value ρ) (same-of (bb (get-term-bits l)) r (w .1))
 
 equality-held : (l r : Term) → T (good (sort-of l))
-    → binary 24 l (λ x y. of-bits x (compare 0 (equality term-gates (get-term-bits x) (get-term-bits y)) r)) ≡ 0 → Holds l r
+    → binary 24 l (λ x y. of-bits x (compare held (equality term-gates (get-term-bits x) (get-term-bits y)) r)) ≡ held → Holds l r
 equality-held l r g e ρ =
-    let u = binary-held 24 l (λ x y. of-bits x (compare 0 (equality term-gates (get-term-bits x) (get-term-bits y)) r)) e in
+    let u = binary-held 24 l (λ x y. of-bits x (compare held (equality term-gates (get-term-bits x) (get-term-bits y)) r)) e in
     let x = u .left in
     let y = u .right in
-    let w = wide-held x (compare 0 (equality term-gates (get-term-bits x) (get-term-bits y)) r) (u .after) in
+    let w = wide-held x (compare held (equality term-gates (get-term-bits x) (get-term-bits y)) r) (u .after) in
     let s = equal-sorts x y (equals-bool x y (subst (λ (t : Term). T (good (sort-of t))) (u .is) g)) .1 in
     ap (value ρ) (u .is) ∙ sym (equality-holds ρ x y (sort-width (sort-of x)) (w .0) (sym s ∙ w .0))
     ∙ ap (value ρ) (same-of (equality term-gates (get-term-bits x) (get-term-bits y)) r (w .1))
@@ -262,11 +258,11 @@ extract-args i j x h =
     (is-bv (sort-of x) (and-l (is-bv-sort (sort-of x)) _ a), leb→le j i (and-l (leb j i) _ b), ltb→lt i (sort-width (sort-of x)) (and-r (leb j i) _ b))
 
 extract-held : (l r : Term) → T (good (sort-of l))
-    → unary 57 l (λ x. form (args-of 31 r) (λ bits. compare 0 (bb (extract-bits (index-of 0 l) (index-of 1 l) (get-term-bits x))) r)) ≡ 0 → Holds l r
+    → unary 57 l (λ x. form (args-of 31 r) (λ bits. compare held (bb (extract-bits (index-of 0 l) (index-of 1 l) (get-term-bits x))) r)) ≡ held → Holds l r
 extract-held l r g e ρ =
-    let u = unary-held 57 l (λ x. form (args-of 31 r) (λ bits. compare 0 (bb (extract-bits (index-of 0 l) (index-of 1 l) (get-term-bits x))) r)) e in
+    let u = unary-held 57 l (λ x. form (args-of 31 r) (λ bits. compare held (bb (extract-bits (index-of 0 l) (index-of 1 l) (get-term-bits x))) r)) e in
     let x = u .one in
-    let f = form-held (args-of 31 r) (λ bits. compare 0 (bb (extract-bits (index-of 0 l) (index-of 1 l) (get-term-bits x))) r) (u .after) in
+    let f = form-held (args-of 31 r) (λ bits. compare held (bb (extract-bits (index-of 0 l) (index-of 1 l) (get-term-bits x))) r) (u .after) in
     let i = nth 0 (u .numbers) in
     let j = nth 1 (u .numbers) in
     let s = extract-args i j x (subst (λ (t : Term). T (good (sort-of t))) (u .is) g) in
@@ -279,10 +275,10 @@ concat-sort : (ts : Terms) → T (good (sort-of (node BvConcat ts))) → sort-of
 unfolding fold
 concat-sort ts h = guard-good _ (bv (sum-widths (sorts-of ts))) h .1
 
-concat-held : (l r : Term) → T (good (sort-of l)) → form (args-of 56 l) (λ ts. form (args-of 31 r) (λ bits. compare 0 (bb (concat-bits ts)) r)) ≡ 0 → Holds l r
+concat-held : (l r : Term) → T (good (sort-of l)) → form (args-of 56 l) (λ ts. form (args-of 31 r) (λ bits. compare held (bb (concat-bits ts)) r)) ≡ held → Holds l r
 concat-held l r g e ρ =
-    let u = many-held 56 l (λ ts. form (args-of 31 r) (λ bits. compare 0 (bb (concat-bits ts)) r)) e in
-    let f = form-held (args-of 31 r) (λ bits. compare 0 (bb (concat-bits (u .all))) r) (u .after) in
+    let u = many-held 56 l (λ ts. form (args-of 31 r) (λ bits. compare held (bb (concat-bits ts)) r)) e in
+    let f = form-held (args-of 31 r) (λ bits. compare held (bb (concat-bits (u .all))) r) (u .after) in
     let ts = from-list (u .all) in
     let s = concat-sort ts (subst (λ (t : Term). T (good (sort-of t))) (u .is) g) in
     ap (value ρ) (u .is) ∙ sym (concat-holds ρ ts (sum-widths (sorts-of ts)) s)
@@ -306,9 +302,9 @@ extended-value ρ x n (suc k) s = go (eqb (suc k) 0) (λ t. absurd (let z = eqb�
     go false f d = d
 
 extend-held : (l r : Term) → T (good (sort-of l))
-    → unary 58 l (λ x. compare 0 (cond (eqb (index-of 0 l) 0) x (bb (extend-bits (index-of 0 l) (get-term-bits x)))) r) ≡ 0 → Holds l r
+    → unary 58 l (λ x. compare held (cond (eqb (index-of 0 l) 0) x (bb (extend-bits (index-of 0 l) (get-term-bits x)))) r) ≡ held → Holds l r
 extend-held l r g e ρ =
-    let u = unary-held 58 l (λ x. compare 0 (cond (eqb (index-of 0 l) 0) x (bb (extend-bits (index-of 0 l) (get-term-bits x)))) r) e in
+    let u = unary-held 58 l (λ x. compare held (cond (eqb (index-of 0 l) 0) x (bb (extend-bits (index-of 0 l) (get-term-bits x)))) r) e in
     let x = u .one in
     let k = nth 0 (u .numbers) in
     let s = extend-arg k x (subst (λ (t : Term). T (good (sort-of t))) (u .is) g) in
@@ -317,23 +313,23 @@ extend-held l r g e ρ =
     ∙ ap (value ρ) (same-of (cond (eqb (index-of 0 l) 0) x (bb (extend-bits (index-of 0 l) (get-term-bits x)))) r (u .after))
 
 -- ---- rule 23
-slicing-held : (l r : Term) → T (good (sort-of l)) → sort-of l ≡ sort-of r → slicing-rule l r ≡ 0 → Holds l r
+slicing-held : (l r : Term) → T (good (sort-of l)) → sort-of l ≡ sort-of r → slicing-rule l r ≡ held → Holds l r
 slicing-held l r g s e ρ =
-    let u = binary-held 42 l (λ a c. form (args-of 56 r) (slices-code a c (sort-width (sort-of c)))) e in
+    let u = binary-held 42 l (λ a c. form (args-of 56 r) (slices-verdict a c (sort-width (sort-of c)))) e in
     let a = u .left in
     let c = u .right in
-    let v = many-held 56 r (slices-code a c (sort-width (sort-of c))) (u .after) in
+    let v = many-held 56 r (slices-verdict a c (sort-width (sort-of c))) (u .after) in
     let w = and-pair a c (subst (λ (t : Term). T (good (sort-of t))) (u .is) g) in
     let us = from-list (v .all) in
     let n = sort-width (sort-of a) in
     let m : sort-width (sort-of c) ≡ n = ap sort-width (w .1) in
-    let p : slices-code a c n (to-list us) ≡ 0
-    = ap₂ (slices-code a c) (sym m) (to-from-list (v .all)) ∙ v .after in
+    let p : slices-verdict a c n (to-list us) ≡ held
+    = ap₂ (slices-verdict a c) (sym m) (to-from-list (v .all)) ∙ v .after in
     let q : sort-of (node BvConcat us) ≡ bv n = ap sort-of (sym (v .is)) ∙ sym s ∙ ap sort-of (u .is) ∙ w .2 in
     ap (value ρ) (u .is) ∙ sym (slicing-holds ρ a c n (w .0) (w .1) us p q) ∙ ap (value ρ) (sym (v .is))
 
 -- ---- every rule
-pub sides-hold : (rule : Rule) (l r : Term) → sort-of (two Equals l r) ≡ bool → on-sides rule l r ≡ 0 → Holds l r
+pub sides-hold : (rule : Rule) (l r : Term) → sort-of (two Equals l r) ≡ bool → on-sides rule l r ≡ held → Holds l r
 unfolding on-sides
 sides-hold by-value l r s e = value-held l r (equal-sorts l r s .0) (equal-sorts l r s .1) e
 sides-hold by-var l r s e = var-held l r e
@@ -359,7 +355,7 @@ sides-hold by-udiv l r s e = absurd (never 54 (divided (udiv term-gates)) l r e)
 sides-hold by-urem l r s e = absurd (never 55 (divided (urem term-gates)) l r e)
 sides-hold by-bitwise-slicing l r s e = slicing-held l r (equal-sorts l r s .0) (equal-sorts l r s .1) e
 
-pub verdict-holds : (rule : Rule) (t : Term) → T (good (sort-of t)) → verdict rule t ≡ 0
+pub verdict-holds : (rule : Rule) (t : Term) → T (good (sort-of t)) → verdict rule t ≡ held
     → (l : Term) × (r : Term) × (t ≡ two Equals l r) × ((ρ : Assign) → value ρ l ≡ value ρ r)
 unfolding verdict
 verdict-holds rule t s e =

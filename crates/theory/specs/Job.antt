@@ -9,6 +9,7 @@ use Rattle.theory.specs.Limit.{max-job, number-bytes, answer-bytes}
 use Rattle.theory.specs.Term.{Term, node, to-list}
 use Rattle.theory.specs.Depth.{depth}
 use Rattle.theory.specs.Optional.{either}
+use Rattle.theory.specs.Verdict.{Verdict, not-one-literal, code-of, accepted}
 use Rattle.theory.specs.RuleTable.{Rule, rule-at}
 use Rattle.theory.specs.Rule.{verdict}
 use Rattle.theory.specs.Record.{Bytes, records-of, ending, Item, term, step, back, unknown, misfit, read}
@@ -25,19 +26,19 @@ pub record Answer : Type 0 where
 abbrev pub right-depth : Term → ℕ
 right-depth (node o ts) = either 0 depth (getElem? (to-list ts) 1)
 
--- accepted are codes 0 and 1: the answer then has the right side's depth, else 0
-abbrev pub judged : ℕ → ℕ → Term → Answer
-judged n code literal = record { rule = n; code = code; depth = cond (leb code 1) (right-depth literal) 0 }
+-- an accepted answer has the right side's depth, any other 0
+abbrev pub judged : ℕ → Verdict → Term → Answer
+judged n v literal = record { rule = n; code = code-of v; depth = cond (accepted v) (right-depth literal) 0 }
 
--- the clause is not of one literal
-abbrev pub no-single-literal : ℕ → Answer
-no-single-literal n = record { rule = n; code = 10; depth = 0 }
+-- a clause that is not of one literal
+abbrev pub unjudged : ℕ → Answer
+unjudged n = record { rule = n; code = code-of not-one-literal; depth = 0 }
 
 -- the answer of rule n to a clause
 abbrev pub answer-to : ℕ → Rule → List Term → Answer
-answer-to n rule [] = no-single-literal n
+answer-to n rule [] = unjudged n
 answer-to n rule (t ∷ []) = judged n (verdict rule t) t
-answer-to n rule (t ∷ u ∷ us) = no-single-literal n
+answer-to n rule (t ∷ u ∷ us) = unjudged n
 
 -- one answer, where the rule and the literals are there
 abbrev pub reply : ℕ → Option Rule → Option (List Term) → List Answer

@@ -9,6 +9,7 @@ pub mod Gates
 pub mod Circuit
 pub mod Alethe
 pub mod Bits
+pub mod Verdict
 pub mod RuleTable
 pub mod Rule
 pub mod Record
@@ -19,3 +20,4 @@ pub mod Tally
 pub mod Program
 pub mod Demand
 pub mod Specimen
+pub mod Claim

@@ -1,4 +1,4 @@
--- Document 01, "Codes" 0, 1, 11 to 17: the 23 rules, from the literal's tree to the verdict's code. 0 is held, 1 form only.
+-- The 23 rules of bitvectors.rs: from the literal's tree to the verdict.
 use mathlib.Core.Bool.{Bool, true, false, _&&_, not, cond}
 use mathlib.Core.List.{List, [], _∷_, map}
 use mathlib.Core.Option.{Option, none, some}
@@ -13,6 +13,7 @@ use Rattle.theory.specs.Optional.{collect}
 use Rattle.theory.specs.Gates.{term-gates}
 use Rattle.theory.specs.Circuit.{negate, bitblast-ult, slt, equality, shl, lshr, ashr, udiv, urem}
 use Rattle.theory.specs.Bits.{get-term-bits, bb, fold-terms, zipped, add-bits, product, extract-bits, concat-bits, extend-bits, shifted, divided}
+use Rattle.theory.specs.Verdict.{Verdict, held, form-only, wrong-form, not-bit-vector, not-constant, bit-not-literal, other-value, terms-differ, index-not-next}
 use Rattle.theory.specs.RuleTable.{Rule, by-value, by-var, by-and, by-or, by-xor, by-xnor, by-not, by-ult, by-slt, by-add, by-mult, by-neg, by-equality, by-comp, by-extract, by-concat, by-sign-extend, by-shl, by-lshr, by-ashr, by-udiv, by-urem, by-bitwise-slicing}
 
 -- the kinds with numbers in them: constants
@@ -52,36 +53,36 @@ nth i is = getD is i 0
 abbrev pub index-of : ℕ → Term → ℕ
 index-of i (node o ts) = nth i (indices o)
 
--- code 11, unless the part is there
-abbrev pub form : {A : Type 0} → Option A → (A → ℕ) → ℕ
-form none f = 11
+-- wrong form, unless the part is there
+abbrev pub form : {A : Type 0} → Option A → (A → Verdict) → Verdict
+form none f = wrong-form
 form (some a) f = f a
 
--- a term of kind k with just one argument, else 11
-abbrev pub unary : ℕ → Term → (Term → ℕ) → ℕ
+-- a term of kind k with just one argument
+abbrev pub unary : ℕ → Term → (Term → Verdict) → Verdict
 unary k t f = form (args-of k t) (λ ts. form (one-of ts) f)
 
--- a term of kind k with just two arguments, else 11
-abbrev pub binary : ℕ → Term → (Term → Term → ℕ) → ℕ
+-- a term of kind k with just two arguments
+abbrev pub binary : ℕ → Term → (Term → Term → Verdict) → Verdict
 binary k t f = form (args-of k t) (λ ts. form (two-of ts) (λ p. f (p .0) (p .1)))
 
 -- ---- the last test: expected and claimed term are the same
-abbrev pub compare : ℕ → Term → Term → ℕ
-compare ok expected claimed = cond (same-term expected claimed) ok 16
+abbrev pub compare : Verdict → Term → Term → Verdict
+compare ok expected claimed = cond (same-term expected claimed) ok terms-differ
 
 -- (= (op x ..) res), res being what is expected of x ..
-abbrev pub on-one : ℕ → (Term → Term) → Term → Term → ℕ
-on-one k expected l r = unary k l (λ x. compare 0 (expected x) r)
+abbrev pub on-one : ℕ → (Term → Term) → Term → Term → Verdict
+on-one k expected l r = unary k l (λ x. compare held (expected x) r)
 
--- (= (op x y) res); `ok` is the code if accepted
-abbrev pub on-two : ℕ → ℕ → (Term → Term → Term) → Term → Term → ℕ
+-- (= (op x y) res); `ok` is the verdict if accepted
+abbrev pub on-two : Verdict → ℕ → (Term → Term → Term) → Term → Term → Verdict
 on-two ok k expected l r = binary k l (λ x y. compare ok (expected x y) r)
 
 -- (= (op ..) res)
-abbrev pub on-many : ℕ → (List Term → Term) → Term → Term → ℕ
-on-many k expected l r = form (args-of k l) (λ ts. compare 0 (expected ts) r)
+abbrev pub on-many : ℕ → (List Term → Term) → Term → Term → Verdict
+on-many k expected l r = form (args-of k l) (λ ts. compare held (expected ts) r)
 
--- ---- rule 1: (= v (bbterm ..)): 13 v no constant, 14 a bit not literal, 15 another value
+-- ---- rule 1: (= v (bbterm ..)). Rust also compares the number of bits with the width of v: both sides have one sort, so they agree
 abbrev pub literal-bit : Term → Option Bool
 literal-bit t = cond (same-term t (node True nil)) (some true) (cond (same-term t (node False nil)) (some false) none)
 
@@ -89,74 +90,74 @@ literal-bit t = cond (same-term t (node True nil)) (some true) (cond (same-term 
 unfoldable pub literal-bits : List Term → Option (List Bool)
 literal-bits ts = collect (map literal-bit ts)
 
--- 14 where a bit is not literal, 15 where the value is not x
-abbrev pub value-code : ℕ → Option (List Bool) → ℕ
-value-code x none = 14
-value-code x (some bs) = cond (eqb x (to-number bs)) 0 15
+-- the bits have the value x
+abbrev pub value-bits : ℕ → Option (List Bool) → Verdict
+value-bits x none = bit-not-literal
+value-bits x (some bs) = cond (eqb x (to-number bs)) held other-value
 
--- 13 unless the left side is a constant
-abbrev pub constant : Option (List Term) → ℕ → ℕ
-constant none c = 13
-constant (some ts) c = c
+-- the left side is a constant
+abbrev pub constant : Option (List Term) → Verdict → Verdict
+constant none v = not-constant
+constant (some ts) v = v
 
 -- the bits' value is the constant's
-abbrev pub value-rule : Term → Term → ℕ
-value-rule v r = form (args-of (kind BvBbTerm) r) (λ bits. constant (args-of constant-kind v) (value-code (index-of 1 v) (literal-bits bits)))
+abbrev pub value-rule : Term → Term → Verdict
+value-rule v r = form (args-of (kind BvBbTerm) r) (λ bits. constant (args-of constant-kind v) (value-bits (index-of 1 v) (literal-bits bits)))
 
--- ---- rules 2 and 13: 12 where the operand is no bit-vector
-abbrev pub of-bits : Term → ℕ → ℕ
-of-bits x c = cond (is-bv-sort (sort-of x)) c 12
+-- ---- rules 2 and 13: the operand is a bit-vector
+abbrev pub of-bits : Term → Verdict → Verdict
+of-bits x v = cond (is-bv-sort (sort-of x)) v not-bit-vector
 
--- ---- rule 23: (= (bvand a c) (concat ..)), slice by slice: 11, 17, 16
+-- ---- rule 23: (= (bvand a c) (concat ..)), slice by slice
 -- a slice: (bvand ((_ extract i j) a) ((_ extract i j) c)), with i the next index from the top
-abbrev pub slice-code : ℕ → Term → Term → Term → (ℕ → ℕ) → ℕ
-slice-code done a c slice next =
+abbrev pub slice-verdict : ℕ → Term → Term → Term → (ℕ → Verdict) → Verdict
+slice-verdict done a c slice next =
     binary (kind BvAnd) slice (λ p q.
     unary extract-kind p (λ x.
     unary extract-kind q (λ y.
-    cond (not (eqb (index-of 0 p) (index-of 0 q) && eqb (index-of 1 p) (index-of 1 q))) 11
-    (cond (not (eqb (suc (index-of 0 p)) done)) 17
-    (cond (not (same-term a x && same-term c y)) 16 (next (index-of 1 p)))))))
+    cond (not (eqb (index-of 0 p) (index-of 0 q) && eqb (index-of 1 p) (index-of 1 q))) wrong-form
+    (cond (not (eqb (suc (index-of 0 p)) done)) index-not-next
+    (cond (not (same-term a x && same-term c y)) terms-differ (next (index-of 1 p)))))))
 
--- `done` is the lowest index so far
-unfoldable pub slices-code : Term → Term → ℕ → List Term → ℕ
-slices-code a c done [] = 0
-slices-code a c done (s ∷ ss) = slice-code done a c s (λ j. slices-code a c j ss)
+-- `done` is the lowest index so far. Rust last asks that it is 0: both sides have one width, so it is
+unfoldable pub slices-verdict : Term → Term → ℕ → List Term → Verdict
+slices-verdict a c done [] = held
+slices-verdict a c done (s ∷ ss) = slice-verdict done a c s (λ j. slices-verdict a c j ss)
 
 -- the slices begin at the top of c
-abbrev pub slicing-rule : Term → Term → ℕ
+abbrev pub slicing-rule : Term → Term → Verdict
 slicing-rule l r =
     binary (kind BvAnd) l (λ a c.
-    form (args-of (kind BvConcat) r) (slices-code a c (sort-width (sort-of c))))
+    form (args-of (kind BvConcat) r) (slices-verdict a c (sort-width (sort-of c))))
 
 -- ---- every rule, on (= l r)
-unfoldable pub on-sides : Rule → Term → Term → ℕ
+unfoldable pub on-sides : Rule → Term → Term → Verdict
 on-sides by-value l r = value-rule l r
-on-sides by-var l r = of-bits l (compare 0 (bb (get-term-bits l)) r)
+on-sides by-var l r = of-bits l (compare held (bb (get-term-bits l)) r)
 on-sides by-and l r = on-many (kind BvAnd) (fold-terms (zipped (two And))) l r
 on-sides by-or l r = on-many (kind BvOr) (fold-terms (zipped (two Or))) l r
 on-sides by-xor l r = on-many (kind BvXor) (fold-terms (zipped (two Xor))) l r
-on-sides by-xnor l r = on-two 0 (kind BvXNor) (zipped (two Equals)) l r
+on-sides by-xnor l r = on-two held (kind BvXNor) (zipped (two Equals)) l r
 on-sides by-not l r = on-one (kind BvNot) (λ x. bb (map (term-gates .not-gate) (get-term-bits x))) l r
-on-sides by-ult l r = on-two 0 (kind BvULt) (λ x y. bitblast-ult term-gates (get-term-bits x) (get-term-bits y)) l r
-on-sides by-slt l r = on-two 0 (kind BvSLt) (λ x y. slt term-gates (get-term-bits x) (get-term-bits y)) l r
+on-sides by-ult l r = on-two held (kind BvULt) (λ x y. bitblast-ult term-gates (get-term-bits x) (get-term-bits y)) l r
+on-sides by-slt l r = on-two held (kind BvSLt) (λ x y. slt term-gates (get-term-bits x) (get-term-bits y)) l r
 on-sides by-add l r = on-many (kind BvAdd) (λ ts. bb (add-bits ts)) l r
 on-sides by-mult l r = on-many (kind BvMul) (fold-terms product) l r
 on-sides by-neg l r = on-one (kind BvNeg) (λ x. bb (negate term-gates (get-term-bits x))) l r
-on-sides by-equality l r = binary (kind Equals) l (λ x y. of-bits x (compare 0 (equality term-gates (get-term-bits x) (get-term-bits y)) r))
-on-sides by-comp l r = on-two 0 (kind BvComp) (λ x y. bb (equality term-gates (get-term-bits x) (get-term-bits y) ∷ [])) l r
+on-sides by-equality l r = binary (kind Equals) l (λ x y. of-bits x (compare held (equality term-gates (get-term-bits x) (get-term-bits y)) r))
+on-sides by-comp l r = on-two held (kind BvComp) (λ x y. bb (equality term-gates (get-term-bits x) (get-term-bits y) ∷ [])) l r
 on-sides by-extract l r =
-    unary extract-kind l (λ x. form (args-of (kind BvBbTerm) r) (λ bits. compare 0 (bb (extract-bits (index-of 0 l) (index-of 1 l) (get-term-bits x))) r))
-on-sides by-concat l r = form (args-of (kind BvConcat) l) (λ ts. form (args-of (kind BvBbTerm) r) (λ bits. compare 0 (bb (concat-bits ts)) r))
+    unary extract-kind l (λ x. form (args-of (kind BvBbTerm) r) (λ bits. compare held (bb (extract-bits (index-of 0 l) (index-of 1 l) (get-term-bits x))) r))
+on-sides by-concat l r = form (args-of (kind BvConcat) l) (λ ts. form (args-of (kind BvBbTerm) r) (λ bits. compare held (bb (concat-bits ts)) r))
 on-sides by-sign-extend l r =
-    unary extend-kind l (λ x. compare 0 (cond (eqb (index-of 0 l) 0) x (bb (extend-bits (index-of 0 l) (get-term-bits x)))) r)
-on-sides by-shl l r = on-two 0 (kind BvShl) (shifted (shl term-gates)) l r
-on-sides by-lshr l r = on-two 0 (kind BvLShr) (shifted (lshr term-gates)) l r
-on-sides by-ashr l r = on-two 1 (kind BvAShr) (shifted (ashr term-gates)) l r
-on-sides by-udiv l r = on-two 1 (kind BvUDiv) (divided (udiv term-gates)) l r
-on-sides by-urem l r = on-two 1 (kind BvURem) (divided (urem term-gates)) l r
+    unary extend-kind l (λ x. compare held (cond (eqb (index-of 0 l) 0) x (bb (extend-bits (index-of 0 l) (get-term-bits x)))) r)
+on-sides by-shl l r = on-two held (kind BvShl) (shifted (shl term-gates)) l r
+on-sides by-lshr l r = on-two held (kind BvLShr) (shifted (lshr term-gates)) l r
+on-sides by-ashr l r = on-two form-only (kind BvAShr) (shifted (ashr term-gates)) l r
+on-sides by-udiv l r = on-two form-only (kind BvUDiv) (divided (udiv term-gates)) l r
+on-sides by-urem l r = on-two form-only (kind BvURem) (divided (urem term-gates)) l r
 on-sides by-bitwise-slicing l r = slicing-rule l r
 
--- the code of a clause of one literal
-unfoldable pub verdict : Rule → Term → ℕ
+-- the verdict on a clause of one literal
+unfoldable pub verdict : Rule → Term → Verdict
 verdict rule literal = binary (kind Equals) literal (on-sides rule)

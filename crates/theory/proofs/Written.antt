@@ -1,0 +1,151 @@
+-- The answers as bytes: what the answers' memory holds after a call reads back as the answers, so demand 3 can be read off it.
+use mathlib.Core.Path.{_≡_, refl, sym, ap, ap₂, subst, _∙_}
+use mathlib.Core.Bool.{Bool, true, false, _||_, cond}
+use mathlib.Core.List.{List, [], _∷_, _++_, map, append-assoc}
+use mathlib.Core.Option.{some}
+use Prim.Native.Nat.{ℕ, zero, suc, _-_, _*_, _<_, _≤_}
+use native.Mathlib.Omega.{arith}
+use lib.Dec.{T, eqb, ltb, ltb→lt, eqb→eq}
+use lib.Ieee.Fits.{and-l, and-r}
+use lib.ListN.{length, drop, getElem?, length-append, length-drop}
+use lib.Seq.{drop-at}
+use Rattle.theory.specs.Limit.{answer-bytes}
+use Rattle.theory.specs.Term.{Term}
+use Rattle.theory.specs.Depth.{depth}
+use Rattle.theory.specs.Optional.{either}
+use Rattle.theory.specs.Verdict.{accepted}
+use Rattle.theory.specs.RuleTable.{Rule, rules, rule-at}
+use Rattle.theory.specs.Rule.{verdict}
+use Rattle.theory.specs.Record.{Bytes, word}
+use Rattle.theory.specs.Plain.{Plain, plain-after}
+use Rattle.theory.specs.Codes.{all-below}
+use Rattle.theory.specs.Job.{Answer, right-depth, answer-to, run, word-bytes, encode-answer, encode-answers, answers-after, call}
+use Rattle.theory.specs.Demand.{Demand3, decode-answer, decode-answers}
+use Rattle.theory.specs.Claim.{element, answer-codes}
+use Rattle.theory.proofs.Basics.{none-some, getElem-lt}
+use Rattle.theory.proofs.Blast.{to-from-list}
+use Rattle.theory.proofs.Bytes.{AllBytes}
+use Rattle.theory.proofs.Places.{tree-at}
+use Rattle.theory.proofs.Run.{ran}
+use Rattle.theory.proofs.Demand.{demand-3, answer-rule}
+use Rattle.theory.proofs.Distinct.{WellKept, kept-at, tree-0, tree-1, plain-well}
+use Rattle.theory.proofs.Bounds.{terms-fit, run-fits, place-depth}
+use Rattle.theory.proofs.Codes.{answer-codes-are}
+
+-- ---- a number of two bytes reads back
+pub word-exact : (n : ℕ) → n < 65536 → word (word-bytes n) ≡ n
+word-exact n h = omega arith
+
+-- an answer whose numbers fit into two bytes
+pub record Small (a : Answer) : Type 0 where
+  pub rule-small : a .rule < 65536
+  pub code-small : a .code < 65536
+  pub depth-small : a .depth < 65536
+
+abbrev AllSmall : List Answer → Type 0
+AllSmall answers = (k : ℕ) (a : Answer) → getElem? answers k ≡ some a → Small a
+
+decode-one : (a : Answer) (more : Bytes) → Small a → decode-answer (encode-answer a ++ more) ≡ a
+decode-one a more s =
+    same (word-exact (a .rule) (s .rule-small)) (word-exact (a .code) (s .code-small)) (word-exact (a .depth) (s .depth-small))
+  where
+    same : {r c d : ℕ} → r ≡ a .rule → c ≡ a .code → d ≡ a .depth → record { rule = r; code = c; depth = d } ≡ a
+    same p q z = rw (p, q, z)
+
+pub decode-encode : (answers : List Answer) (more : Bytes) → AllSmall answers → decode-answers (length answers) (encode-answers answers ++ more) ≡ answers
+decode-encode [] more h = refl
+decode-encode (a ∷ rest) more h =
+    ap₂ (λ (x : Answer) (xs : List Answer). x ∷ xs)
+    (ap decode-answer (append-assoc (encode-answer a) (encode-answers rest) more) ∙ decode-one a (encode-answers rest ++ more) (h 0 a refl))
+    (decode-encode rest more (λ k b e. h (suc k) b e))
+
+pub bytes-length : (answers : List Answer) → length (encode-answers answers) ≡ answer-bytes * length answers
+bytes-length [] = refl
+bytes-length (a ∷ rest) = omega (arith, bytes-length rest)
+
+-- ---- the numbers of an answer are small
+rule-small : (n : ℕ) (rule : Rule) → rule-at n ≡ some rule → n < 65536
+rule-small zero rule e = absurd (none-some rule e)
+rule-small (suc k) rule e = let l : k < 23 = getElem-lt rules k rule e in omega arith
+
+element-below : (b : ℕ) (ks : List ℕ) → T (all-below b ks) → (c : ℕ) → T (element c ks) → c < b
+element-below b [] h c t = absurd t
+element-below b (k ∷ ks) h c t = go (eqb c k) (eqb→eq c k) (element-below b ks (and-r (ltb k b) _ h) c) t
+  where
+    go : (x : Bool) → (T x → c ≡ k) → (T (element c ks) → c < b) → T (x || element c ks) → c < b
+    go true f g t = subst (λ (n : ℕ). n < b) (sym (f tt)) (ltb→lt k b (and-l (ltb k b) _ h))
+    go false f g t = g t
+
+-- the right side of a literal at place p stands before p
+second-depth : (list : Plain) (w : WellKept list) (p : ℕ) → p < length list → (ks : List ℕ) → T (all-below p ks)
+    → either 0 depth (getElem? (map (tree-at list) ks) 1) ≤ p
+second-depth list w p l [] b = omega arith
+second-depth list w p l (j ∷ []) b = omega arith
+second-depth list w p l (j ∷ k ∷ ks) b =
+    let h : k < p = ltb→lt k p (and-l (ltb k p) _ (and-r (ltb j p) _ b)) in
+    omega (arith, place-depth list w (suc k) k (omega arith) (omega arith))
+
+right-small : (list : Plain) (w : WellKept list) (p : ℕ) → p < length list → right-depth (tree-at list p) ≤ p
+right-small list w zero l = subst (λ (t : Term). right-depth t ≤ 0) (sym (tree-0 list w)) (omega arith)
+right-small list w (suc zero) l = subst (λ (t : Term). right-depth t ≤ 1) (sym (tree-1 list w)) (omega arith)
+right-small list w (suc (suc j)) l =
+    let p = suc (suc j) in
+    let k = kept-at list w p (omega arith) l in
+    subst (λ (t : Term). right-depth t ≤ p) (sym (k .made))
+    (subst (λ (ts : List Term). either 0 depth (getElem? ts 1) ≤ p) (sym (to-from-list (map (tree-at list) (k .args))))
+    (second-depth list w p l (k .args) (k .below)))
+
+judged-depth : (b : Bool) (d m : ℕ) → d ≤ m → cond b d 0 ≤ m
+judged-depth true d m h = h
+judged-depth false d m h = omega arith
+
+depth-small : (list : Plain) (w : WellKept list) (n : ℕ) (rule : Rule) (ks : List ℕ) → T (all-below (length list) ks)
+    → answer-to n rule (map (tree-at list) ks) .depth ≤ length list
+depth-small list w n rule [] b = omega arith
+depth-small list w n rule (p ∷ q ∷ ks) b = omega arith
+depth-small list w n rule (p ∷ []) b =
+    let l : p < length list = ltb→lt p (length list) (and-l (ltb p (length list)) _ b) in
+    let h = right-small list w p l in
+    judged-depth (accepted (verdict rule (tree-at list p))) (right-depth (tree-at list p)) (length list) (omega arith)
+
+module _ (job : Bytes) (bytes : AllBytes job) (work space : ℕ) where
+  pub answers-small : AllSmall (run job work space .answers)
+  answers-small k a e =
+      let h = ran job work space .exact-answers k a e in
+      let list = plain-after (h .m) job in
+      let l = h .m-done in
+      let w = plain-well job bytes work space (h .m) (omega arith) in
+      let n = terms-fit job work space (h .m) (omega arith) .numbers-fit in
+      let ts = map (tree-at list) (h .literals) in
+      let d : a .depth ≤ length list = subst (λ (b : Answer). b .depth ≤ length list) (sym (h .is)) (depth-small list w (h .number) (h .rule) (h .literals) (h .below)) in
+      record {
+        rule-small = subst (λ (m : ℕ). m < 65536) (sym (ap (λ (b : Answer). b .rule) (h .is) ∙ answer-rule (h .number) (h .rule) ts)) (rule-small (h .number) (h .rule) (h .rule-is));
+        code-small = element-below 65536 answer-codes tt (a .code) (answer-codes-are job work space k a e);
+        depth-small = omega arith;
+      }
+
+  -- the answers' memory reads back as the answers
+  pub answers-read : (old : Bytes) → let o = run job work space in decode-answers (length (o .answers)) (answers-after (o .answers) old) ≡ o .answers
+  answers-read old =
+      let o = run job work space in
+      decode-encode (o .answers) (drop (length (encode-answers (o .answers))) old) answers-small
+
+-- demand 3 of a call: the job's bytes, what the call returns, and the answers' memory after it
+pub demand-3-call : (job work old : Bytes) → AllBytes job → let c = call job work old in
+    Demand3 job (length work) (length old) (c .result .records) (decode-answers (c .result .answers) (c .answer-memory))
+demand-3-call job work old b =
+    let o = run job (length work) (length old) in
+    subst (Demand3 job (length work) (length old) (o .records)) (sym (answers-read job b (length work) (length old) old)) (demand-3 job (length work) (length old))
+
+-- the memory of the answers keeps its length, and past the last answer its bytes
+pub answers-kept : (job work old : Bytes) → let c = call job work old in let n = answer-bytes * c .result .answers in
+    (length (c .answer-memory) ≡ length old) × (drop n (c .answer-memory) ≡ drop n old)
+answers-kept job work old =
+    let o = run job (length work) (length old) in
+    let bs = encode-answers (o .answers) in
+    let l : length bs ≡ answer-bytes * length (o .answers) = bytes-length (o .answers) in
+    let f : answer-bytes * length (o .answers) ≤ length old = run-fits job (length work) (length old) .0 in
+    let d : length (drop (length bs) old) ≡ length old - length bs = length-drop (length bs) old in (
+      length-append bs (drop (length bs) old) ∙ omega arith,
+      drop-at bs (drop (length bs) old) (answer-bytes * length (o .answers)) l ∙ ap (λ (k : ℕ). drop k old) l,
+    )

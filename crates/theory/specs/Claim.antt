@@ -1,0 +1,68 @@
+-- Statements of document 01 that hold of every job beside the three demands; each is proved in proofs/.
+use mathlib.Core.Path.{_≡_}
+use mathlib.Core.Bool.{Bool, false, _||_}
+use mathlib.Core.List.{List, [], _∷_}
+use mathlib.Core.Option.{some}
+use Prim.Native.Nat.{ℕ, _+_, _*_, _<_, _≤_}
+use lib.Dec.{T, eqb}
+use lib.ListN.{length, getElem?}
+use Rattle.theory.specs.Kind.{Equals, BvBbTerm, BvNeg, BvAdd, BvULt, BvSLt}
+use Rattle.theory.specs.Term.{Term, Terms, node, nil, cons, two}
+use Rattle.theory.specs.Sort.{bv, sort-of}
+use Rattle.theory.specs.RuleTable.{Rule, by-ult, by-slt, by-add, by-neg}
+use Rattle.theory.specs.Record.{Bytes}
+use Rattle.theory.specs.Job.{Answer, answer-to, run}
+use Rattle.theory.specs.Tally.{Tally, max-tally, tally-of}
+
+-- ---- "Codes 2 to 9, 18 and 19 stop the job; 10 to 17 are answers", beside 0 and 1
+abbrev pub element : ℕ → List ℕ → Bool
+element n [] = false
+element n (k ∷ ks) = eqb n k || element n ks
+
+abbrev pub stop-codes : List ℕ
+stop-codes = 0 ∷ 2 ∷ 3 ∷ 4 ∷ 5 ∷ 6 ∷ 7 ∷ 8 ∷ 9 ∷ 18 ∷ 19 ∷ []
+
+abbrev pub answer-codes : List ℕ
+answer-codes = 0 ∷ 1 ∷ 10 ∷ 11 ∷ 12 ∷ 13 ∷ 14 ∷ 15 ∷ 16 ∷ 17 ∷ []
+
+abbrev pub StopCodes : Type 0
+StopCodes = (job : Bytes) (work space : ℕ) → T (element (run job work space .stop) stop-codes)
+
+abbrev pub AnswerCodes : Type 0
+AnswerCodes = (job : Bytes) (work space k : ℕ) (a : Answer) → getElem? (run job work space .answers) k ≡ some a → T (element (a .code) answer-codes)
+
+-- ---- "For rules 8, 9, 12 and two-argument 10, arguments not BvBbTerm, an accepted depth is at most 2 × n + 2"
+-- an argument of width n that is no BvBbTerm
+pub record NoBbTerm (t : Term) (n : ℕ) : Type 0 where
+  pub wide : sort-of t ≡ bv n
+  pub no-bb : (ts : Terms) → t ≡ node BvBbTerm ts → ⊥
+
+-- the left sides that it is said of
+pub data Bounded : Rule → Term → ℕ → Type 0 where
+  rule-8 : {x y : Term} {n : ℕ} → NoBbTerm x n → NoBbTerm y n → Bounded by-ult (two BvULt x y) n
+  rule-9 : {x y : Term} {n : ℕ} → NoBbTerm x n → NoBbTerm y n → Bounded by-slt (two BvSLt x y) n
+  rule-10 : {x y : Term} {n : ℕ} → NoBbTerm x n → NoBbTerm y n → Bounded by-add (two BvAdd x y) n
+  rule-12 : {x : Term} {n : ℕ} → NoBbTerm x n → Bounded by-neg (node BvNeg (cons x nil)) n
+
+abbrev pub DepthBound : Type 0
+DepthBound =
+    (number : ℕ) (rule : Rule) (left right : Term) (n : ℕ) → Bounded rule left n
+    → let a = answer-to number rule (two Equals left right ∷ []) in a .code ≡ 0 → a .depth ≤ 2 * n + 2
+
+-- ---- "Until one holds, the last three sum to all answers written, since the tally was zero, by the jobs it was lent for"
+-- none of the three holds at its largest number
+pub record Free (t : Tally) : Type 0 where
+  pub held-free : t .held < max-tally
+  pub form-free : t .form-only < max-tally
+  pub refused-free : t .refused < max-tally
+
+abbrev pub sum : Tally → ℕ
+sum t = t .held + t .form-only + t .refused
+
+-- all answers that the jobs wrote
+abbrev pub written : List (List Answer) → ℕ
+written [] = 0
+written (answers ∷ rest) = length answers + written rest
+
+abbrev pub TallySum : Type 0
+TallySum = (jobs : List (List Answer)) → Free (tally-of jobs) → sum (tally-of jobs) ≡ written jobs

@@ -1,0 +1,121 @@
+#!/usr/bin/env python3
+"""The jobs that crates/theory/proofs/Computed.antt computes, and what the original Rust answers to each.
+
+  computed_jobs.py write            writes Computed.antt from computed_jobs.txt
+  computed_jobs.py check            exit status 1 where Computed.antt is not what `write` would write
+  computed_jobs.py compare ORACLE   asks a program that runs the original (`ORACLE case FILE WORK ROOM`) about every job
+
+A line of computed_jobs.txt: name; work bytes; answer bytes; the job in hex; stop, records, terms; rule:code:depth of each answer."""
+import os, subprocess, sys, tempfile
+
+HERE = os.path.dirname(os.path.abspath(__file__))
+LIST = os.path.join(HERE, 'computed_jobs.txt')
+OUT = os.path.join(HERE, '..', 'crates', 'theory', 'proofs', 'Computed.antt')
+
+# What a run has to unfold to be computed, by the module of specs/ that defines it.
+UNFOLD = {
+    'Term': 'fold same-op same-term',
+    'Sort': 'guard',
+    'Depth': 'depth',
+    'Circuit': 'zip-with last clog2 ripple-carry-adder last-carry ult-from bitblast-ult slt-from slt gather add-rows '
+               'shift-add-multiplier shl-bits shl-stages shr-bits shr-stages shl lshr ashr divide-step '
+               'bitblast-udiv-urem-rec udiv urem',
+    'Bits': 'select get-term-bits fold-terms add-bits concat-bits',
+    'Rule': 'args-of literal-bits slices-verdict on-sides verdict',
+    'Record': 'cut shape-of read',
+    'Plain': 'feed',
+    'Codes': 'fault',
+    'Job': 'answers-to run-from run',
+}
+
+HEAD = '''-- Small jobs, computed: each comes to what the original Rust answers. Written by tools/computed_jobs.py from its list.
+use mathlib.Core.Path.{_≡_, refl}
+use mathlib.Core.List.{List, [], _∷_}
+use Prim.Native.Nat.{ℕ}
+%s
+-- a job, the lent bytes of work memory and answers, and what a run of it comes to
+record Case : Type 0 where
+  job : Bytes
+  work : ℕ
+  space : ℕ
+  outcome : Outcome
+
+abbrev answer : ℕ → ℕ → ℕ → Answer
+answer rule code depth = record { rule = rule; code = code; depth = depth }
+
+abbrev case : Bytes → ℕ → ℕ → ℕ → ℕ → List Answer → ℕ → Case
+case job work space stop done answers terms = record {
+  job = job;
+  work = work;
+  space = space;
+  outcome = record { stop = stop; records = done; answers = answers; terms = terms };
+}
+
+-- each comes to its outcome
+abbrev Computed : List Case → Type 0
+Computed [] = Unit {0}
+Computed (c ∷ cs) = (run (c .job) (c .work) (c .space) ≡ c .outcome) × Computed cs
+
+abbrev cases : List Case
+cases =
+'''
+
+
+def jobs():
+    for line in open(LIST, encoding='utf-8'):
+        line = line.strip()
+        if line and not line.startswith('#'):
+            name, work, room, text, numbers, answers = [part.strip() for part in line.split(';')]
+            stop, records, terms = map(int, numbers.split())
+            yield name, int(work), int(room), bytes.fromhex(text), stop, records, terms, [tuple(map(int, a.split(':'))) for a in answers.split()]
+
+
+def antt():
+    extra = {'Record': 'Bytes', 'Job': 'Answer Outcome'}
+    uses = ''.join('use Rattle.theory.specs.%s.{%s}\n' % (m, ', '.join((extra.get(m, '') + ' ' + names).split())) for m, names in UNFOLD.items())
+    out, count = [HEAD % uses], 0
+    for name, work, room, job, stop, records, terms, answers in jobs():
+        listed = lambda items: ' ∷ '.join(items + ['[]']) if items else '[]'
+        given = listed([str(b) for b in job])
+        got = listed(['answer %d %d %d' % a for a in answers])
+        out.append('    -- %s\n    %scase (%s) %d %d %d %d (%s) %d\n' % (name, '∷ ' if count else '', given, work, room, stop, records, got, terms))
+        count += 1
+    out.append('    ∷ []\n\npub computed : Computed cases\nunfolding %s\n' % ' '.join(UNFOLD.values()))
+    out.append('computed = %stt%s\n' % ('(refl, ' * count, ')' * count))
+    return ''.join(out)
+
+
+def compare(oracle):
+    wrong = total = 0
+    for name, work, room, job, stop, records, terms, answers in jobs():
+        with tempfile.NamedTemporaryFile(suffix='.job') as f:
+            f.write(job)
+            f.flush()
+            text = subprocess.run([oracle, 'case', f.name, str(work), str(room)], capture_output=True, text=True, check=True).stdout
+        got = dict((line + ' ').split(' ', 1) for line in text.splitlines())
+        data = bytes.fromhex(got.get('bytes', '').strip())
+        said = [tuple(int.from_bytes(data[k + 4 + 2 * i:k + 6 + 2 * i], 'little') for i in range(3)) for k in range(0, len(data), 10)]
+        total += 1
+        if (int(got['stop']), int(got['records']), int(got['terms']), said) != (stop, records, terms, answers):
+            wrong += 1
+            print('differs:', name, got, said)
+    print('%d jobs, %d differ' % (total, wrong))
+    return 1 if wrong or not total else 0
+
+
+def main():
+    if sys.argv[1:] == ['write']:
+        open(OUT, 'w', encoding='utf-8').write(antt())
+        return 0
+    if sys.argv[1:] == ['check']:
+        same = open(OUT, encoding='utf-8').read() == antt()
+        print('Computed.antt is %s the list' % ('as' if same else 'not as'))
+        return 0 if same else 1
+    if len(sys.argv) == 3 and sys.argv[1] == 'compare':
+        return compare(sys.argv[2])
+    print(__doc__)
+    return 2
+
+
+if __name__ == '__main__':
+    sys.exit(main())
