@@ -1,12 +1,12 @@
 -- Small facts on optional values, tests and lists, used all over.
 use mathlib.Core.Path.{_≡_, refl, sym, ap}
-use mathlib.Core.Bool.{Bool, true, false, not, cond, _||_}
+use mathlib.Core.Bool.{Bool, true, false, cond, _||_}
 use mathlib.Core.List.{List, [], _∷_, _++_, foldl}
 use mathlib.Core.Option.{Option, none, some}
-use Prim.Native.Nat.{ℕ, zero, suc, _<_, _≤_}
+use Prim.Native.Nat.{ℕ, zero, suc, _<_}
 use native.Mathlib.Omega.{arith}
 use lib.Dec.{T}
-use lib.ListN.{length, take, getD, getElem?, length-take}
+use lib.ListN.{length, take, getD, getElem?}
 use Rattle.theory.specs.Optional.{cons-some}
 
 -- ---- optional values
@@ -23,10 +23,6 @@ cons-some-is (some x) none xs e = absurd (none-some xs e)
 cons-some-is (some x) (some ys) xs e = (x, ys, refl, refl, sym (some-inj (x ∷ ys) xs e))
 
 -- ---- tests: the test passed, and what comes after it gave 0
-pub passed : (b : Bool) (k z : ℕ) → cond (not b) (suc k) z ≡ 0 → T b × (z ≡ 0)
-passed true k z e = (tt, e)
-passed false k z e = absurd (omega arith)
-
 pub taken : (b : Bool) (k z : ℕ) → cond b z (suc k) ≡ 0 → T b × (z ≡ 0)
 taken true k z e = (tt, e)
 taken false k z e = absurd (omega arith)
@@ -86,6 +82,3 @@ snoc-elim [] y zero a e f g = g refl (some-inj y a e)
 snoc-elim [] y (suc k) a e f g = absurd (none-some a e)
 snoc-elim (x ∷ xs) y zero a e f g = f e
 snoc-elim (x ∷ xs) y (suc k) a e f g = snoc-elim xs y k a e f (λ p q. g (ap suc p) q)
-
-pub take-shorter : {A : Type 0} (n : ℕ) (xs : List A) → length (take n xs) ≤ length xs
-take-shorter n xs = rw length-take (omega arith)

@@ -17,7 +17,7 @@ use Rattle.theory.specs.Value.{all-true, Assign, Val, truth, number, tru
 use Rattle.theory.specs.Gates.{Gates, bool-gates, gates-of, term-gates}
 use Rattle.theory.specs.Circuit.{ripple-carry-adder, negate, bitblast-ult, slt, zip-with, equality}
 use Rattle.theory.specs.Bits.{select, get-term-bits, bb}
-use Rattle.theory.proofs.Sound.{each-length, any, isTruth, isNumber, Each, none, more, values-have, bv-value}
+use Rattle.theory.proofs.Sound.{each-length, any, is-truth, is-number, Each, none, more, values-have, bv-value}
 use Rattle.theory.proofs.Natural.{Hom, adder-hom, ult-hom, slt-hom, equality-hom, negate-hom, zip-with-hom}
 
 abbrev pub vals : Assign → Gates Val
@@ -89,12 +89,12 @@ bit-mod (suc (suc r)) h = absurd (omega arith)
 half-of : (x i : ℕ) → x / 2 ^ suc i ≡ x / 2 ^ i / 2
 half-of x i = rw pow-suc (sym (div-div-eq-div-mul x (2 ^ i) 2))
 
-pub toNat-bitsFrom : (x i k : ℕ) → to-number (bits-from x i k) ≡ x / 2 ^ i % 2 ^ k
+pub to-number-bits-from : (x i k : ℕ) → to-number (bits-from x i k) ≡ x / 2 ^ i % 2 ^ k
 unfolding bits-from
-toNat-bitsFrom x i zero = sym (mod-one (x / 2 ^ i))
-toNat-bitsFrom x i (suc k) =
+to-number-bits-from x i zero = sym (mod-one (x / 2 ^ i))
+to-number-bits-from x i (suc k) =
     let ih : to-number (bits-from x (suc i) k) ≡ x / 2 ^ i / 2 % 2 ^ k
-    = toNat-bitsFrom x (suc i) k ∙ ap (λ (z : ℕ). z % 2 ^ k) (half-of x i) in
+    = to-number-bits-from x (suc i) k ∙ ap (λ (z : ℕ). z % 2 ^ k) (half-of x i) in
     let m : x / 2 ^ i % 2 ^ suc k ≡ (x / 2 ^ i / 2 % 2 ^ k) * 2 + x / 2 ^ i % 2
     = rw pow-suc (mod-mul (x / 2 ^ i) (pow-pos k) (omega arith)) in
     omega (arith, bit-mod (x / 2 ^ i % 2) (omega arith))
@@ -110,7 +110,7 @@ select-reads ρ t i zero = refl
 select-reads ρ t i (suc k) = ap (λ (vs : List Val). truth (bit-at i (number-of (value ρ t))) ∷ vs) (select-reads ρ t (suc i) k)
 
 whole : (x n : ℕ) → x < 2 ^ n → to-number (bits-from x 0 n) ≡ x
-whole x n h = toNat-bitsFrom x 0 n ∙ ap (λ (z : ℕ). z % 2 ^ n) (div-one x) ∙ mod-eq-of-lt h
+whole x n h = to-number-bits-from x 0 n ∙ ap (λ (z : ℕ). z % 2 ^ n) (div-one x) ∙ mod-eq-of-lt h
 
 pub to-from-list : (ts : List Term) → to-list (from-list ts) ≡ ts
 to-from-list [] = refl
@@ -158,9 +158,9 @@ select-bits ρ t n s e =
 
 all-truth : {vs : List Val} {ss : List Sort} → Each vs ss → T (all-are bool ss) → vs ≡ map truth (map truth-of vs)
 all-truth none a = refl
-all-truth (more {v = v} {vs = vs} isTruth r) a = ap (λ (us : List Val). v ∷ us) (all-truth r a)
+all-truth (more {v = v} {vs = vs} is-truth r) a = ap (λ (us : List Val). v ∷ us) (all-truth r a)
 all-truth (more any r) a = absurd a
-all-truth (more (isNumber h) r) a = absurd a
+all-truth (more (is-number h) r) a = absurd a
 
 bb-bits-of : (ρ : Assign) (ts : Terms) (n : ℕ) → sort-of (node BvBbTerm ts) ≡ bv n → Bits ρ (node BvBbTerm ts) n
 unfolding fold

@@ -196,6 +196,30 @@ cases =
     ∷ case ([]) 0 0 0 0 ([]) 2
     -- document 01, the job of bbcheck's example
     ∷ case (6 ∷ 0 ∷ 11 ∷ 0 ∷ 1 ∷ 0 ∷ 0 ∷ 0 ∷ 6 ∷ 0 ∷ 11 ∷ 0 ∷ 1 ∷ 0 ∷ 1 ∷ 0 ∷ 6 ∷ 0 ∷ 30 ∷ 0 ∷ 0 ∷ 0 ∷ 2 ∷ 0 ∷ 6 ∷ 0 ∷ 30 ∷ 0 ∷ 0 ∷ 0 ∷ 3 ∷ 0 ∷ 4 ∷ 0 ∷ 20 ∷ 0 ∷ 5 ∷ 0 ∷ 6 ∷ 0 ∷ 21 ∷ 0 ∷ 4 ∷ 0 ∷ 6 ∷ 0 ∷ 6 ∷ 0 ∷ 50 ∷ 0 ∷ 2 ∷ 0 ∷ 3 ∷ 0 ∷ 6 ∷ 0 ∷ 24 ∷ 0 ∷ 8 ∷ 0 ∷ 7 ∷ 0 ∷ 6 ∷ 0 ∷ 100 ∷ 0 ∷ 9 ∷ 0 ∷ 9 ∷ 0 ∷ []) 65536 65536 0 9 (answer 9 0 2 ∷ []) 10
+    -- difference: rule 20, bvashr at width 1, form only
+    ∷ case (6 ∷ 0 ∷ 11 ∷ 0 ∷ 1 ∷ 0 ∷ 0 ∷ 0 ∷ 6 ∷ 0 ∷ 11 ∷ 0 ∷ 1 ∷ 0 ∷ 1 ∷ 0 ∷ 6 ∷ 0 ∷ 30 ∷ 0 ∷ 0 ∷ 0 ∷ 2 ∷ 0 ∷ 6 ∷ 0 ∷ 30 ∷ 0 ∷ 0 ∷ 0 ∷ 3 ∷ 0 ∷ 12 ∷ 0 ∷ 12 ∷ 0 ∷ 1 ∷ 0 ∷ 1 ∷ 0 ∷ 0 ∷ 0 ∷ 0 ∷ 0 ∷ 0 ∷ 0 ∷ 6 ∷ 0 ∷ 30 ∷ 0 ∷ 0 ∷ 0 ∷ 6 ∷ 0 ∷ 4 ∷ 0 ∷ 20 ∷ 0 ∷ 5 ∷ 0 ∷ 6 ∷ 0 ∷ 21 ∷ 0 ∷ 8 ∷ 0 ∷ 7 ∷ 0 ∷ 8 ∷ 0 ∷ 25 ∷ 0 ∷ 9 ∷ 0 ∷ 4 ∷ 0 ∷ 1 ∷ 0 ∷ 4 ∷ 0 ∷ 31 ∷ 0 ∷ 10 ∷ 0 ∷ 6 ∷ 0 ∷ 53 ∷ 0 ∷ 2 ∷ 0 ∷ 3 ∷ 0 ∷ 6 ∷ 0 ∷ 24 ∷ 0 ∷ 12 ∷ 0 ∷ 11 ∷ 0 ∷ 6 ∷ 0 ∷ 100 ∷ 0 ∷ 20 ∷ 0 ∷ 13 ∷ 0 ∷ []) 400 10 0 13 (answer 20 1 3 ∷ []) 14
+    -- difference: rule 21, bvudiv at width 1, form only
+    ∷ case (6 ∷ 0 ∷ 11 ∷ 0 ∷ 1 ∷ 0 ∷ 0 ∷ 0 ∷ 6 ∷ 0 ∷ 11 ∷ 0 ∷ 1 ∷ 0 ∷ 1 ∷ 0 ∷ 6 ∷ 0 ∷ 30 ∷ 0 ∷ 0 ∷ 0 ∷ 2 ∷ 0 ∷ 6 ∷ 0 ∷ 30 ∷ 0 ∷ 0 ∷ 0 ∷ 3 ∷ 0 ∷ 6 ∷ 0 ∷ 24 ∷ 0 ∷ 4 ∷ 0 ∷ 0 ∷ 0 ∷ 8 ∷ 0 ∷ 25 ∷ 0 ∷ 6 ∷ 0 ∷ 0 ∷ 0 ∷ 1 ∷ 0 ∷ 6 ∷ 0 ∷ 23 ∷ 0 ∷ 1 ∷ 0 ∷ 1 ∷ 0 ∷ 6 ∷ 0 ∷ 23 ∷ 0 ∷ 8 ∷ 0 ∷ 7 ∷ 0 ∷ 4 ∷ 0 ∷ 20 ∷ 0 ∷ 0 ∷ 0 ∷ 8 ∷ 0 ∷ 25 ∷ 0 ∷ 10 ∷ 0 ∷ 1 ∷ 0 ∷ 0 ∷ 0 ∷ 8 ∷ 0 ∷ 25 ∷ 0 ∷ 10 ∷ 0 ∷ 9 ∷ 0 ∷ 0 ∷ 0 ∷ 8 ∷ 0 ∷ 25 ∷ 0 ∷ 10 ∷ 0 ∷ 1 ∷ 0 ∷ 11 ∷ 0 ∷ 8 ∷ 0 ∷ 25 ∷ 0 ∷ 10 ∷ 0 ∷ 4 ∷ 0 ∷ 12 ∷ 0 ∷ 6 ∷ 0 ∷ 24 ∷ 0 ∷ 5 ∷ 0 ∷ 1 ∷ 0 ∷ 4 ∷ 0 ∷ 21 ∷ 0 ∷ 15 ∷ 0 ∷ 8 ∷ 0 ∷ 25 ∷ 0 ∷ 16 ∷ 0 ∷ 0 ∷ 0 ∷ 13 ∷ 0 ∷ 4 ∷ 0 ∷ 31 ∷ 0 ∷ 17 ∷ 0 ∷ 6 ∷ 0 ∷ 54 ∷ 0 ∷ 2 ∷ 0 ∷ 3 ∷ 0 ∷ 6 ∷ 0 ∷ 24 ∷ 0 ∷ 19 ∷ 0 ∷ 18 ∷ 0 ∷ 6 ∷ 0 ∷ 100 ∷ 0 ∷ 21 ∷ 0 ∷ 20 ∷ 0 ∷ []) 400 10 0 20 (answer 21 1 4 ∷ []) 21
+    -- difference: rule 22, bvurem at width 1, form only
+    ∷ case (6 ∷ 0 ∷ 11 ∷ 0 ∷ 1 ∷ 0 ∷ 0 ∷ 0 ∷ 6 ∷ 0 ∷ 11 ∷ 0 ∷ 1 ∷ 0 ∷ 1 ∷ 0 ∷ 6 ∷ 0 ∷ 30 ∷ 0 ∷ 0 ∷ 0 ∷ 2 ∷ 0 ∷ 6 ∷ 0 ∷ 30 ∷ 0 ∷ 0 ∷ 0 ∷ 3 ∷ 0 ∷ 6 ∷ 0 ∷ 24 ∷ 0 ∷ 4 ∷ 0 ∷ 0 ∷ 0 ∷ 8 ∷ 0 ∷ 25 ∷ 0 ∷ 6 ∷ 0 ∷ 0 ∷ 0 ∷ 1 ∷ 0 ∷ 6 ∷ 0 ∷ 23 ∷ 0 ∷ 1 ∷ 0 ∷ 1 ∷ 0 ∷ 6 ∷ 0 ∷ 23 ∷ 0 ∷ 8 ∷ 0 ∷ 7 ∷ 0 ∷ 4 ∷ 0 ∷ 20 ∷ 0 ∷ 0 ∷ 0 ∷ 8 ∷ 0 ∷ 25 ∷ 0 ∷ 10 ∷ 0 ∷ 1 ∷ 0 ∷ 0 ∷ 0 ∷ 8 ∷ 0 ∷ 25 ∷ 0 ∷ 10 ∷ 0 ∷ 9 ∷ 0 ∷ 0 ∷ 0 ∷ 8 ∷ 0 ∷ 25 ∷ 0 ∷ 10 ∷ 0 ∷ 1 ∷ 0 ∷ 11 ∷ 0 ∷ 8 ∷ 0 ∷ 25 ∷ 0 ∷ 10 ∷ 0 ∷ 4 ∷ 0 ∷ 12 ∷ 0 ∷ 6 ∷ 0 ∷ 24 ∷ 0 ∷ 5 ∷ 0 ∷ 1 ∷ 0 ∷ 4 ∷ 0 ∷ 21 ∷ 0 ∷ 15 ∷ 0 ∷ 8 ∷ 0 ∷ 25 ∷ 0 ∷ 16 ∷ 0 ∷ 4 ∷ 0 ∷ 14 ∷ 0 ∷ 4 ∷ 0 ∷ 31 ∷ 0 ∷ 17 ∷ 0 ∷ 6 ∷ 0 ∷ 55 ∷ 0 ∷ 2 ∷ 0 ∷ 3 ∷ 0 ∷ 6 ∷ 0 ∷ 24 ∷ 0 ∷ 19 ∷ 0 ∷ 18 ∷ 0 ∷ 6 ∷ 0 ∷ 100 ∷ 0 ∷ 22 ∷ 0 ∷ 20 ∷ 0 ∷ []) 400 10 0 20 (answer 22 1 6 ∷ []) 21
+    -- difference: rule 13 on Bools, where the original panics
+    ∷ case (6 ∷ 0 ∷ 24 ∷ 0 ∷ 0 ∷ 0 ∷ 0 ∷ 0 ∷ 6 ∷ 0 ∷ 24 ∷ 0 ∷ 2 ∷ 0 ∷ 0 ∷ 0 ∷ 6 ∷ 0 ∷ 100 ∷ 0 ∷ 13 ∷ 0 ∷ 3 ∷ 0 ∷ []) 400 10 0 3 (answer 13 12 0 ∷ []) 4
+    -- reading: rule 1 names its right side, so (= #b0 #b0) is of the wrong form
+    ∷ case (12 ∷ 0 ∷ 12 ∷ 0 ∷ 1 ∷ 0 ∷ 0 ∷ 0 ∷ 0 ∷ 0 ∷ 0 ∷ 0 ∷ 0 ∷ 0 ∷ 6 ∷ 0 ∷ 24 ∷ 0 ∷ 2 ∷ 0 ∷ 2 ∷ 0 ∷ 6 ∷ 0 ∷ 100 ∷ 0 ∷ 1 ∷ 0 ∷ 3 ∷ 0 ∷ []) 400 10 0 3 (answer 1 11 0 ∷ []) 4
+    -- reading: rule 16 names its right side, (= (concat x) x)
+    ∷ case (6 ∷ 0 ∷ 11 ∷ 0 ∷ 1 ∷ 0 ∷ 0 ∷ 0 ∷ 4 ∷ 0 ∷ 56 ∷ 0 ∷ 2 ∷ 0 ∷ 6 ∷ 0 ∷ 24 ∷ 0 ∷ 3 ∷ 0 ∷ 2 ∷ 0 ∷ 6 ∷ 0 ∷ 100 ∷ 0 ∷ 16 ∷ 0 ∷ 4 ∷ 0 ∷ []) 400 10 0 4 (answer 16 11 0 ∷ []) 5
+    -- reading: rule 15 names its right side, (= ((_ extract 0 0) x) x)
+    ∷ case (6 ∷ 0 ∷ 11 ∷ 0 ∷ 1 ∷ 0 ∷ 0 ∷ 0 ∷ 8 ∷ 0 ∷ 57 ∷ 0 ∷ 0 ∷ 0 ∷ 0 ∷ 0 ∷ 2 ∷ 0 ∷ 6 ∷ 0 ∷ 24 ∷ 0 ∷ 3 ∷ 0 ∷ 2 ∷ 0 ∷ 6 ∷ 0 ∷ 100 ∷ 0 ∷ 15 ∷ 0 ∷ 4 ∷ 0 ∷ []) 400 10 0 4 (answer 15 11 0 ∷ []) 5
+    -- reading: rule 13 on a literal whose left side is no Equals
+    ∷ case (6 ∷ 0 ∷ 24 ∷ 0 ∷ 0 ∷ 0 ∷ 0 ∷ 0 ∷ 6 ∷ 0 ∷ 100 ∷ 0 ∷ 13 ∷ 0 ∷ 2 ∷ 0 ∷ []) 400 10 0 2 (answer 13 11 0 ∷ []) 3
+    -- reading: rule 23 takes bvand of two arguments only
+    ∷ case (6 ∷ 0 ∷ 11 ∷ 0 ∷ 1 ∷ 0 ∷ 0 ∷ 0 ∷ 4 ∷ 0 ∷ 42 ∷ 0 ∷ 2 ∷ 0 ∷ 6 ∷ 0 ∷ 24 ∷ 0 ∷ 3 ∷ 0 ∷ 2 ∷ 0 ∷ 6 ∷ 0 ∷ 100 ∷ 0 ∷ 23 ∷ 0 ∷ 4 ∷ 0 ∷ []) 400 10 0 4 (answer 23 11 0 ∷ []) 5
+    -- reading: bvmul of one argument is the argument
+    ∷ case (6 ∷ 0 ∷ 11 ∷ 0 ∷ 1 ∷ 0 ∷ 0 ∷ 0 ∷ 4 ∷ 0 ∷ 46 ∷ 0 ∷ 2 ∷ 0 ∷ 6 ∷ 0 ∷ 24 ∷ 0 ∷ 3 ∷ 0 ∷ 2 ∷ 0 ∷ 6 ∷ 0 ∷ 100 ∷ 0 ∷ 11 ∷ 0 ∷ 4 ∷ 0 ∷ []) 400 10 0 4 (answer 11 0 0 ∷ []) 5
+    -- reading: bvadd of one argument is its bits
+    ∷ case (6 ∷ 0 ∷ 11 ∷ 0 ∷ 1 ∷ 0 ∷ 0 ∷ 0 ∷ 4 ∷ 0 ∷ 45 ∷ 0 ∷ 2 ∷ 0 ∷ 6 ∷ 0 ∷ 24 ∷ 0 ∷ 3 ∷ 0 ∷ 2 ∷ 0 ∷ 6 ∷ 0 ∷ 100 ∷ 0 ∷ 10 ∷ 0 ∷ 4 ∷ 0 ∷ []) 400 10 0 4 (answer 10 16 0 ∷ []) 5
+    -- reading: a repeated record needs no memory and counts as done
+    ∷ case (4 ∷ 0 ∷ 10 ∷ 0 ∷ 7 ∷ 0 ∷ 4 ∷ 0 ∷ 10 ∷ 0 ∷ 7 ∷ 0 ∷ []) 8 0 0 2 ([]) 3
     -- generated: case 00743 of seed 7
     ∷ case (4 ∷ 0 ∷ 31 ∷ 0 ∷ 0 ∷ 0 ∷ 10 ∷ 0 ∷ 100 ∷ 0 ∷ 9 ∷ 0 ∷ 2 ∷ 0 ∷ 2 ∷ 0 ∷ 2 ∷ 0 ∷ 8 ∷ 0 ∷ 100 ∷ 0 ∷ 11 ∷ 0 ∷ 2 ∷ 0 ∷ 2 ∷ 0 ∷ 4 ∷ 0 ∷ 101 ∷ []) 93 33 3 3 (answer 9 10 0 ∷ answer 11 10 0 ∷ []) 3
     -- generated: case 01372 of seed 7
@@ -338,4 +362,4 @@ cases =
 
 pub computed : Computed cases
 unfolding fold same-op same-term guard depth zip-with last clog2 ripple-carry-adder last-carry ult-from bitblast-ult slt-from slt gather add-rows shift-add-multiplier shl-bits shl-stages shr-bits shr-stages shl lshr ashr divide-step bitblast-udiv-urem-rec udiv urem select get-term-bits fold-terms add-bits concat-bits args-of literal-bits slices-verdict on-sides verdict cut shape-of read feed fault answers-to run-from run
-computed = (refl, (refl, (refl, (refl, (refl, (refl, (refl, (refl, (refl, (refl, (refl, (refl, (refl, (refl, (refl, (refl, (refl, (refl, (refl, (refl, (refl, (refl, (refl, (refl, (refl, (refl, (refl, (refl, (refl, (refl, (refl, (refl, (refl, (refl, (refl, (refl, (refl, (refl, (refl, (refl, (refl, (refl, (refl, (refl, (refl, (refl, (refl, (refl, (refl, (refl, (refl, (refl, (refl, (refl, (refl, (refl, (refl, (refl, (refl, (refl, (refl, (refl, (refl, (refl, (refl, (refl, (refl, (refl, (refl, (refl, (refl, (refl, (refl, (refl, (refl, (refl, (refl, (refl, (refl, (refl, (refl, (refl, (refl, (refl, (refl, (refl, (refl, (refl, (refl, (refl, (refl, (refl, (refl, (refl, (refl, (refl, (refl, (refl, (refl, (refl, (refl, (refl, (refl, (refl, (refl, (refl, (refl, (refl, (refl, (refl, (refl, (refl, (refl, (refl, (refl, (refl, (refl, (refl, (refl, (refl, (refl, (refl, (refl, (refl, (refl, (refl, (refl, (refl, (refl, (refl, (refl, (refl, (refl, (refl, (refl, (refl, (refl, (refl, (refl, (refl, (refl, (refl, (refl, (refl, (refl, (refl, (refl, (refl, tt))))))))))))))))))))))))))))))))))))))))))))))))))))))))))))))))))))))))))))))))))))))))))))))))))))))))))))))))))))))))))))))))))))))))))))))))))))
+computed = (refl, (refl, (refl, (refl, (refl, (refl, (refl, (refl, (refl, (refl, (refl, (refl, (refl, (refl, (refl, (refl, (refl, (refl, (refl, (refl, (refl, (refl, (refl, (refl, (refl, (refl, (refl, (refl, (refl, (refl, (refl, (refl, (refl, (refl, (refl, (refl, (refl, (refl, (refl, (refl, (refl, (refl, (refl, (refl, (refl, (refl, (refl, (refl, (refl, (refl, (refl, (refl, (refl, (refl, (refl, (refl, (refl, (refl, (refl, (refl, (refl, (refl, (refl, (refl, (refl, (refl, (refl, (refl, (refl, (refl, (refl, (refl, (refl, (refl, (refl, (refl, (refl, (refl, (refl, (refl, (refl, (refl, (refl, (refl, (refl, (refl, (refl, (refl, (refl, (refl, (refl, (refl, (refl, (refl, (refl, (refl, (refl, (refl, (refl, (refl, (refl, (refl, (refl, (refl, (refl, (refl, (refl, (refl, (refl, (refl, (refl, (refl, (refl, (refl, (refl, (refl, (refl, (refl, (refl, (refl, (refl, (refl, (refl, (refl, (refl, (refl, (refl, (refl, (refl, (refl, (refl, (refl, (refl, (refl, (refl, (refl, (refl, (refl, (refl, (refl, (refl, (refl, (refl, (refl, (refl, (refl, (refl, (refl, (refl, (refl, (refl, (refl, (refl, (refl, (refl, (refl, (refl, (refl, (refl, (refl, tt))))))))))))))))))))))))))))))))))))))))))))))))))))))))))))))))))))))))))))))))))))))))))))))))))))))))))))))))))))))))))))))))))))))))))))))))))))))))))))))))

@@ -15,9 +15,9 @@ map-each : {A B : Type 0} (h : A → B) (f : A → A) (g : B → B) → ((x : A)
 map-each h f g e [] = refl
 map-each {B = B} h f g e (x ∷ xs) = ap₂ (λ (y : B) (ys : List B). y ∷ ys) (e x) (map-each h f g e xs)
 
-dropTop-map : {A B : Type 0} (h : A → B) (xs : List A) → map h (drop-top xs) ≡ drop-top (map h xs)
-dropTop-map h [] = refl
-dropTop-map h (x ∷ xs) = map-take h (length xs) (x ∷ xs) ∙ ap (λ (k : ℕ). take k (h x ∷ map h xs)) (sym (length-map xs h))
+drop-top-map : {A B : Type 0} (h : A → B) (xs : List A) → map h (drop-top xs) ≡ drop-top (map h xs)
+drop-top-map h [] = refl
+drop-top-map h (x ∷ xs) = map-take h (length xs) (x ∷ xs) ∙ ap (λ (k : ℕ). take k (h x ∷ map h xs)) (sym (length-map xs h))
 
 apart : true ≡ false → ⊥
 apart e = let z : _≡_ {A = ℕ} 0 1 = cc in omega arith
@@ -47,8 +47,8 @@ module _ {A B : Type 0} {G : Gates A} {H : Gates B} {h : A → B} (M : Hom G H h
       adder-hom M (G .ite-gate (G .eq-gate x (G .true-gate)) (G .true-gate) (G .false-gate)) (G .false-gate ∷ drop-top r) (falses G (x ∷ drop-top r))
       ∙ ap (λ (c : B). ripple-carry-adder H c (h (G .false-gate) ∷ map h (drop-top r)) (map h (falses G (x ∷ drop-top r)))) odd
       ∙ ap₂ (ripple-carry-adder H (H .ite-gate (H .eq-gate (h x) (H .true-gate)) (H .true-gate) (H .false-gate)))
-      (ap₂ (λ (y : B) (ys : List B). y ∷ ys) (M .false-hom) (dropTop-map h r))
-      (falses-hom (x ∷ drop-top r) ∙ ap (λ (ys : List B). falses H (h x ∷ ys)) (dropTop-map h r))
+      (ap₂ (λ (y : B) (ys : List B). y ∷ ys) (M .false-hom) (drop-top-map h r))
+      (falses-hom (x ∷ drop-top r) ∙ ap (λ (ys : List B). falses H (h x ∷ ys)) (drop-top-map h r))
     where
       odd : h (G .ite-gate (G .eq-gate x (G .true-gate)) (G .true-gate) (G .false-gate)) ≡ H .ite-gate (H .eq-gate (h x) (H .true-gate)) (H .true-gate) (H .false-gate)
       odd = rw (M .ite-hom, M .eq-hom, M .true-hom, M .false-hom)
@@ -92,7 +92,7 @@ module _ {A B : Type 0} {G : Gates A} {H : Gates B} {h : A → B} (M : Hom G H h
           ≡ H .ite-gate (no-carry H (next-remainder H (h x) (map h (qr .1))) (map h ys)) (H .false-gate) (H .true-gate) ∷ drop-top (map h (qr .0))
       quotient-hom =
           ap₂ (λ (y : B) (l : List B). y ∷ l)
-          (M .ite-hom sign (G .false-gate) (G .true-gate) ∙ rw (M .false-hom, M .true-hom, sign-hom)) (dropTop-map h (qr .0))
+          (M .ite-hom sign (G .false-gate) (G .true-gate) ∙ rw (M .false-hom, M .true-hom, sign-hom)) (drop-top-map h (qr .0))
 
       remainder-hom : map h remainder
           ≡ map (λ b. H .ite-gate (no-carry H (next-remainder H (h x) (map h (qr .1))) (map h ys)) b (H .true-gate)) (next-remainder H (h x) (map h (qr .1)))

@@ -89,19 +89,19 @@ mod-digit b k n h =
     let low : (b + 2 * n) % 2 ≡ b = omega arith in
     rw (pow-suc, mod-mul (b + 2 * n) {m = 2 ^ k} {c = 2} (pow-pos k) (omega arith), high, low) (omega arith)
 
-toNat-row : (y : Bool) (xs : List Bool) → to-number (partial-products bool-gates y xs) ≡ bit y * to-number xs
-toNat-row true [] = refl
-toNat-row false [] = refl
-toNat-row true (x ∷ xs) = omega (arith, toNat-row true xs)
-toNat-row false (x ∷ xs) = omega (arith, toNat-row false xs)
+to-number-row : (y : Bool) (xs : List Bool) → to-number (partial-products bool-gates y xs) ≡ bit y * to-number xs
+to-number-row true [] = refl
+to-number-row false [] = refl
+to-number-row true (x ∷ xs) = omega (arith, to-number-row true xs)
+to-number-row false (x ∷ xs) = omega (arith, to-number-row false xs)
 
-toNat-adder : (c : Bool) (ps qs : List Bool) → length ps ≤ length qs
+to-number-adder : (c : Bool) (ps qs : List Bool) → length ps ≤ length qs
     → to-number (ripple-carry-adder bool-gates c ps qs) ≡ (bit c + (to-number ps + to-number qs)) % 2 ^ length ps
 unfolding ripple-carry-adder
-toNat-adder c [] qs h = omega arith
-toNat-adder c (a ∷ ps) [] h = absurd (not-suc-le-zero h)
-toNat-adder c (a ∷ ps) (b ∷ qs) h =
-    ap (λ (n : ℕ). bit s + 2 * n) (toNat-adder (next-carry bool-gates a b c) ps qs (le-of-suc-le-suc h))
+to-number-adder c [] qs h = omega arith
+to-number-adder c (a ∷ ps) [] h = absurd (not-suc-le-zero h)
+to-number-adder c (a ∷ ps) (b ∷ qs) h =
+    ap (λ (n : ℕ). bit s + 2 * n) (to-number-adder (next-carry bool-gates a b c) ps qs (le-of-suc-le-suc h))
     ∙ sym (mod-digit (bit s) (length ps) (bit d + (to-number ps + to-number qs)) (bit-lt s))
     ∙ ap (λ (n : ℕ). n % 2 ^ suc (length ps)) (omega (arith, full-adder a b c))
   where
@@ -111,13 +111,13 @@ toNat-adder c (a ∷ ps) (b ∷ qs) h =
     d : Bool
     d = next-carry bool-gates a b c
 
-toNat-rows : (xs acc ys : List Bool) → length acc ≤ length xs
+to-number-rows : (xs acc ys : List Bool) → length acc ≤ length xs
     → to-number (add-rows bool-gates xs acc ys) ≡ (to-number acc + 2 * (to-number xs * to-number ys)) % 2 ^ length acc
 unfolding add-rows
-toNat-rows xs acc [] h = sym (ap (λ (n : ℕ). n % 2 ^ length acc) (omega arith) ∙ mod-eq-of-lt (to-number-lt acc))
-toNat-rows xs [] (y ∷ ys) h = omega arith
-toNat-rows xs (a ∷ acc) (y ∷ ys) h =
-    ap (λ (n : ℕ). bit a + 2 * n) (toNat-rows xs (ripple-carry-adder bool-gates false acc (partial-products bool-gates y xs)) ys (omega (arith, len)) ∙ inner)
+to-number-rows xs acc [] h = sym (ap (λ (n : ℕ). n % 2 ^ length acc) (omega arith) ∙ mod-eq-of-lt (to-number-lt acc))
+to-number-rows xs [] (y ∷ ys) h = omega arith
+to-number-rows xs (a ∷ acc) (y ∷ ys) h =
+    ap (λ (n : ℕ). bit a + 2 * n) (to-number-rows xs (ripple-carry-adder bool-gates false acc (partial-products bool-gates y xs)) ys (omega (arith, len)) ∙ inner)
     ∙ sym (mod-digit (bit a) (length acc) (to-number acc + bit y * to-number xs + 2 * (to-number xs * to-number ys)) (bit-lt a))
     ∙ ap (λ (n : ℕ). n % 2 ^ suc (length acc)) (omega arith)
   where
@@ -129,19 +129,19 @@ toNat-rows xs (a ∷ acc) (y ∷ ys) h =
 
     value-of : to-number next ≡ (to-number acc + bit y * to-number xs) % 2 ^ length acc
     value-of =
-        toNat-adder false acc (partial-products bool-gates y xs) (rw length-row (omega arith))
-        ∙ ap (λ (n : ℕ). n % 2 ^ length acc) (omega (arith, toNat-row y xs))
+        to-number-adder false acc (partial-products bool-gates y xs) (rw length-row (omega arith))
+        ∙ ap (λ (n : ℕ). n % 2 ^ length acc) (omega (arith, to-number-row y xs))
 
     inner : (to-number next + 2 * (to-number xs * to-number ys)) % 2 ^ length next ≡ (to-number acc + bit y * to-number xs + 2 * (to-number xs * to-number ys)) % 2 ^ length acc
     inner = rw (len, value-of) (mod-add-mod (to-number acc + bit y * to-number xs) (2 ^ length acc) (2 * (to-number xs * to-number ys)))
 
-pub toNat-multiplier : (xs ys : List Bool) → to-number (shift-add-multiplier bool-gates xs ys) ≡ (to-number xs * to-number ys) % 2 ^ length xs
+pub to-number-multiplier : (xs ys : List Bool) → to-number (shift-add-multiplier bool-gates xs ys) ≡ (to-number xs * to-number ys) % 2 ^ length xs
 unfolding shift-add-multiplier
-toNat-multiplier xs [] = rw (mul-zero, zero-mod)
-toNat-multiplier xs (y ∷ ys) =
-    toNat-rows xs (partial-products bool-gates y xs) ys (le-of-eq (length-row bool-gates y xs))
+to-number-multiplier xs [] = rw (mul-zero, zero-mod)
+to-number-multiplier xs (y ∷ ys) =
+    to-number-rows xs (partial-products bool-gates y xs) ys (le-of-eq (length-row bool-gates y xs))
     ∙ ap (λ (n : ℕ). (to-number (partial-products bool-gates y xs) + 2 * (to-number xs * to-number ys)) % 2 ^ n) (length-row bool-gates y xs)
-    ∙ ap (λ (n : ℕ). n % 2 ^ length xs) (omega (arith, toNat-row y xs))
+    ∙ ap (λ (n : ℕ). n % 2 ^ length xs) (omega (arith, to-number-row y xs))
 
 -- ---- rule 11
 multiplier-reads : (ρ : Assign) (xs ys : List Term) (cs bs : List Bool) → map (value ρ) xs ≡ map truth cs → map (value ρ) ys ≡ map truth bs
@@ -157,7 +157,7 @@ product-right ρ n a t ba bt =
     let l : length ds ≡ n = length-multiplier bool-gates (ba .bits) (bt .bits) (ba .size ∙ sym (bt .size)) ∙ ba .size in
     let r = multiplier-reads ρ (get-term-bits a) (get-term-bits t) (ba .bits) (bt .bits) (ba .reads) (bt .reads) in
     let m : to-number ds ≡ (to-number (ba .bits) * to-number (bt .bits)) % 2 ^ n
-    = toNat-multiplier (ba .bits) (bt .bits) ∙ ap (λ (k : ℕ). (to-number (ba .bits) * to-number (bt .bits)) % 2 ^ k) (ba .size) in (
+    = to-number-multiplier (ba .bits) (bt .bits) ∙ ap (λ (k : ℕ). (to-number (ba .bits) * to-number (bt .bits)) % 2 ^ k) (ba .size) in (
       subst (λ (k : ℕ). Bits ρ (product a t) k) l (bb-bits ρ (shift-add-multiplier term-gates (get-term-bits a) (get-term-bits t)) ds r),
       bb-value ρ (shift-add-multiplier term-gates (get-term-bits a) (get-term-bits t)) ds r ∙ ap₂ number l m ∙ sym (ap₂ (num2 mul-n) (ba .means) (bt .means)),
     )

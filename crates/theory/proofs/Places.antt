@@ -1,5 +1,5 @@
 -- The plain list: the terms at places that are there.
-use mathlib.Core.Path.{_≡_, refl, ap, ap₂, _∙_}
+use mathlib.Core.Path.{_≡_, refl, ap, ap₂}
 use mathlib.Core.List.{List, [], _∷_, _++_, map}
 use mathlib.Core.Option.{none, some}
 use Prim.Native.Nat.{ℕ, _<_, _≤_}
@@ -7,7 +7,6 @@ use native.Mathlib.Omega.{arith}
 use lib.Dec.{T, ltb, ltb→lt, lt→ltb}
 use lib.Ieee.Fits.{and-l, and-r, and-i}
 use lib.ListN.{length, getD, List·getD-append}
-use lib.Seq.{getD-append-seam}
 use Rattle.theory.specs.Kind.{Op, True}
 use Rattle.theory.specs.Term.{Term, node, nil, from-list}
 use Rattle.theory.specs.Optional.{either, cons-some}
@@ -41,10 +40,6 @@ term-of-is list o ks h = ap (either none (λ (ts : List Term). some (node o (fro
 -- ---- a longer list has the same terms at the old places
 pub tree-at-old : (list more : Plain) (k : ℕ) → k < length list → tree-at (list ++ more) k ≡ tree-at list k
 tree-at-old list more k h = ap (λ (e : Entry). e .tree) (List·getD-append list more (entry (node True nil) []) k h)
-
-pub tree-at-seam : (list : Plain) (e : Entry) (more : Plain) (k : ℕ) → k ≡ length list → tree-at (list ++ (e ∷ more)) k ≡ e .tree
-tree-at-seam list e more k h =
-    ap (tree-at (list ++ (e ∷ more))) h ∙ ap (λ (x : Entry). x .tree) (getD-append-seam list e more (entry (node True nil) []))
 
 pub trees-old : (list more : Plain) (n : ℕ) → n ≤ length list → (ks : List ℕ) → T (all-below n ks)
     → map (tree-at (list ++ more)) ks ≡ map (tree-at list) ks

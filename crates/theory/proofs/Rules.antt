@@ -129,15 +129,6 @@ add-holds ρ (cons t ts) n s =
     add-fold ρ n (get-term-bits t) (bt .bits) (bt .reads) (bt .size) ts (h .1)
     ∙ ap (λ (v : Val). foldl (num2 add-n) v (values ρ ts)) (sym (bt .means))
 
-pub add2-holds : (ρ : Assign) (x y : Term) (n : ℕ) → sort-of x ≡ bv n → sort-of y ≡ bv n
-    → value ρ (bb (ripple-carry-adder term-gates (node False nil) (get-term-bits x) (get-term-bits y))) ≡ value ρ (two BvAdd x y)
-unfolding fold meaning
-add2-holds ρ x y n sx sy =
-    let bx = bits-of ρ x n sx in
-    let d = add-step ρ n y sy (get-term-bits x) (bx .bits) (bx .reads) (bx .size) in
-    bb-value ρ (ripple-carry-adder term-gates (node False nil) (get-term-bits x) (get-term-bits y)) (d .0) (d .1)
-    ∙ ap (λ (k : ℕ). number k (to-number (d .0))) (d .2) ∙ d .3 ∙ ap (λ (v : Val). num2 add-n v (value ρ y)) (sym (bx .means))
-
 -- ---- bit by bit, of any number of arguments: folded over terms
 module _ (ρ : Assign) (n : ℕ) (f : ℕ → ℕ → ℕ → ℕ) (step : Term → Term → Term)
     (right : (a t : Term) → Bits ρ a n → Bits ρ t n → Bits ρ (step a t) n × (value ρ (step a t) ≡ num2 f (value ρ a) (value ρ t))) where

@@ -19,7 +19,7 @@ use Rattle.theory.specs.Bits.{get-term-bits, size-bits, shifted}
 use Rattle.theory.proofs.Natural.{Hom, ult-hom}
 use Rattle.theory.proofs.Numbers.{pair, ult-lt}
 use Rattle.theory.proofs.Blast.{truth-hom, fold-hom, bits-of, bb-value, T-true}
-use Rattle.theory.proofs.Slices.{toNat-append, toNat-take, toNat-drop, map-append, map-take, map-drop}
+use Rattle.theory.proofs.Slices.{to-number-append, to-number-take, to-number-drop, map-append, map-take, map-drop}
 
 map-replicate : {A B : Type 0} (f : A → B) (k : ℕ) (x : A) → map f (replicate k x) ≡ replicate k (f x)
 map-replicate f zero x = refl
@@ -137,12 +137,12 @@ unfolding clog2
 clog2-above n = clog2-from-above n 0 n (rw add-zero (omega (arith, lt-two-pow n)))
 
 -- ---- at Bool: the stages as one shift of the list
-toNat-zeros : (k : ℕ) → to-number (replicate k false) ≡ 0
-toNat-zeros zero = refl
-toNat-zeros (suc k) = omega (arith, toNat-zeros k)
+to-number-zeros : (k : ℕ) → to-number (replicate k false) ≡ 0
+to-number-zeros zero = refl
+to-number-zeros (suc k) = omega (arith, to-number-zeros k)
 
-toNat-shifted : (k : ℕ) (l : List Bool) → to-number (replicate k false ++ l) ≡ to-number l * 2 ^ k
-toNat-shifted k l = rw (toNat-append, toNat-zeros, length-replicate, mul-comm (2 ^ k)) (omega arith)
+to-number-shifted : (k : ℕ) (l : List Bool) → to-number (replicate k false ++ l) ≡ to-number l * 2 ^ k
+to-number-shifted k l = rw (to-number-append, to-number-zeros, length-replicate, mul-comm (2 ^ k)) (omega arith)
 
 -- the shift of stage s beside that of the stages above it
 place : (s b t : ℕ) → 2 ^ suc s * t + 2 ^ s * b ≡ 2 ^ s * (b + 2 * t)
@@ -236,7 +236,7 @@ shr-stages-value fill s ys l =
     k = 2 ^ s * to-number ys
 
 down-zeros : (k : ℕ) (l : List Bool) → to-number (down false k l) ≡ to-number l / 2 ^ k
-down-zeros k l = rw (toNat-drop, toNat-append, toNat-zeros, mul-zero, add-zero)
+down-zeros k l = rw (to-number-drop, to-number-append, to-number-zeros, mul-zero, add-zero)
 
 -- ---- the whole circuits
 ite-on : (l : List Bool) → map (λ (p : Bool). cond true p false) l ≡ l
@@ -249,7 +249,7 @@ ite-off (x ∷ l) = omega (arith, ite-off l)
 
 -- the bits of y that the stages read make up y, where y is below the length
 low-bits : (n : ℕ) (ys : List Bool) → to-number ys < n → to-number (take (clog2 n) ys) ≡ to-number ys
-low-bits n ys h = toNat-take (clog2 n) ys ∙ mod-eq-of-lt (omega (arith, clog2-above n))
+low-bits n ys h = to-number-take (clog2 n) ys ∙ mod-eq-of-lt (omega (arith, clog2-above n))
 
 module _ (size xs ys : List Bool) (ey : length ys ≡ length xs) (es : length size ≡ length xs) (is : to-number size ≡ length xs) where
   test : bitblast-ult bool-gates ys size ≡ ltb (to-number ys) (length xs)
@@ -266,8 +266,8 @@ module _ (size xs ys : List Bool) (ey : length ys ≡ length xs) (es : length si
           ap to-number (ite-on (shl-stages bool-gates 0 (stage-bits bool-gates xs ys) xs)
           ∙ shl-stages-value (length xs) 0 (stage-bits bool-gates xs ys) xs refl
           ∙ ap (λ (k : ℕ). up (length xs) k xs) (one-mul (to-number (stage-bits bool-gates xs ys)) ∙ low-bits (length xs) ys h))
-          ∙ toNat-take (length xs) (replicate (to-number ys) false ++ xs)
-          ∙ ap (λ (z : ℕ). z % 2 ^ length xs) (toNat-shifted (to-number ys) xs)
+          ∙ to-number-take (length xs) (replicate (to-number ys) false ++ xs)
+          ∙ ap (λ (z : ℕ). z % 2 ^ length xs) (to-number-shifted (to-number ys) xs)
       go false e = ite-off (shl-stages bool-gates 0 (stage-bits bool-gates xs ys) xs)
 
   pub lshr-value : to-number (lshr bool-gates size xs ys) ≡ lshr-n (length xs) (to-number xs) (to-number ys)

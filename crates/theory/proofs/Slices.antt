@@ -21,9 +21,9 @@ use Rattle.theory.proofs.Blast.{Bits, bits-of, bb-value, guard-yes}
 use Rattle.theory.proofs.Sorts.{is-bv}
 
 -- ---- numbers of lists
-pub toNat-append : (xs ys : List Bool) → to-number (xs ++ ys) ≡ to-number xs + 2 ^ length xs * to-number ys
-toNat-append [] ys = omega arith
-toNat-append (x ∷ xs) ys = rw pow-succ' (omega (arith, toNat-append xs ys))
+pub to-number-append : (xs ys : List Bool) → to-number (xs ++ ys) ≡ to-number xs + 2 ^ length xs * to-number ys
+to-number-append [] ys = omega arith
+to-number-append (x ∷ xs) ys = rw pow-succ' (omega (arith, to-number-append xs ys))
 
 pub map-append : {A B : Type 0} (f : A → B) (xs ys : List A) → map f (xs ++ ys) ≡ map f xs ++ map f ys
 map-append f [] ys = refl
@@ -40,21 +40,21 @@ map-take f (suc i) [] = refl
 map-take {B = B} f (suc i) (x ∷ xs) = ap (λ (zs : List B). f x ∷ zs) (map-take f i xs)
 
 -- the bits above the lowest i; the lowest i bits
-pub toNat-drop : (i : ℕ) (xs : List Bool) → to-number (drop i xs) ≡ to-number xs / 2 ^ i
-toNat-drop zero xs = sym (div-one (to-number xs))
-toNat-drop (suc i) [] = sym (div-eq-of-lt (pow-pos (suc i)))
-toNat-drop (suc i) (x ∷ xs) =
-    toNat-drop i xs ∙ ap (λ (z : ℕ). z / 2 ^ i) (sym (half x (to-number xs)))
+pub to-number-drop : (i : ℕ) (xs : List Bool) → to-number (drop i xs) ≡ to-number xs / 2 ^ i
+to-number-drop zero xs = sym (div-one (to-number xs))
+to-number-drop (suc i) [] = sym (div-eq-of-lt (pow-pos (suc i)))
+to-number-drop (suc i) (x ∷ xs) =
+    to-number-drop i xs ∙ ap (λ (z : ℕ). z / 2 ^ i) (sym (half x (to-number xs)))
     ∙ div-div-eq-div-mul (bit x + 2 * to-number xs) 2 (2 ^ i) ∙ rw pow-succ'
 
-pub toNat-take : (i : ℕ) (xs : List Bool) → to-number (take i xs) ≡ to-number xs % 2 ^ i
-toNat-take zero xs = sym (mod-one (to-number xs))
-toNat-take (suc i) [] = sym (mod-eq-of-lt (pow-pos (suc i)))
-toNat-take (suc i) (x ∷ xs) =
+pub to-number-take : (i : ℕ) (xs : List Bool) → to-number (take i xs) ≡ to-number xs % 2 ^ i
+to-number-take zero xs = sym (mod-one (to-number xs))
+to-number-take (suc i) [] = sym (mod-eq-of-lt (pow-pos (suc i)))
+to-number-take (suc i) (x ∷ xs) =
     let m : (bit x + 2 * to-number xs) % 2 ^ suc i ≡ ((bit x + 2 * to-number xs) / 2 % 2 ^ i) * 2 + (bit x + 2 * to-number xs) % 2
     = rw pow-suc (mod-mul (bit x + 2 * to-number xs) (pow-pos i) (omega arith)) in
     let e : (bit x + 2 * to-number xs) / 2 % 2 ^ i ≡ to-number (take i xs)
-    = ap (λ (z : ℕ). z % 2 ^ i) (half x (to-number xs)) ∙ sym (toNat-take i xs) in
+    = ap (λ (z : ℕ). z % 2 ^ i) (half x (to-number xs)) ∙ sym (to-number-take i xs) in
     let o = odd x (to-number xs) in
     omega arith
 
@@ -93,7 +93,7 @@ extract-holds ρ x n i j s h k =
     let z = bx .size in
     let l : length cs ≡ suc (i - j) = rw (length-take, length-drop) (omega arith) in
     let m : to-number cs ≡ to-number (bx .bits) / 2 ^ j % 2 ^ suc (i - j)
-    = toNat-take (suc (i - j)) (drop j (bx .bits)) ∙ ap (λ (z : ℕ). z % 2 ^ suc (i - j)) (toNat-drop j (bx .bits)) in
+    = to-number-take (suc (i - j)) (drop j (bx .bits)) ∙ ap (λ (z : ℕ). z % 2 ^ suc (i - j)) (to-number-drop j (bx .bits)) in
     bb-value ρ (take (suc (i - j)) (drop j (get-term-bits x))) cs r
     ∙ ap₂ number l m ∙ sym (ap (λ (v : Val). number (suc (i - j)) (number-of v / 2 ^ j % 2 ^ suc (i - j))) (bx .means))
 
@@ -117,7 +117,7 @@ concat-step ρ t ts n ds j bt =
           ∙ j .means (m + n) (a * 2 ^ n + to-number (bt .bits))
           ∙ ap₂ number (rw length-append (omega arith))
           (join-numbers n (length ds) a (to-number (bt .bits)) (to-number ds)
-          ∙ rw (length-append, bt .size, toNat-append));
+          ∙ rw (length-append, bt .size, to-number-append));
     }
 
 concat-fold : (ρ : Assign) (ts : Terms) → T (all-bv (sorts-of ts)) → (cs : List Bool) × Joined ρ ts cs
@@ -133,7 +133,7 @@ concat-first : (ρ : Assign) (t : Term) (ts : Terms) (n : ℕ) (ds : List Bool) 
 concat-first ρ t ts n ds j bt =
     let z = bt .size in
     bb-value ρ (concat-bits (t ∷ to-list ts)) (ds ++ bt .bits) (concat-step ρ t ts n ds j bt .reads)
-    ∙ ap₂ number (rw length-append (omega arith)) (toNat-append ds (bt .bits) ∙ omega arith)
+    ∙ ap₂ number (rw length-append (omega arith)) (to-number-append ds (bt .bits) ∙ omega arith)
     ∙ sym (j .means n (to-number (bt .bits))) ∙ sym (ap (λ (v : Val). foldl concat2 v (values ρ ts)) (bt .means))
 
 pub concat-holds : (ρ : Assign) (ts : Terms) (n : ℕ) → sort-of (node BvConcat ts) ≡ bv n
@@ -196,7 +196,7 @@ extend-reads ρ k xs bs r =
 extend-number : (k : ℕ) (bs : List Bool)
     → to-number (bs ++ replicate k (top bs)) ≡ to-number bs + cond (bit-at (length bs - 1) (to-number bs)) (2 ^ (length bs + k) - 2 ^ length bs) 0
 extend-number k bs =
-    toNat-append bs (replicate k (top bs))
+    to-number-append bs (replicate k (top bs))
     ∙ ap (λ (z : ℕ). to-number bs + 2 ^ length bs * z) (copies k (top bs))
     ∙ extended (length bs) k (to-number bs) (top bs)
     ∙ ap (λ (b : Bool). to-number bs + cond b (2 ^ (length bs + k) - 2 ^ length bs) 0) (sym (top-at bs))

@@ -1,48 +1,18 @@
 -- What a well-sorted term says of its arguments; widths are 1 to 64.
-use mathlib.Core.Path.{_≡_, refl, sym, subst, _∙_}
+use mathlib.Core.Path.{_≡_, refl}
 use mathlib.Core.Bool.{Bool, true, false, _&&_}
 use mathlib.Core.List.{List, [], _∷_}
 use Prim.Native.Nat.{ℕ, suc, _+_, _-_, _^_, _≤_}
 use native.Mathlib.Omega.{arith}
-use lib.Dec.{T, leb, ltb, eqb→eq, ltb→lt, leb→le, le→leb}
+use lib.Dec.{T, leb, ltb, ltb→lt, leb→le, le→leb}
 use lib.Ieee.Fits.{and-l, and-r, and-i}
 use lib.ListN.{length}
 use Rattle.theory.specs.Kind.{Op, True, False, Not, And, Or, Xor, Equals, Ite, BoolVar, BvVar, Const, BvBitOf, BvBbTerm, BvNot, BvNeg, BvAnd, BvOr, BvXor, BvAdd, BvMul, BvXNor, BvComp, BvULt, BvSLt, BvShl, BvLShr, BvAShr, BvUDiv, BvURem, BvConcat, BvExtract, SignExtend, many, exactly, takes}
 use Rattle.theory.specs.Term.{fold, Term, Terms, node, nil, cons}
-use Rattle.theory.specs.Sort.{Sort, bad, bool, bv, same-sort, guard, all-are, is-bv-sort, good, all-bv, sort-width, sum-widths, first, width, alike, sort-op, sort-of, sorts-of}
-use Rattle.theory.proofs.Sound.{same-sort-eq}
-use Rattle.theory.proofs.Blast.{guard-yes}
+use Rattle.theory.specs.Sort.{Sort, bad, bool, bv, guard, all-are, is-bv-sort, all-bv, sort-width, sum-widths, first, width, sort-op, sort-of, sorts-of}
 
 pub is-bv : (s : Sort) → T (is-bv-sort s) → s ≡ bv (sort-width s)
 is-bv (bv n) h = refl
-
--- an operation on two numbers has two arguments of one width
-pub record TwoArgs (ts : Terms) : Type 0 where
-  pub left : Term
-  pub right : Term
-  pub wide : ℕ
-  pub args : ts ≡ cons left (cons right nil)
-  pub left-sort : sort-of left ≡ bv wide
-  pub right-sort : sort-of right ≡ bv wide
-
-pub two-args : (ts : Terms) (r s : Sort) → T (good s) → guard (takes (exactly 2) (length (sorts-of ts)) && alike (sorts-of ts)) r ≡ s → TwoArgs ts
-unfolding fold
-two-args nil r s g e = absurd (guard-yes _ r s g e .0)
-two-args (cons x nil) r s g e = absurd (guard-yes _ r s g e .0)
-two-args (cons x (cons y (cons z us))) r s g e =
-    let h : suc (suc (suc (length (sorts-of us)))) ≡ 2 = eqb→eq _ _ (and-l (takes (exactly 2) (length (sorts-of (cons x (cons y (cons z us)))))) _ (guard-yes _ r s g e .0)) in
-    absurd (omega arith)
-two-args (cons x (cons y nil)) r s g e =
-    let a : T (is-bv-sort (sort-of x) && (same-sort (sort-of x) (sort-of x) && (same-sort (sort-of x) (sort-of y) && true))) = guard-yes _ r s g e .0 in
-    let b = is-bv (sort-of x) (and-l (is-bv-sort (sort-of x)) _ a) in
-    record {
-      left = x;
-      right = y;
-      wide = sort-width (sort-of x);
-      args = refl;
-      left-sort = b;
-      right-sort = sym (same-sort-eq (sort-of x) (sort-of y) (and-l (same-sort (sort-of x) (sort-of y)) _ (and-r (same-sort (sort-of x) (sort-of x)) _ (and-r (is-bv-sort (sort-of x)) _ a)))) ∙ b;
-    }
 
 -- ---- widths
 abbrev pub sized : Sort → Bool
@@ -125,6 +95,3 @@ mutual
   all-sorts-sized : (ts : Terms) → all-sized (sorts-of ts)
   all-sorts-sized nil = tt
   all-sorts-sized (cons t ts) = (sorts-sized t, all-sorts-sized ts)
-
-pub width-of : (t : Term) (n : ℕ) → sort-of t ≡ bv n → (1 ≤ n) × (n ≤ 64)
-width-of t n e = width-le n (subst (λ (s : Sort). T (sized s)) e (sorts-sized t))

@@ -18,8 +18,8 @@ use Rattle.theory.specs.Value.{same, Assign, Val, truth, number, truth-o
 
 pub data Has : Val → Sort → Type 0 where
   any : {v : Val} → Has v bad
-  isTruth : {b : Bool} → Has (truth b) bool
-  isNumber : {n x : ℕ} → x < 2 ^ n → Has (number n x) (bv n)
+  is-truth : {b : Bool} → Has (truth b) bool
+  is-number : {n x : ℕ} → x < 2 ^ n → Has (number n x) (bv n)
 
 pub data Each : List Val → List Sort → Type 0 where
   none : Each [] []
@@ -55,17 +55,17 @@ abbrev Below2 : (ℕ → ℕ → ℕ → ℕ) → Type 0
 Below2 f = (n x y : ℕ) → x < 2 ^ n → y < 2 ^ n → f n x y < 2 ^ n
 
 num1-has : (f : ℕ → ℕ → ℕ) {v : Val} {s : Sort} → Below1 f → Has v s → T (is-bv-sort s) → Has (num1 f v) s
-num1-has f b (isNumber {n} {x} h) t = isNumber (b n x h)
+num1-has f b (is-number {n} {x} h) t = is-number (b n x h)
 num1-has f b any t = any
-num1-has f b isTruth t = absurd t
+num1-has f b is-truth t = absurd t
 
 num2-has : (f : ℕ → ℕ → ℕ → ℕ) {u v : Val} {s : Sort} → Below2 f → Has u s → Has v s → T (is-bv-sort s) → Has (num2 f u v) s
-num2-has f b (isNumber {n} {x} h) k t = go k
+num2-has f b (is-number {n} {x} h) k t = go k
   where
     go : {v : Val} → Has v (bv n) → Has (number n (f n x (number-of v))) (bv n)
-    go (isNumber {x = y} k′) = isNumber (b n x y h k′)
+    go (is-number {x = y} k′) = is-number (b n x y h k′)
 num2-has f b any k t = any
-num2-has f b isTruth k t = absurd t
+num2-has f b is-truth k t = absurd t
 
 fold-has : (f : ℕ → ℕ → ℕ → ℕ) → Below2 f → {u : Val} {vs : List Val} {ss : List Sort} (s : Sort)
     → T (is-bv-sort s) → Has u s → Each vs ss → T (all-are s ss) → Has (foldl (num2 f) u vs) s
@@ -164,17 +164,17 @@ concat-lt m n x y h k = rw (pow-add 2 m n) (digits-lt h k)
 concat-has : {u : Val} {vs : List Val} {ss : List Sort} (m : ℕ)
     → Has u (bv m) → Each vs ss → T (all-bv ss) → Has (foldl concat2 u vs) (bv (m + sum-widths ss))
 concat-has m h none a = rw add-zero h
-concat-has m (isNumber {x = x} h) (more {ss = ss} (isNumber {n = n} {x = y} k) r) a =
-    rw (← add-assoc) (concat-has (m + n) (isNumber (concat-lt m n x y h k)) r a)
+concat-has m (is-number {x = x} h) (more {ss = ss} (is-number {n = n} {x = y} k) r) a =
+    rw (← add-assoc) (concat-has (m + n) (is-number (concat-lt m n x y h k)) r a)
 concat-has m h (more any r) a = absurd a
-concat-has m h (more isTruth r) a = absurd a
+concat-has m h (more is-truth r) a = absurd a
 
 concat1-has : {vs : List Val} {ss : List Sort} → Each vs ss → T (takes many (length ss)) → T (all-bv ss)
     → Has (fold1 concat2 vs) (bv (sum-widths ss))
 concat1-has none c a = absurd c
 concat1-has (more any r) c a = absurd a
-concat1-has (more isTruth r) c a = absurd a
-concat1-has (more (isNumber {n = n} h) r) c a = concat-has n (isNumber h) r a
+concat1-has (more is-truth r) c a = absurd a
+concat1-has (more (is-number {n = n} h) r) c a = concat-has n (is-number h) r a
 
 pub each-length : {vs : List Val} {ss : List Sort} → Each vs ss → length vs ≡ length ss
 each-length none = refl
@@ -183,13 +183,13 @@ each-length (more h r) = ap suc (each-length r)
 bb-has : {vs : List Val} {ss : List Sort} → Each vs ss → Has (number (length vs) (to-number (map truth-of vs))) (bv (length ss))
 bb-has {vs} {ss} r =
     subst (λ (n : ℕ). Has (number (length vs) (to-number (map truth-of vs))) (bv n)) (each-length r)
-    (isNumber (rw length-map at (to-number-lt (map truth-of vs))))
+    (is-number (rw length-map at (to-number-lt (map truth-of vs))))
 
 extend-has : (k : ℕ) {v : Val} {s : Sort} → Has v s → T (is-bv-sort s)
     → Has (number (value-width v + k) (number-of v + cond (bit-at (value-width v - 1) (number-of v)) (2 ^ (value-width v + k) - 2 ^ value-width v) 0)) (bv (sort-width s + k))
 extend-has k any t = absurd t
-extend-has k isTruth t = absurd t
-extend-has k (isNumber {n} {x} h) t = isNumber (go (bit-at (n - 1) x))
+extend-has k is-truth t = absurd t
+extend-has k (is-number {n} {x} h) t = is-number (go (bit-at (n - 1) x))
   where
     go : (b : Bool) → x + cond b (2 ^ (n + k) - 2 ^ n) 0 < 2 ^ (n + k)
     go true = omega (arith, pow-mono {i = n} {j = n + k} (omega arith))
@@ -219,7 +219,7 @@ many-has : (f : ℕ → ℕ → ℕ → ℕ) → Below2 f → {vs : List Val} {s
 many-has f b {ss = ss} r = guarded (takes many (length ss) && alike ss) (λ t. fold1-has f b r (and-r (takes many (length ss)) _ t))
 
 truth-has : {b : Bool} (c : Bool) → Has (truth b) (guard c bool)
-truth-has c = guarded c (λ t. isTruth)
+truth-has c = guarded c (λ t. is-truth)
 
 pub meaning-has : (ρ : Assign) (o : Op) {vs : List Val} {ss : List Sort} → Each vs ss → Has (meaning ρ o vs) (sort-op o ss)
 unfolding meaning
@@ -232,10 +232,10 @@ meaning-has ρ Xor r = truth-has _
 meaning-has ρ Equals r = truth-has _
 meaning-has ρ Ite r = truth-has _
 meaning-has ρ (BoolVar x) r = truth-has _
-meaning-has ρ (BvVar n x) {ss = ss} r = guarded (takes (exactly 0) (length ss) && width n) (λ t. isNumber (ρ .below n x))
+meaning-has ρ (BvVar n x) {ss = ss} r = guarded (takes (exactly 0) (length ss) && width n) (λ t. is-number (ρ .below n x))
 meaning-has ρ (Const n x) {ss = ss} r =
     guarded (takes (exactly 0) (length ss) && (width n && ltb x (2 ^ n)))
-    (λ t. isNumber (ltb→lt x (2 ^ n) (and-r (width n) _ (and-r (takes (exactly 0) (length ss)) _ t))))
+    (λ t. is-number (ltb→lt x (2 ^ n) (and-r (width n) _ (and-r (takes (exactly 0) (length ss)) _ t))))
 meaning-has ρ (BvBitOf i) r = truth-has _
 meaning-has ρ BvBbTerm {ss = ss} r = guarded (takes many (length ss) && all-are bool ss) (λ t. bb-has r)
 meaning-has ρ BvNot r = one-has not-n not-lt r
@@ -246,7 +246,7 @@ meaning-has ρ BvXor r = many-has xor-n xor-n-lt r
 meaning-has ρ BvAdd r = many-has add-n add-lt r
 meaning-has ρ BvMul r = many-has mul-n mul-lt r
 meaning-has ρ BvXNor r = two-has xnor-n xnor-lt r
-meaning-has ρ BvComp {vs = vs} r = guarded _ (λ t. isNumber (bit-lt (same (arg 0 vs) (arg 1 vs))))
+meaning-has ρ BvComp {vs = vs} r = guarded _ (λ t. is-number (bit-lt (same (arg 0 vs) (arg 1 vs))))
 meaning-has ρ BvULt r = truth-has _
 meaning-has ρ BvSLt r = truth-has _
 meaning-has ρ BvShl r = two-has shl-n shl-n-lt r
@@ -257,7 +257,7 @@ meaning-has ρ BvURem r = two-has urem-n urem-lt r
 meaning-has ρ BvConcat {ss = ss} r =
     guarded (takes many (length ss) && (all-bv ss && width (sum-widths ss)))
     (λ t. concat1-has r (and-l (takes many (length ss)) _ t) (and-l (all-bv ss) _ (and-r (takes many (length ss)) _ t)))
-meaning-has ρ (BvExtract i j) r = guarded _ (λ t. isNumber (mod-lt _ (pow-pos (suc (i - j)))))
+meaning-has ρ (BvExtract i j) r = guarded _ (λ t. is-number (mod-lt _ (pow-pos (suc (i - j)))))
 meaning-has ρ (SignExtend k) {ss = ss} r =
     guarded _ (λ t. extend-has k (first-has r) (and-l (is-bv-sort (first ss)) _ (and-r (takes (exactly 1) (length ss)) _ t)))
 
@@ -272,14 +272,8 @@ mutual
   values-have ρ (cons t ts) = more (value-has ρ t) (values-have ρ ts)
 
 -- as it is used: a term of sort `bool` is true or false, one of width `n` a number below 2 ^ n
-has-bool : {v : Val} → Has v bool → v ≡ truth (truth-of v)
-has-bool isTruth = refl
-
 has-bv : {v : Val} {n : ℕ} → Has v (bv n) → (v ≡ number n (number-of v)) × (number-of v < 2 ^ n)
-has-bv (isNumber h) = (refl, h)
-
-pub bool-value : (ρ : Assign) (t : Term) → sort-of t ≡ bool → value ρ t ≡ truth (truth-of (value ρ t))
-bool-value ρ t e = has-bool (subst (λ (s : Sort). Has (value ρ t) s) e (value-has ρ t))
+has-bv (is-number h) = (refl, h)
 
 pub bv-value : (ρ : Assign) (t : Term) (n : ℕ) → sort-of t ≡ bv n
     → (value ρ t ≡ number n (number-of (value ρ t))) × (number-of (value ρ t) < 2 ^ n)

@@ -35,9 +35,6 @@ unfolding guard
 guard-good true s h = (tt, refl)
 guard-good false s h = absurd h
 
-good-of : (t : Term) (s : Sort) → sort-of t ≡ s → T (good s) → T (good (sort-of t))
-good-of t s e h = subst (λ (z : Sort). T (good z)) (sym e) h
-
 -- an operation on one, two, takes many (length bit-vectors) of one width
 one-wide : (x : Term) (r : Sort) → T (good (guard (takes (exactly 1) (length (sorts-of (cons x nil))) && alike (sorts-of (cons x nil))) r)) → sort-of x ≡ bv (sort-width (sort-of x))
 unfolding fold
