@@ -25,6 +25,7 @@ UNFOLD = {
     'Record': 'cut shape-of read',
     'Plain': 'feed',
     'Codes': 'fault',
+    'Answer': '',
     'Job': 'answers-to run-from run',
 }
 
@@ -71,8 +72,8 @@ def jobs():
 
 
 def antt():
-    extra = {'Record': 'Bytes', 'Job': 'Answer Outcome'}
-    uses = ''.join('use Rattle.theory.specs.%s.{%s}\n' % (m, ', '.join((extra.get(m, '') + ' ' + names).split())) for m, names in UNFOLD.items())
+    types = {'Record': 'Bytes', 'Answer': 'Answer', 'Job': 'Outcome'}
+    uses = ''.join('use Rattle.theory.specs.%s.{%s}\n' % (m, ', '.join((types.get(m, '') + ' ' + names).split())) for m, names in UNFOLD.items())
     out, count = [HEAD % uses], 0
     for name, work, room, job, stop, records, terms, answers in jobs():
         listed = lambda items: ' ∷ '.join(items + ['[]']) if items else '[]'
@@ -80,7 +81,7 @@ def antt():
         got = listed(['answer %d %d %d' % a for a in answers])
         out.append('    -- %s\n    %scase (%s) %d %d %d %d (%s) %d\n' % (name, '∷ ' if count else '', given, work, room, stop, records, got, terms))
         count += 1
-    out.append('    ∷ []\n\npub computed : Computed cases\nunfolding %s\n' % ' '.join(UNFOLD.values()))
+    out.append('    ∷ []\n\npub computed : Computed cases\nunfolding %s\n' % ' '.join(' '.join(UNFOLD.values()).split()))
     out.append('computed = %stt%s\n' % ('(refl, ' * count, ')' * count))
     return ''.join(out)
 

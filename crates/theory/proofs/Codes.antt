@@ -14,7 +14,8 @@ use Rattle.theory.specs.Rule.{verdict}
 use Rattle.theory.specs.Record.{Bytes, records-of, total-length, ending, Item, term, step, back, unknown, misfit, read}
 use Rattle.theory.specs.Plain.{Plain, start, feed, plain-after}
 use Rattle.theory.specs.Codes.{first-fault, tests, fault}
-use Rattle.theory.specs.Job.{Answer, answer-to, answers-to, Outcome, outcome, run-from, run}
+use Rattle.theory.specs.Answer.{Answer}
+use Rattle.theory.specs.Job.{answer-to, answers-to, Outcome, outcome, run-from, run}
 use Rattle.theory.specs.Claim.{element, stop-codes, answer-codes, StopCodes, AnswerCodes}
 use Rattle.theory.proofs.Places.{tree-at}
 use Rattle.theory.proofs.Run.{ran}

@@ -11,7 +11,8 @@ use Rattle.theory.specs.Rule.{args-of, literal-bits, slices-verdict, on-
 use Rattle.theory.specs.Record.{Bytes, cut, shape-of, read}
 use Rattle.theory.specs.Plain.{feed}
 use Rattle.theory.specs.Codes.{fault}
-use Rattle.theory.specs.Job.{Answer, Outcome, answers-to, run-from, run}
+use Rattle.theory.specs.Answer.{Answer}
+use Rattle.theory.specs.Job.{Outcome, answers-to, run-from, run}
 
 -- a job, the lent bytes of work memory and answers, and what a run of it comes to
 record Case : Type 0 where

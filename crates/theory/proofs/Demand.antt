@@ -17,7 +17,8 @@ use Rattle.theory.specs.Rule.{verdict}
 use Rattle.theory.specs.Record.{Bytes, records-of, step}
 use Rattle.theory.specs.Plain.{Plain, plain-after}
 use Rattle.theory.specs.Codes.{all-below}
-use Rattle.theory.specs.Job.{Answer, answer-to, run}
+use Rattle.theory.specs.Answer.{Answer}
+use Rattle.theory.specs.Job.{answer-to, run}
 use Rattle.theory.specs.Demand.{Reached, Held, Answers, Demand3}
 use Rattle.theory.proofs.Rules.{literal-holds}
 use Rattle.theory.proofs.Form.{code-held}

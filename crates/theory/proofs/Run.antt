@@ -22,7 +22,8 @@ use Rattle.theory.specs.RuleTable.{Rule, rule-at}
 use Rattle.theory.specs.Record.{Bytes, records-of, ending, Item, term, step, back, unknown, misfit, read, is-step, step-count}
 use Rattle.theory.specs.Plain.{Entry, entry, Plain, start, at-places, term-of, has, put, feed-item, feed, plain-after}
 use Rattle.theory.specs.Codes.{first-fault, all-below, well-sorted, room, tests, fault}
-use Rattle.theory.specs.Job.{Answer, answer-to, reply, item-answers, answers-to, Outcome, outcome, run-from, run}
+use Rattle.theory.specs.Answer.{Answer}
+use Rattle.theory.specs.Job.{answer-to, reply, item-answers, answers-to, Outcome, outcome, run-from, run}
 use Rattle.theory.proofs.Basics.{none-some, some-inj, taken, foldl-append, getElem-of, getElem-lt, getElem-seam, snoc-elim}
 use Rattle.theory.proofs.Places.{tree-at, tree-of, at-places-are, term-of-is}
 

@@ -6,7 +6,7 @@ use Prim.Native.Nat.{ℕ}
 use native.Mathlib.Omega.{arith}
 use Rattle.theory.specs.Record.{Bytes, cut, shape-of, read}
 use Rattle.theory.specs.Codes.{fault}
-use Rattle.theory.specs.Job.{Answer}
+use Rattle.theory.specs.Answer.{Answer}
 use Rattle.theory.specs.Demand.{Demand3}
 
 -- Not of term 7; Equals of terms 2 and 1; a step of rule 8 on term 3

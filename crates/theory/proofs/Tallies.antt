@@ -6,7 +6,7 @@ use Prim.Native.Nat.{ℕ, zero, suc, _+_, _<_}
 use native.Mathlib.Omega.{arith}
 use lib.Dec.{T, eqb, leb, eqb→eq, le→leb}
 use lib.ListN.{length}
-use Rattle.theory.specs.Job.{Answer}
+use Rattle.theory.specs.Answer.{Answer}
 use Rattle.theory.specs.Tally.{Tally, max-tally, up, how-many, tally-after, zero-tally}
 use Rattle.theory.specs.Claim.{Free, sum, written, TallySum}
 

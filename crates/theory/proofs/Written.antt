@@ -19,8 +19,9 @@ use Rattle.theory.specs.Rule.{verdict}
 use Rattle.theory.specs.Record.{Bytes, word}
 use Rattle.theory.specs.Plain.{Plain, plain-after}
 use Rattle.theory.specs.Codes.{all-below}
-use Rattle.theory.specs.Job.{Answer, right-depth, answer-to, run, word-bytes, encode-answer, encode-answers, answers-after, call}
-use Rattle.theory.specs.Demand.{Demand3, decode-answer, decode-answers}
+use Rattle.theory.specs.Answer.{Answer, word-bytes, encode-answer, encode-answers, decode-answer, decode-answers}
+use Rattle.theory.specs.Job.{right-depth, answer-to, run, answers-after, call}
+use Rattle.theory.specs.Demand.{Demand3}
 use Rattle.theory.specs.Claim.{element, answer-codes}
 use Rattle.theory.proofs.Basics.{none-some, getElem-lt}
 use Rattle.theory.proofs.Blast.{to-from-list}

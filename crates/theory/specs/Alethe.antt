@@ -89,6 +89,7 @@ module _ {A : Type 0} (G : Gates A) where
   bvmul (suc n) x y = bits (suc n) (res x y n)
 
   -- ---- equality and bvcomp: the bits (x_i = y_i), one alone, several under an And
+  -- equality: x = y
   abbrev pub bvequal : ℕ → (ℕ → A) → (ℕ → A) → A
   bvequal zero x y = true-gate
   bvequal (suc zero) x y = eq-gate (x 0) (y 0)

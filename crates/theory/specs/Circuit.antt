@@ -35,6 +35,7 @@ clog2 n = clog2-from n 0 n
 
 module _ {A : Type 0} (G : Gates A) where
   -- ---- ripple_carry_adder
+  -- a bit of the sum: x, y and the carry into it
   abbrev pub sum-bit : A → A → A → A
   sum-bit x y c = G .xor-gate (G .xor-gate x y) c
 
@@ -60,6 +61,7 @@ module _ {A : Type 0} (G : Gates A) where
   negate xs = ripple-carry-adder (G .true-gate) (map (G .not-gate) xs) (map (λ (x : A). G .false-gate) xs)
 
   -- ---- bitblast_ult: from bit 0 up, with what the bits below say
+  -- one more bit: equal and the bits below say so, or x 0 and y 1
   abbrev pub less-step : A → A → A → A
   less-step x y r = G .or-gate (G .and-gate (G .eq-gate x y) r) (G .and-gate (G .not-gate x) y)
 
@@ -76,6 +78,7 @@ module _ {A : Type 0} (G : Gates A) where
   bitblast-ult (x ∷ xs) (y ∷ ys) = ult-from (G .and-gate (G .not-gate x) y) xs ys
 
   -- ---- slt: the top bit the other way round
+  -- the top bit: x negative and y not
   abbrev pub sign-step : A → A → A → A
   sign-step x y r = G .or-gate (G .and-gate (G .eq-gate x y) r) (G .and-gate x (G .not-gate y))
 
@@ -94,6 +97,7 @@ module _ {A : Type 0} (G : Gates A) where
   slt (x ∷ x′ ∷ xs) (y ∷ ys) = slt-from (G .and-gate (G .not-gate x) y) (x′ ∷ xs) ys
 
   -- ---- equality: one equation as it is, several under an And
+  -- one alone, several under an And
   unfoldable pub gather : List A → A
   gather [] = G .true-gate
   gather (x ∷ []) = x
@@ -104,6 +108,7 @@ module _ {A : Type 0} (G : Gates A) where
   equality xs ys = gather (zip-with (G .eq-gate) xs ys)
 
   -- ---- shift_add_multiplier: a row is x where a bit of y is set
+  -- and y x_i, for every bit of x
   abbrev pub partial-products : A → List A → List A
   partial-products y xs = map (G .and-gate y) xs
 
@@ -170,6 +175,7 @@ module _ {A : Type 0} (G : Gates A) where
   ashr size xs ys = bounded size ys (shr-stages (last (G .false-gate) xs) 0 (stage-bits xs ys) xs)
 
   -- ---- bitblast_udiv_urem_rec, as Rust has it
+  -- as many bits, all false
   abbrev pub falses : List A → List A
   falses = map (λ (x : A). G .false-gate)
 

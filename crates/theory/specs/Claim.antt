@@ -11,23 +11,29 @@ use Rattle.theory.specs.Term.{Term, Terms, node, nil, cons, two}
 use Rattle.theory.specs.Sort.{bv, sort-of}
 use Rattle.theory.specs.RuleTable.{Rule, by-ult, by-slt, by-add, by-neg}
 use Rattle.theory.specs.Record.{Bytes}
-use Rattle.theory.specs.Job.{Answer, answer-to, run}
+use Rattle.theory.specs.Answer.{Answer}
+use Rattle.theory.specs.Job.{answer-to, run}
 use Rattle.theory.specs.Tally.{Tally, max-tally, tally-of}
 
 -- ---- "Codes 2 to 9, 18 and 19 stop the job; 10 to 17 are answers", beside 0 and 1
+-- n is in the list
 abbrev pub element : ℕ → List ℕ → Bool
 element n [] = false
 element n (k ∷ ks) = eqb n k || element n ks
 
+-- what a job can stop with
 abbrev pub stop-codes : List ℕ
 stop-codes = 0 ∷ 2 ∷ 3 ∷ 4 ∷ 5 ∷ 6 ∷ 7 ∷ 8 ∷ 9 ∷ 18 ∷ 19 ∷ []
 
+-- what an answer can have
 abbrev pub answer-codes : List ℕ
 answer-codes = 0 ∷ 1 ∷ 10 ∷ 11 ∷ 12 ∷ 13 ∷ 14 ∷ 15 ∷ 16 ∷ 17 ∷ []
 
+-- every job stops with one of these
 abbrev pub StopCodes : Type 0
 StopCodes = (job : Bytes) (work space : ℕ) → T (element (run job work space .stop) stop-codes)
 
+-- every answer of every job has one of those
 abbrev pub AnswerCodes : Type 0
 AnswerCodes = (job : Bytes) (work space k : ℕ) (a : Answer) → getElem? (run job work space .answers) k ≡ some a → T (element (a .code) answer-codes)
 
@@ -44,6 +50,7 @@ pub data Bounded : Rule → Term → ℕ → Type 0 where
   rule-10 : {x y : Term} {n : ℕ} → NoBbTerm x n → NoBbTerm y n → Bounded by-add (two BvAdd x y) n
   rule-12 : {x : Term} {n : ℕ} → NoBbTerm x n → Bounded by-neg (node BvNeg (cons x nil)) n
 
+-- the answer to such a step, where it is held
 abbrev pub DepthBound : Type 0
 DepthBound =
     (number : ℕ) (rule : Rule) (left right : Term) (n : ℕ) → Bounded rule left n
@@ -56,6 +63,7 @@ pub record Free (t : Tally) : Type 0 where
   pub form-free : t .form-only < max-tally
   pub refused-free : t .refused < max-tally
 
+-- the last three fields
 abbrev pub sum : Tally → ℕ
 sum t = t .held + t .form-only + t .refused
 
@@ -64,5 +72,6 @@ abbrev pub written : List (List Answer) → ℕ
 written [] = 0
 written (answers ∷ rest) = length answers + written rest
 
+-- since the tally was zero
 abbrev pub TallySum : Type 0
 TallySum = (jobs : List (List Answer)) → Free (tally-of jobs) → sum (tally-of jobs) ≡ written jobs

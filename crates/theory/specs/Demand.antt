@@ -3,16 +3,16 @@
 use mathlib.Core.Path.{_≡_}
 use mathlib.Core.List.{List, [], _∷_}
 use mathlib.Core.Option.{some}
-use Prim.Native.Nat.{ℕ, zero, suc, _*_, _<_, _≤_}
-use lib.ListN.{length, take, drop, getElem?}
-use Rattle.theory.specs.Limit.{max-job, number-bytes, answer-bytes}
+use Prim.Native.Nat.{ℕ, _<_, _≤_}
+use lib.ListN.{length, take, getElem?}
+use Rattle.theory.specs.Limit.{max-job}
 use Rattle.theory.specs.Kind.{Equals}
 use Rattle.theory.specs.Term.{Term, two}
 use Rattle.theory.specs.Value.{Assign, value}
-use Rattle.theory.specs.Record.{Bytes, word, records-of, step, read, step-count}
+use Rattle.theory.specs.Record.{Bytes, records-of, step, read, step-count}
 use Rattle.theory.specs.Plain.{Plain, plain-after, at-place}
 use Rattle.theory.specs.Codes.{fault}
-use Rattle.theory.specs.Job.{Answer}
+use Rattle.theory.specs.Answer.{Answer}
 
 -- record m, counted from 0, is r, and no code stops the job before it or at it
 pub record Reached (job : Bytes) (work space m : ℕ) (r : Bytes) : Type 0 where
@@ -45,11 +45,3 @@ pub record Answers (job : Bytes) (work space done k : ℕ) (a : Answer) : Type 0
 pub record Demand3 (job : Bytes) (work space done : ℕ) (answers : List Answer) : Type 0 where
   pub counted : length answers ≡ step-count (take done (records-of job))
   pub each : (k : ℕ) (a : Answer) → getElem? answers k ≡ some a → Answers job work space done k a
-
--- the first k answers in the answers' memory
-abbrev pub decode-answer : Bytes → Answer
-decode-answer bs = record { rule = word (drop (2 * number-bytes) bs); code = word (drop (3 * number-bytes) bs); depth = word (drop (4 * number-bytes) bs) }
-
-abbrev pub decode-answers : ℕ → Bytes → List Answer
-decode-answers zero bs = []
-decode-answers (suc k) bs = decode-answer bs ∷ decode-answers k (drop answer-bytes bs)

@@ -2,10 +2,10 @@
 use mathlib.Core.Bool.{true, false, cond}
 use mathlib.Core.List.{List, [], _∷_, _++_}
 use mathlib.Core.Option.{Option, none, some}
-use Prim.Native.Nat.{ℕ, zero, suc, _-_, _/_, _%_}
+use Prim.Native.Nat.{ℕ, zero, suc}
 use lib.Dec.{leb}
 use lib.ListN.{length, drop, getElem?, replicate}
-use Rattle.theory.specs.Limit.{max-job, number-bytes, answer-bytes}
+use Rattle.theory.specs.Limit.{max-job}
 use Rattle.theory.specs.Term.{Term, node, to-list}
 use Rattle.theory.specs.Depth.{depth}
 use Rattle.theory.specs.Optional.{either}
@@ -15,13 +15,9 @@ use Rattle.theory.specs.Rule.{verdict}
 use Rattle.theory.specs.Record.{Bytes, records-of, ending, Item, term, step, back, unknown, misfit, read}
 use Rattle.theory.specs.Plain.{Plain, start, feed, at-places}
 use Rattle.theory.specs.Codes.{fault}
+use Rattle.theory.specs.Answer.{Answer, encode-answers}
 
--- ---- a step's answer: rule, code, depth
-pub record Answer : Type 0 where
-  pub rule : ℕ
-  pub code : ℕ
-  pub depth : ℕ
-
+-- ---- a step's answer
 -- the depth of the right side; 0 where there is none
 abbrev pub right-depth : Term → ℕ
 right-depth (node o ts) = either 0 depth (getElem? (to-list ts) 1)
@@ -54,10 +50,12 @@ item-answers list (back n) = []
 item-answers list unknown = []
 item-answers list misfit = []
 
+-- the answers to a record: one or none
 unfoldable pub answers-to : Plain → Bytes → List Answer
 answers-to list r = item-answers list (read r)
 
 -- ---- the run: stop code, records done (the stopping one not counted), answers, terms kept
+-- the answers here are a list; in the memory they are bytes
 pub record Outcome : Type 0 where
   pub stop : ℕ
   pub records : ℕ
@@ -86,28 +84,6 @@ run job work space =
     ]
 
 -- ---- the lent memory after a call
--- k bytes of n, little-endian
-abbrev pub bytes-of : ℕ → ℕ → Bytes
-bytes-of zero n = []
-bytes-of (suc k) n = n % 256 ∷ bytes-of k (n / 256)
-
--- a number of two bytes
-abbrev pub word-bytes : ℕ → Bytes
-word-bytes = bytes-of number-bytes
-
-abbrev pub answer-kind : ℕ
-answer-kind = 200
-
--- length 8, kind 200, rule, code, depth
-abbrev pub encode-answer : Answer → Bytes
-encode-answer a =
-    word-bytes (answer-bytes - number-bytes) ++ word-bytes answer-kind ++ word-bytes (a .rule) ++ word-bytes (a .code) ++ word-bytes (a .depth)
-
--- one after the other
-abbrev pub encode-answers : List Answer → Bytes
-encode-answers [] = []
-encode-answers (a ∷ rest) = encode-answer a ++ encode-answers rest
-
 -- the answers, then what the memory held before
 abbrev pub answers-after : List Answer → Bytes → Bytes
 answers-after answers old = let bs = encode-answers answers in bs ++ drop (length bs) old
@@ -117,20 +93,24 @@ abbrev pub work-after : Bytes → Bytes
 work-after old = replicate (length old) 0
 
 -- ---- a call: the four numbers that it returns, and the two memories
+-- what the host gets
 pub record Returned : Type 0 where
   pub stop : ℕ
   pub records : ℕ
   pub answers : ℕ
   pub terms : ℕ
 
+-- an outcome as it is returned
 abbrev pub returned : Outcome → Returned
 returned o = record { stop = o .stop; records = o .records; answers = length (o .answers); terms = o .terms }
 
+-- what is returned, and the two memories afterwards
 pub record Call : Type 0 where
   pub result : Returned
   pub work-memory : Bytes
   pub answer-memory : Bytes
 
+-- all that a call does with a job, a work memory and an answers' memory
 abbrev pub call : Bytes → Bytes → Bytes → Call
 call job work answers =
     let o = run job (length work) (length answers) in

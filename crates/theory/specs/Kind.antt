@@ -33,10 +33,11 @@ pub record Row : Type 0 where
   pub indices : List ℕ
   pub arity : Arity
 
+-- a row by its parts
 abbrev pub row : ℕ → List ℕ → Arity → Row
 row k is a = record { number = k; indices = is; arity = a }
 
--- `true` and `false` have no record; their numbers here are used by none
+-- the table of document 01; `true` and `false` have no record, and no record has their numbers here
 abbrev pub table : Op → Row
 table True = row 0 [] (exactly 0)
 table False = row 1 [] (exactly 0)
@@ -71,11 +72,14 @@ table BvConcat = row 56 [] many
 table (BvExtract i j) = row 57 (i ∷ j ∷ []) (exactly 1)
 table (SignExtend k) = row 58 (k ∷ []) (exactly 1)
 
+-- a kind's number
 abbrev pub kind : Op → ℕ
 kind o = table o .number
 
+-- the numbers in a kind
 abbrev pub indices : Op → List ℕ
 indices o = table o .indices
 
+-- a kind's arguments
 abbrev pub arity : Op → Arity
 arity o = table o .arity

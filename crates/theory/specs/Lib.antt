@@ -15,6 +15,7 @@ pub mod Rule
 pub mod Record
 pub mod Plain
 pub mod Codes
+pub mod Answer
 pub mod Job
 pub mod Tally
 pub mod Program

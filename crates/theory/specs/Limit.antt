@@ -1,17 +1,19 @@
 -- The limits of document 01, each named once.
 use Prim.Native.Nat.{ℕ}
 
--- the greatest width, and the greatest number of arguments or literals
+-- the greatest width
 abbrev pub max-width : ℕ
 max-width = 64
 
+-- the greatest number of arguments, or of literals
 abbrev pub max-arguments : ℕ
 max-arguments = 64
 
--- the greatest number of terms, `true` and `false` counted; those two are there from the start
+-- the greatest number of terms, `true` and `false` counted
 abbrev pub max-terms : ℕ
 max-terms = 65535
 
+-- `true` and `false`, which are there from the start
 abbrev pub first-terms : ℕ
 first-terms = 2
 
@@ -19,15 +21,18 @@ first-terms = 2
 abbrev pub max-job : ℕ
 max-job = 16777216
 
--- the bytes of a number in a record, of a constant's value, of a kept term's work memory, of an answer
+-- the bytes of a number in a record
 abbrev pub number-bytes : ℕ
 number-bytes = 2
 
+-- the bytes of a constant's value
 abbrev pub value-bytes : ℕ
 value-bytes = 8
 
+-- the bytes of work memory that a kept term costs
 abbrev pub term-bytes : ℕ
 term-bytes = 8
 
+-- the bytes of an answer
 abbrev pub answer-bytes : ℕ
 answer-bytes = 10

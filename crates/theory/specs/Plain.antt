@@ -14,9 +14,11 @@ pub record Entry : Type 0 where
   pub tree : Term
   pub bytes : Bytes
 
+-- an entry by its parts
 abbrev pub entry : Term → Bytes → Entry
 entry t r = record { tree = t; bytes = r }
 
+-- the plain list
 abbrev pub Plain : Type 0
 Plain = List Entry
 
@@ -54,6 +56,7 @@ feed-item list r (back n) = take n list
 feed-item list r unknown = list
 feed-item list r misfit = list
 
+-- the list after one more record
 unfoldable pub feed : Plain → Bytes → Plain
 feed list r = feed-item list r (read r)
 

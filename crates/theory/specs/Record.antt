@@ -14,6 +14,7 @@ abbrev pub Bytes : Type 0
 Bytes = List ℕ
 
 -- ---- numbers, little-endian
+-- the lowest byte first
 abbrev pub little-endian : Bytes → ℕ
 little-endian [] = 0
 little-endian (b ∷ bs) = b + 256 * little-endian bs
@@ -73,6 +74,7 @@ abbrev pub arguments : ℕ → Bytes → List ℕ
 arguments n body = words ((length body - n) / number-bytes) (drop n body)
 
 -- ---- the kinds of a term, by the numbers that stand before the arguments: none, one, two, or a width and an eight-byte value
+-- `plain` has none, `indexed` one, `twice-indexed` two, `valued` a width and a value
 pub data Shape : Type 0 where
   plain : Op → Shape
   indexed : (ℕ → Op) → Shape
@@ -119,23 +121,29 @@ pub data Item : Type 0 where
   back : ℕ → Item
   unknown misfit : Item
 
+-- the kind of a step
 abbrev pub step-kind : ℕ
 step-kind = 100
 
+-- the kind of a back
 abbrev pub back-kind : ℕ
 back-kind = 101
 
+-- a term: the numbers of its shape, then arguments as its kind allows
 abbrev pub read-term : Option Shape → Bytes → Item
 read-term none body = unknown
 read-term (some s) body =
     cond (fits (front s) (takes (arity (make s body))) body) (term (make s body) (arguments (front s) body)) misfit
 
+-- a step: its rule, then 0 to 64 literals
 abbrev pub read-step : Bytes → Item
 read-step body = cond (fits number-bytes (λ n. leb n max-arguments) body) (step (word body) (arguments number-bytes body)) misfit
 
+-- a back: its count
 abbrev pub read-back : Bytes → Item
 read-back body = cond (eqb (length body) number-bytes) (back (word body)) misfit
 
+-- what record r says
 unfoldable pub read : Bytes → Item
 read r =
     cond (eqb (kind-of r) step-kind) (read-step (body-of r))

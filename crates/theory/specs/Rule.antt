@@ -29,6 +29,7 @@ abbrev pub extend-kind : ℕ
 extend-kind = kind (SignExtend 0)
 
 -- ---- taking a term apart, as `match_term_err!` does: its arguments where it is of kind k
+-- t's arguments, where it is of kind k
 unfoldable pub args-of : ℕ → Term → Option (List Term)
 args-of k (node o ts) = cond (eqb (kind o) k) (some (to-list ts)) none
 
@@ -67,6 +68,7 @@ abbrev pub binary : ℕ → Term → (Term → Term → Verdict) → Verdict
 binary k t f = form (args-of k t) (λ ts. form (two-of ts) (λ p. f (p .0) (p .1)))
 
 -- ---- the last test: expected and claimed term are the same
+-- `ok` where they are
 abbrev pub compare : Verdict → Term → Term → Verdict
 compare ok expected claimed = cond (same-term expected claimed) ok terms-differ
 
@@ -83,6 +85,7 @@ abbrev pub on-many : ℕ → (List Term → Term) → Term → Term → Verdict
 on-many k expected l r = form (args-of k l) (λ ts. compare held (expected ts) r)
 
 -- ---- rule 1: (= v (bbterm ..)). Rust also compares the number of bits with the width of v: both sides have one sort, so they agree
+-- `true` and `false` are literal
 abbrev pub literal-bit : Term → Option Bool
 literal-bit t = cond (same-term t (node True nil)) (some true) (cond (same-term t (node False nil)) (some false) none)
 
@@ -105,6 +108,7 @@ abbrev pub value-rule : Term → Term → Verdict
 value-rule v r = form (args-of (kind BvBbTerm) r) (λ bits. constant (args-of constant-kind v) (value-bits (index-of 1 v) (literal-bits bits)))
 
 -- ---- rules 2 and 13: the operand is a bit-vector
+-- v, where x is one
 abbrev pub of-bits : Term → Verdict → Verdict
 of-bits x v = cond (is-bv-sort (sort-of x)) v not-bit-vector
 
@@ -130,7 +134,8 @@ slicing-rule l r =
     binary (kind BvAnd) l (λ a c.
     form (args-of (kind BvConcat) r) (slices-verdict a c (sort-width (sort-of c))))
 
--- ---- every rule, on (= l r)
+-- ---- every rule, on (= l r). In rule 16 Rust also compares the number of bits: both sides have one width, so they agree
+-- the rule's verdict
 unfoldable pub on-sides : Rule → Term → Term → Verdict
 on-sides by-value l r = value-rule l r
 on-sides by-var l r = of-bits l (compare held (bb (get-term-bits l)) r)

@@ -4,6 +4,7 @@ use mathlib.Core.Option.{Option, none}
 use Prim.Native.Nat.{ℕ, zero, suc}
 use lib.ListN.{getElem?}
 
+-- document 01 names them value, var, and, or, ..
 pub data Rule : Type 0 where
   by-value by-var by-and by-or by-xor by-xnor by-not by-ult by-slt by-add by-mult by-neg : Rule
   by-equality by-comp by-extract by-concat by-sign-extend by-shl by-lshr by-ashr by-udiv by-urem by-bitwise-slicing : Rule

@@ -14,7 +14,8 @@ use Rattle.theory.specs.Gates.{term-gates}
 use Rattle.theory.specs.Circuit.{negate, ashr, udiv, urem}
 use Rattle.theory.specs.Bits.{get-term-bits, bb, shifted, divided, product}
 use Rattle.theory.specs.RuleTable.{rule-at}
-use Rattle.theory.specs.Job.{Answer, reply}
+use Rattle.theory.specs.Answer.{Answer}
+use Rattle.theory.specs.Job.{reply}
 
 -- what a row says of (= left right) at width n
 pub data Fact : Type 0 where
@@ -27,6 +28,7 @@ pub data Fact : Type 0 where
   -- and the operation on the left, by the standard, this one
   standard : ℕ → ℕ → ℕ → Fact
 
+-- a row: its rule, its widths, both sides at width n, and what it says of them
 pub record Specimen : Type 0 where
   pub rule : ℕ
   pub widths : List ℕ
@@ -34,6 +36,7 @@ pub record Specimen : Type 0 where
   pub right : ℕ → Term
   pub facts : List Fact
 
+-- a row by its parts
 abbrev pub specimen : ℕ → List ℕ → (ℕ → Term) → (ℕ → Term) → List Fact → Specimen
 specimen rule widths left right facts = record { rule = rule; widths = widths; left = left; right = right; facts = facts }
 
@@ -46,20 +49,23 @@ widths-from n (suc k) = n ∷ widths-from (suc n) k
 abbrev pub every-width : List ℕ
 every-width = widths-from 1 max-width
 
--- the variables of width n
+-- the first variable of width n
 abbrev pub x : ℕ → Term
 x n = node (BvVar n 0) nil
 
+-- the second variable of width n
 abbrev pub y : ℕ → Term
 y n = node (BvVar n 1) nil
 
--- terms of one argument, and of x alone
+-- bit 0 of t
 abbrev pub bit-0 : Term → Term
 bit-0 t = node (BvBitOf 0) (cons t nil)
 
+-- not t
 abbrev pub negation : Term → Term
 negation t = node Not (cons t nil)
 
+-- the ten rows, in document 01's order
 abbrev pub specimens : List Specimen
 specimens =
     specimen 9 (1 ∷ []) (λ n. two BvSLt (x n) (y n)) (λ n. two And (bit-0 (x n)) (negation (bit-0 (y n)))) (answered 0 2 ∷ [])
@@ -94,12 +100,14 @@ one-answer (a ∷ b ∷ rest) code depth = false
 abbrev pub gets : ℕ → Term → Term → ℕ → ℕ → Bool
 gets rule left right code depth = one-answer (reply rule (rule-at rule) (some (two Equals left right ∷ []))) code depth
 
+-- a fact of row s at width n holds
 abbrev pub fact-true : Specimen → ℕ → Fact → Bool
 fact-true s n (answered code depth) = gets (s .rule) (s .left n) (s .right n) code depth
 fact-true s n (instead other code) = gets (s .rule) (s .left n) (other n) code 0
 fact-true s n (circuit a b v) = same (value (x-and-y a b) (s .right n)) (number n v)
 fact-true s n (standard a b v) = same (value (x-and-y a b) (s .left n)) (number n v)
 
+-- every element passes
 abbrev pub all : {A : Type 0} → (A → Bool) → List A → Bool
 all f [] = true
 all f (a ∷ rest) = f a && all f rest

@@ -3,7 +3,7 @@ use mathlib.Core.Bool.{Bool, cond}
 use mathlib.Core.List.{List, [], _∷_, foldl}
 use Prim.Native.Nat.{ℕ, suc, _+_, _-_, _^_, min}
 use lib.Dec.{eqb, leb}
-use Rattle.theory.specs.Job.{Answer}
+use Rattle.theory.specs.Answer.{Answer}
 
 -- 64 bits each
 pub record Tally : Type 0 where

@@ -7,6 +7,7 @@ pub data Verdict : Type 0 where
   held form-only : Verdict
   not-one-literal wrong-form not-bit-vector not-constant bit-not-literal other-value terms-differ index-not-next : Verdict
 
+-- document 01's number of each
 abbrev pub code-of : Verdict → ℕ
 code-of held = 0
 code-of form-only = 1
@@ -19,6 +20,7 @@ code-of other-value = 15
 code-of terms-differ = 16
 code-of index-not-next = 17
 
+-- the claim is the expected circuit
 abbrev pub accepted : Verdict → Bool
 accepted held = true
 accepted form-only = true

@@ -1,0 +1,46 @@
+-- Document 01, "The job": the answer to a step, and its ten bytes.
+use mathlib.Core.List.{List, [], _∷_, _++_}
+use Prim.Native.Nat.{ℕ, zero, suc, _-_, _*_, _/_, _%_}
+use lib.ListN.{drop}
+use Rattle.theory.specs.Limit.{number-bytes, answer-bytes}
+use Rattle.theory.specs.Record.{Bytes, word}
+
+-- the step's rule, the verdict's code, and a depth
+pub record Answer : Type 0 where
+  pub rule : ℕ
+  pub code : ℕ
+  pub depth : ℕ
+
+-- ---- writing
+-- k bytes of n, little-endian
+abbrev pub bytes-of : ℕ → ℕ → Bytes
+bytes-of zero n = []
+bytes-of (suc k) n = n % 256 ∷ bytes-of k (n / 256)
+
+-- a number of two bytes
+abbrev pub word-bytes : ℕ → Bytes
+word-bytes = bytes-of number-bytes
+
+-- the kind of an answer record
+abbrev pub answer-kind : ℕ
+answer-kind = 200
+
+-- length 8, kind 200, rule, code, depth
+abbrev pub encode-answer : Answer → Bytes
+encode-answer a =
+    word-bytes (answer-bytes - number-bytes) ++ word-bytes answer-kind ++ word-bytes (a .rule) ++ word-bytes (a .code) ++ word-bytes (a .depth)
+
+-- one after the other
+abbrev pub encode-answers : List Answer → Bytes
+encode-answers [] = []
+encode-answers (a ∷ rest) = encode-answer a ++ encode-answers rest
+
+-- ---- reading
+-- an answer at the start of these bytes
+abbrev pub decode-answer : Bytes → Answer
+decode-answer bs = record { rule = word (drop (2 * number-bytes) bs); code = word (drop (3 * number-bytes) bs); depth = word (drop (4 * number-bytes) bs) }
+
+-- k answers, one after the other
+abbrev pub decode-answers : ℕ → Bytes → List Answer
+decode-answers zero bs = []
+decode-answers (suc k) bs = decode-answer bs ∷ decode-answers k (drop answer-bytes bs)
