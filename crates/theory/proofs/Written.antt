@@ -16,10 +16,10 @@ use Rattle.theory.specs.Optional.{either}
 use Rattle.theory.specs.Verdict.{accepted}
 use Rattle.theory.specs.RuleTable.{Rule, rules, rule-at}
 use Rattle.theory.specs.Rule.{verdict}
-use Rattle.theory.specs.Record.{Bytes, word}
+use Rattle.theory.specs.Record.{Bytes, word, word-bytes}
 use Rattle.theory.specs.Plain.{Plain, plain-after}
 use Rattle.theory.specs.Codes.{all-below}
-use Rattle.theory.specs.Answer.{Answer, word-bytes, encode-answer, encode-answers, decode-answer, decode-answers}
+use Rattle.theory.specs.Answer.{Answer, encode-answer, encode-answers, decode-answer, decode-answers}
 use Rattle.theory.specs.Job.{right-depth, answer-to, run, answers-after, call}
 use Rattle.theory.specs.Demand.{Demand3}
 use Rattle.theory.specs.Claim.{element, answer-codes}

@@ -1,9 +1,9 @@
 -- Document 01, "The job": the answer to a step, and its ten bytes.
 use mathlib.Core.List.{List, [], _∷_, _++_}
-use Prim.Native.Nat.{ℕ, zero, suc, _-_, _*_, _/_, _%_}
+use Prim.Native.Nat.{ℕ, zero, suc, _-_, _*_}
 use lib.ListN.{drop}
 use Rattle.theory.specs.Limit.{number-bytes, answer-bytes}
-use Rattle.theory.specs.Record.{Bytes, word}
+use Rattle.theory.specs.Record.{Bytes, word, word-bytes}
 
 -- the step's rule, the verdict's code, and a depth
 pub record Answer : Type 0 where
@@ -12,15 +12,6 @@ pub record Answer : Type 0 where
   pub depth : ℕ
 
 -- ---- writing
--- k bytes of n, little-endian
-abbrev pub bytes-of : ℕ → ℕ → Bytes
-bytes-of zero n = []
-bytes-of (suc k) n = n % 256 ∷ bytes-of k (n / 256)
-
--- a number of two bytes
-abbrev pub word-bytes : ℕ → Bytes
-word-bytes = bytes-of number-bytes
-
 -- the kind of an answer record
 abbrev pub answer-kind : ℕ
 answer-kind = 200

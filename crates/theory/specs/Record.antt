@@ -28,6 +28,15 @@ abbrev pub words : ℕ → Bytes → List ℕ
 words zero bs = []
 words (suc k) bs = word bs ∷ words k (drop number-bytes bs)
 
+-- k bytes of n
+abbrev pub bytes-of : ℕ → ℕ → Bytes
+bytes-of zero n = []
+bytes-of (suc k) n = n % 256 ∷ bytes-of k (n / 256)
+
+-- two bytes of n
+abbrev pub word-bytes : ℕ → Bytes
+word-bytes = bytes-of number-bytes
+
 -- ---- the job cut into records
 -- the bytes of a record whose length stands at the start
 abbrev pub extent : Bytes → ℕ
