@@ -60,15 +60,15 @@ pub place-hom : (list : Plain) → Hom term-gates (gates-of (lookup list)) (plac
 place-hom list = fold-hom (lookup list)
 
 -- ---- what is found
-item-says : (i : Item) (o : Op) (ks : List ℕ) → T (item-is i o ks) → i ≡ term o ks
+pub item-says : (i : Item) (o : Op) (ks : List ℕ) → T (item-is i o ks) → i ≡ term o ks
 item-says (term p js) o ks h =
     ap₂ term (same-op-eq p o (and-l (same-op p o) _ h)) (same-numbers-eq js ks (and-r (same-op p o) _ h))
 
-says-item : (o : Op) (ks : List ℕ) (e : Entry) → read (e .bytes) ≡ term o ks → T (agrees e o ks)
+pub says-item : (o : Op) (ks : List ℕ) (e : Entry) → read (e .bytes) ≡ term o ks → T (agrees e o ks)
 says-item o ks e h =
     subst (λ (i : Item). T (item-is i o ks)) (sym h) (and-i (same-op o o) (same-numbers ks ks) (same-op-refl o) (same-numbers-refl ks))
 
-found-from : (n : ℕ) (list : Plain) (o : Op) (ks : List ℕ) (k : ℕ) → find-from n list o ks ≡ some k
+pub found-from : (n : ℕ) (list : Plain) (o : Op) (ks : List ℕ) (k : ℕ) → find-from n list o ks ≡ some k
     → (j : ℕ) × (e : Entry) × (k ≡ n + j) × (getElem? list j ≡ some e) × (read (e .bytes) ≡ term o ks)
 unfolding find-from
 found-from n [] o ks k d = absurd (none-some k d)
@@ -159,7 +159,7 @@ first-match n (x ∷ xs) o ks (suc j) e g t f =
     go true h c = absurd (h tt)
     go false h c = c ∙ ap some (let z : suc n + j ≡ n + suc j = omega arith in z)
 
-constants-placed : (list : Plain) → (place list (node True nil) ≡ some 0) × (place list (node False nil) ≡ some 1)
+pub constants-placed : (list : Plain) → (place list (node True nil) ≡ some 0) × (place list (node False nil) ≡ some 1)
 unfolding fold find same-op
 constants-placed list = (refl, refl)
 

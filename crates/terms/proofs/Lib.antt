@@ -1,0 +1,6 @@
+pub mod Numbers
+pub mod Parts
+pub mod Forms
+pub mod Arms
+pub mod Reading
+pub mod Lists

@@ -1,0 +1,60 @@
+-- Numbers in bytes: the loop that sums the bytes of a number from the highest down.
+use mathlib.Core.Path.{_≡_, refl, sym, _∙_}
+use mathlib.Core.List.{[], _∷_}
+use Prim.Native.Nat.{ℕ, suc, _+_, _-_, _*_, _^_, _<_, _≤_}
+use native.Mathlib.Nat.{pow-succ', pow-le-pow-right}
+use native.Mathlib.Omega.{arith}
+use lib.ListN.{length, take, drop, getD, length-drop, List·getD-eq-default}
+use lib.Seq.{take-nil, getD-drop, drop-drop}
+use Rattle.theory.specs.Record.{Bytes, little-endian}
+
+-- ---- a byte after a place, 0 past the end
+pub byte-past : (s : Bytes) (at i : ℕ) → length s - at ≤ i → 0 ≡ getD (drop at s) i 0
+byte-past s at i h = sym (List·getD-eq-default (drop at s) 0 (rw length-drop h))
+
+pub byte-there : (s : Bytes) (at i : ℕ) {b : ℕ} → b ≡ getD s (at + i) 0 → b ≡ getD (drop at s) i 0
+byte-there s at i e = e ∙ sym (getD-drop at s i 0)
+
+-- ---- the sum
+-- the lowest byte, and 256 times the number in the others
+digit : (m : ℕ) (bs : Bytes) → little-endian (take (suc m) bs) ≡ getD bs 0 0 + 256 * little-endian (take m (drop 1 bs))
+digit m [] = rw take-nil
+digit m (b ∷ bs) = refl
+
+-- x is the number in the bytes i to n - 1
+pub record Summing (bs : Bytes) (n x i : ℕ) : Type 0 where
+  pub passed : i ≤ n
+  pub sum : x ≡ little-endian (take (n - i) (drop i bs))
+  pub bound : x < 256 ^ (n - i)
+
+module _ {bs : Bytes} {n : ℕ} where
+  pub sum-start : Summing bs n 0 n
+  sum-start =
+      let e : n - n ≡ 0 = omega arith in
+      record { passed = omega arith; sum = rw e; bound = rw e (omega arith) }
+
+  pub sum-turn : {x i b : ℕ} → Summing bs n x i → 0 < i → b ≡ getD bs (i - 1) 0 → b < 256 → Summing bs n (256 * x + b) (i - 1)
+  sum-turn {x} {i} {b} s h e l =
+      let p = s .passed in
+      let m : n - (i - 1) ≡ suc (n - i) = omega arith in
+      let j : i - 1 + 1 ≡ i = omega arith in
+      let z : i - 1 + 0 ≡ i - 1 = omega arith in
+      record {
+        passed = omega arith;
+        sum = rw (m, digit (n - i) (drop (i - 1) bs), getD-drop (i - 1) bs 0 0, z, drop-drop 1 (i - 1) bs, j, ← e, ← s .sum) (omega arith);
+        bound = rw (m, pow-succ') (omega (arith, s .bound));
+      }
+
+  -- there is room for one byte more
+  pub sum-small : {x i : ℕ} → Summing bs n x i → n ≤ 8 → 0 < i → x < 72057594037927936
+  sum-small {x} {i} s h k =
+      let p = s .passed in
+      let l : n - i ≤ 7 = omega arith in
+      let q : 256 ^ (n - i) ≤ 256 ^ 7 = pow-le-pow-right (omega arith) l in
+      omega (arith, s .bound)
+
+  pub sum-end : {x i : ℕ} → Summing bs n x i → i ≤ 0 → (x ≡ little-endian (take n bs)) × (x < 256 ^ n)
+  sum-end {x} {i} s h =
+      let z : i ≡ 0 = omega arith in
+      let e : n - i ≡ n = omega arith in
+      (s .sum ∙ rw (e, z), rw e at (s .bound))

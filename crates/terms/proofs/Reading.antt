@@ -1,0 +1,238 @@
+-- Where a record ends, and which of its readings holds.
+use mathlib.Core.Path.{_≡_, refl, sym, ap, ap₂, _∙_}
+use mathlib.Core.Bool.{Bool, true, false, _&&_, cond}
+use mathlib.Core.List.{List, [], _∷_}
+use mathlib.Core.Option.{Option, none, some}
+use Prim.Native.Nat.{ℕ, _+_, _-_, _*_, _/_, _%_, _<_, _≤_}
+use native.Mathlib.Omega.{arith}
+use lib.Dec.{leb, eqb, leb·zero}
+use lib.ListN.{length, drop, length-drop}
+use lib.Seq.{drop-drop}
+use borrow.Author.Tests.{le-leb, lt-leb, eq-eqb, ne-eqb, leb-true, leb-false, eqb-true, eqb-false}
+use Rattle.theory.specs.Limit.{number-bytes, max-arguments}
+use Rattle.theory.specs.Kind.{Arity, exactly, many, arity, takes}
+use Rattle.theory.specs.Record.{Bytes, word, words, extent, whole, kind-of, body-of, fits, arguments, step, back, unknown, misfit, Shape, plain, indexed, twice-indexed, valued, front, make, shapes, find-shape, shape-of, read, read-term, read-step, read-back}
+use Rattle.terms.specs.declared.Frame.{Frame}
+use Rattle.terms.specs.declared.Frame.the-variants.{End, Broken, Whole as Ends}
+use Rattle.terms.specs.declared.Form.the-variants.{Unknown, Known}
+use Rattle.terms.specs.Framing.{part, record-at, frame-of}
+use Rattle.terms.specs.Bodies.{form-of, sized, fitting, made, least, most}
+use Rattle.terms.proofs.Parts.{both, drop-take, word-take, words-take, length-part, whole-parts}
+use Rattle.terms.proofs.Arms.{Sized}
+
+-- ---- where a record ends
+module _ (bs : Bytes) where
+  pub frame-end : length bs ≤ 0 → End ≡ frame-of bs
+  unfolding frame-of
+  frame-end h = rw (eq-eqb (length bs) 0 (omega arith))
+
+  pub frame-short : 0 < length bs → length bs < number-bytes → Broken ≡ frame-of bs
+  unfolding frame-of
+  frame-short h l = rw (ne-eqb (length bs) 0 (λ e. omega arith), lt-leb number-bytes (length bs) l)
+
+  module _ (two : number-bytes ≤ length bs) where
+    pub frame-low : word bs < number-bytes → Broken ≡ frame-of bs
+    unfolding frame-of
+    frame-low h = rw (ne-eqb (length bs) 0 (λ e. omega arith), le-leb number-bytes (length bs) two, lt-leb number-bytes (word bs) h)
+
+    pub frame-beyond : number-bytes ≤ word bs → length bs < extent bs → Broken ≡ frame-of bs
+    unfolding frame-of
+    frame-beyond h l = rw (ne-eqb (length bs) 0 (λ e. omega arith), le-leb number-bytes (length bs) two, le-leb number-bytes (word bs) h, lt-leb (extent bs) (length bs) l)
+
+    pub frame-whole : number-bytes ≤ word bs → extent bs ≤ length bs → Ends (extent bs) ≡ frame-of bs
+    unfolding frame-of
+    frame-whole h l = rw (ne-eqb (length bs) 0 (λ e. omega arith), le-leb number-bytes (length bs) two, le-leb number-bytes (word bs) h, le-leb (extent bs) (length bs) l)
+
+-- ---- what a caller learns of the place from its frame
+abbrev framing : Bytes → Bool → Bool → Frame
+framing bs none-left stands-whole = cond none-left End (cond stands-whole (Ends (extent bs)) Broken)
+
+pub end-learnt : (bs : Bytes) → End ≡ frame-of bs → length bs ≡ 0
+unfolding frame-of
+end-learnt bs e = go (eqb (length bs) 0) (whole bs) (eqb-true (length bs) 0) e
+  where
+    go : (a b : Bool) → (a ≡ true → length bs ≡ 0) → End ≡ framing bs a b → length bs ≡ 0
+    go true b f d = f refl
+    go false true f d = absurd (let z : _≡_ {A = ℕ} 0 1 = cc in omega arith)
+    go false false f d = absurd (let z : _≡_ {A = ℕ} 0 1 = cc in omega arith)
+
+pub broken-learnt : (bs : Bytes) → Broken ≡ frame-of bs → (length bs ≡ 0 → ⊥) × (whole bs ≡ false)
+unfolding frame-of
+broken-learnt bs e = go (eqb (length bs) 0) (whole bs) (eqb-false (length bs) 0) e
+  where
+    go : (a b : Bool) → (a ≡ false → length bs ≡ 0 → ⊥) → Broken ≡ framing bs a b → (length bs ≡ 0 → ⊥) × (b ≡ false)
+    go true b f d = absurd (let z : _≡_ {A = ℕ} 0 1 = cc in omega arith)
+    go false true f d = absurd (let z : _≡_ {A = ℕ} 0 1 = cc in omega arith)
+    go false false f d = (f refl, refl)
+
+pub whole-learnt : (bs : Bytes) {n : ℕ} → Ends n ≡ frame-of bs → (whole bs ≡ true) × (n ≡ extent bs)
+unfolding frame-of
+whole-learnt bs {n} e = go (eqb (length bs) 0) (whole bs) e
+  where
+    go : (a b : Bool) → Ends n ≡ framing bs a b → (b ≡ true) × (n ≡ extent bs)
+    go true b d = absurd (let z : _≡_ {A = ℕ} 0 1 = cc in omega arith)
+    go false true d = (refl, cc)
+    go false false d = absurd (let z : _≡_ {A = ℕ} 0 1 = cc in omega arith)
+
+-- ---- a body's length, by its number of arguments
+between : (a : Arity) (n : ℕ) → leb (least a) n && leb n (most a) ≡ takes a n
+between (exactly k) n = go (leb k n) (leb n k) (eqb n k) refl refl refl
+  where
+    go : (p q r : Bool) → leb k n ≡ p → leb n k ≡ q → eqb n k ≡ r → p && q ≡ r
+    go true true true a b c = refl
+    go true true false a b c =
+        let x = leb-true k n a in
+        let y = leb-true n k b in
+        let e : eqb n k ≡ true = eq-eqb n k (omega arith) in
+        cc
+    go true false true a b c = absurd (let x = leb-false n k b in let y = eqb-true n k c in omega arith)
+    go true false false a b c = refl
+    go false q true a b c = absurd (let x = leb-false k n a in let y = eqb-true n k c in omega arith)
+    go false q false a b c = refl
+between many n = refl
+
+-- the arity does not change with the numbers in front
+abbrev Steady : Shape → Type 0
+Steady s = (b : Bytes) → arity (make s b) ≡ arity (make s [])
+
+abbrev AllSteady : List Shape → Type 0
+AllSteady [] = Unit {0}
+AllSteady (plain o ∷ ss) = AllSteady ss
+AllSteady (indexed f ∷ ss) = Steady (indexed f) × AllSteady ss
+AllSteady (twice-indexed f ∷ ss) = Steady (twice-indexed f) × AllSteady ss
+AllSteady (valued f ∷ ss) = Steady (valued f) × AllSteady ss
+
+steady-split : (s : Shape) (ss : List Shape) → AllSteady (s ∷ ss) → Steady s × AllSteady ss
+steady-split (plain o) ss h = (λ b. refl, h)
+steady-split (indexed f) ss h = h
+steady-split (twice-indexed f) ss h = h
+steady-split (valued f) ss h = h
+
+-- what is said of the shape, if there is one
+abbrev IfSome : (Shape → Type 0) → Option Shape → Type 0
+IfSome P none = Unit {0}
+IfSome P (some s) = P s
+
+find-steady : (k : ℕ) (ss : List Shape) → AllSteady ss → IfSome Steady (find-shape k ss)
+find-steady k [] h = tt
+find-steady k (s ∷ ss) h = go (eqb _ k) (find-steady k ss (steady-split s ss h .1))
+  where
+    go : (b : Bool) → IfSome Steady (find-shape k ss) → IfSome Steady (cond b (some s) (find-shape k ss))
+    go true ih = steady-split s ss h .0
+    go false ih = ih
+
+pub steady-of : (k : ℕ) → IfSome Steady (shape-of k)
+unfolding shape-of
+steady-of k = find-steady k shapes (λ b. refl, (λ b. refl, (λ b. refl, (λ b. refl, (λ b. refl, (λ b. refl, tt))))))
+
+fits-of : (s : Shape) → Steady s → (b : Bytes) {size : ℕ} → length b ≡ size
+    → sized size (front s) (least (arity (make s []))) (most (arity (make s []))) ≡ fits (front s) (takes (arity (make s b))) b
+fits-of s h b e = rw (← e, h b, between (arity (make s [])))
+
+-- ---- a kind's body, by its form
+module _ (o : Option Shape) (h : IfSome Steady o) (b : Bytes) {size : ℕ} (e : length b ≡ size) where
+  pub test-of : {f l m : ℕ} → Known f l m ≡ form-of o → sized size f l m ≡ fitting o b
+  test-of g = go o h g
+    where
+      go : (q : Option Shape) → IfSome Steady q → {f l m : ℕ} → Known f l m ≡ form-of q → sized size f l m ≡ fitting q b
+      go none k {f} {l} {m} d = absurd (let z : _≡_ {A = ℕ} 0 1 = cc in omega arith)
+      go (some s) k {f} {l} {m} d =
+          let x : f ≡ front s = cc in
+          let y : l ≡ least (arity (make s [])) = cc in
+          let z : m ≡ most (arity (make s [])) = cc in
+          rw (x, y, z) (fits-of s k b e)
+
+pub form-unknown : (o : Option Shape) → Unknown ≡ form-of o → (b : Bytes) → unknown ≡ read-term o b
+form-unknown none e b = refl
+form-unknown (some s) e b = absurd (let z : _≡_ {A = ℕ} 0 1 = cc in omega arith)
+
+pub term-fits : (o : Option Shape) (b : Bytes) → fitting o b ≡ true → made o b ≡ read-term o b
+term-fits none b e = refl
+term-fits (some s) b e = rw e
+
+-- a form is known, so there is a shape
+pub term-misfit : (o : Option Shape) (b : Bytes) {f l m : ℕ} → Known f l m ≡ form-of o → fitting o b ≡ false → misfit ≡ read-term o b
+term-misfit none b g e = absurd (let z : _≡_ {A = ℕ} 0 1 = cc in omega arith)
+term-misfit (some s) b g e = rw e
+
+-- ---- a step's body
+step-test : (b : Bytes) {size : ℕ} → length b ≡ size → sized size number-bytes 0 max-arguments ≡ fits number-bytes (λ n. leb n max-arguments) b
+step-test b e = rw (← e, leb·zero)
+
+module _ (job : Bytes) (body size : ℕ) (h : body + size ≤ length job) where
+  pub step-misfit : sized size number-bytes 0 max-arguments ≡ false → misfit ≡ read-step (part job body size)
+  step-misfit e = rw (sym (step-test (part job body size) (length-part job body size h)) ∙ e)
+
+  -- the literals lie in the body, and are not too many
+  pub step-sizes : sized size number-bytes 0 max-arguments ≡ true → Sized number-bytes size × ((size - number-bytes) / number-bytes ≤ max-arguments)
+  step-sizes e =
+      let p = both (leb number-bytes size) _ e in
+      let q = both (eqb ((size - number-bytes) % number-bytes) 0) _ (p .1) in
+      let r = both (leb 0 ((size - number-bytes) / number-bytes)) _ (q .1) in
+      (record { long = leb-true number-bytes size (p .0); even = eqb-true ((size - number-bytes) % number-bytes) 0 (q .0) }, leb-true _ max-arguments (r .1))
+
+  pub step-fits : sized size number-bytes 0 max-arguments ≡ true → {n : ℕ} → n ≡ word (drop body job)
+      → step n (words ((size - number-bytes) / number-bytes) (drop (body + number-bytes) job)) ≡ read-step (part job body size)
+  step-fits e {n} f =
+      let b = part job body size in
+      let len : length b ≡ size = length-part job body size h in
+      let s = step-sizes e .0 in
+      let l = s .long in
+      let k = (size - number-bytes) / number-bytes in
+      let t : fits number-bytes (λ i. leb i max-arguments) b ≡ true = sym (step-test b len) ∙ e in
+      let w : word b ≡ n = word-take size (drop body job) l ∙ sym f in
+      let a : arguments number-bytes b ≡ words k (drop (body + number-bytes) job)
+      = ap (λ (m : ℕ). words ((m - number-bytes) / number-bytes) (drop number-bytes b)) len
+      ∙ ap (words k) (drop-take number-bytes size (drop body job))
+      ∙ words-take k (size - number-bytes) (drop number-bytes (drop body job)) (omega arith)
+      ∙ ap (words k) (drop-drop number-bytes body job) in
+      sym (ap (λ (c : Bool). cond c (step (word b) (arguments number-bytes b)) misfit) t ∙ ap₂ step w a)
+
+  -- ---- a back's body
+  pub back-misfit : (size ≡ number-bytes → ⊥) → misfit ≡ read-back (part job body size)
+  back-misfit n = rw (length-part job body size h, ne-eqb size number-bytes n)
+
+  pub back-fits : size ≡ number-bytes → {n : ℕ} → n ≡ word (drop body job) → back n ≡ read-back (part job body size)
+  back-fits s {n} f =
+      let w : word (part job body size) ≡ n = word-take size (drop body job) (omega arith) ∙ sym f in
+      rw (length-part job body size h, eq-eqb size number-bytes s, w)
+
+-- ---- a record's kind and body, by its place in the job
+-- the record lies in the job, and has a kind
+pub record Stands (job : Bytes) (at : ℕ) : Type 0 where
+  pub low : number-bytes ≤ word (drop at job)
+  pub end : at + (number-bytes + word (drop at job)) ≤ length job
+
+pub stands : (job : Bytes) (at : ℕ) → whole (drop at job) ≡ true → Stands job at
+stands job at w =
+    let p = whole-parts (drop at job) w in
+    let l = length-drop at job in
+    let f = p .fit in
+    record { low = p .low; end = omega arith }
+
+module _ {job : Bytes} {at : ℕ} (s : Stands job at) where
+  pub kind-there : {k : ℕ} → k ≡ word (drop (at + number-bytes) job) → kind-of (record-at job at) ≡ k
+  kind-there e =
+      let bs = drop at job in
+      let l = s .low in
+      ap word (drop-take number-bytes (extent bs) bs) ∙ word-take (extent bs - number-bytes) (drop number-bytes bs) (omega arith)
+      ∙ ap word (drop-drop number-bytes at job) ∙ sym e
+
+  pub body-there : {n : ℕ} → n ≡ word (drop at job) → body-of (record-at job at) ≡ part job (at + number-bytes * 2) (n - number-bytes)
+  body-there {n} f =
+      let bs = drop at job in
+      let e : extent bs - (number-bytes + number-bytes) ≡ n - number-bytes = omega arith in
+      drop-take (number-bytes + number-bytes) (extent bs) bs ∙ rw (drop-drop, e)
+
+module _ (r : Bytes) {b : Bytes} (h : body-of r ≡ b) where
+  pub read-as-step : kind-of r ≡ 100 → read-step b ≡ read r
+  unfolding read
+  read-as-step e = rw (eq-eqb (kind-of r) 100 e, ← h)
+
+  pub read-as-back : kind-of r ≡ 101 → read-back b ≡ read r
+  unfolding read
+  read-as-back e = rw (ne-eqb (kind-of r) 100 (λ f. omega arith), eq-eqb (kind-of r) 101 e, ← h)
+
+  pub read-as-term : {k : ℕ} → kind-of r ≡ k → (k ≡ 100 → ⊥) → (k ≡ 101 → ⊥) → read-term (shape-of k) b ≡ read r
+  unfolding read
+  read-as-term {k} e f g = rw (e, ne-eqb k 100 f, ne-eqb k 101 g, ← h)

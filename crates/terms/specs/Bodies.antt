@@ -1,0 +1,50 @@
+-- The body of a record: the length that its kind has, and what it says.
+use mathlib.Core.Path.{_≡_}
+use mathlib.Core.Bool.{Bool, true, _&&_}
+use mathlib.Core.List.{[]}
+use mathlib.Core.Option.{Option, none, some}
+use Prim.Native.Nat.{ℕ, _+_, _-_, _/_, _%_, _≤_}
+use lib.Dec.{leb, eqb}
+use lib.ListN.{length}
+use Rattle.theory.specs.Limit.{max-arguments, number-bytes}
+use Rattle.theory.specs.Kind.{Arity, exactly, many, arity, takes}
+use Rattle.theory.specs.Record.{Bytes, fits, arguments, Shape, front, make, shape-of, Item, term, unknown}
+use Rattle.terms.specs.declared.Form.{Form}
+use Rattle.terms.specs.declared.Form.the-variants.{Unknown, Known}
+use Rattle.terms.specs.Framing.{part}
+
+-- the least and the greatest number of arguments
+abbrev pub least : Arity → ℕ
+least (exactly k) = k
+least many = 1
+
+abbrev pub most : Arity → ℕ
+most (exactly k) = k
+most many = max-arguments
+
+-- the form of a body with that shape
+abbrev pub form-of : Option Shape → Form
+form-of none = Unknown
+form-of (some s) = Known (front s) (least (arity (make s []))) (most (arity (make s [])))
+
+-- a body of so many bytes is `before` bytes and then from `low` to `high` arguments
+abbrev pub sized : ℕ → ℕ → ℕ → ℕ → Bool
+sized size before low high =
+    leb before size
+    && (eqb ((size - before) % number-bytes) 0
+    && (leb low ((size - before) / number-bytes) && leb ((size - before) / number-bytes) high))
+
+-- the body has the length of the kind's shape
+abbrev pub fitting : Option Shape → Bytes → Bool
+fitting none body = true
+fitting (some s) body = fits (front s) (takes (arity (make s body))) body
+
+-- what a body that fits says
+abbrev pub made : Option Shape → Bytes → Item
+made none body = unknown
+made (some s) body = term (make s body) (arguments (front s) body)
+
+-- a body stands in the job, and has the length of its kind
+pub record Body (job : Bytes) (kind body size : ℕ) : Type 0 where
+  pub end : body + size ≤ length job
+  pub fit : fitting (shape-of kind) (part job body size) ≡ true

@@ -1,0 +1,20 @@
+-- Places in a job: parts of it, its records, and where they end.
+use mathlib.Core.Bool.{cond}
+use Prim.Native.Nat.{ℕ}
+use lib.Dec.{eqb}
+use lib.ListN.{length, take, drop}
+use Rattle.theory.specs.Record.{Bytes, extent, whole}
+use Rattle.terms.specs.declared.Frame.{Frame}
+use Rattle.terms.specs.declared.Frame.the-variants.{End, Broken, Whole}
+
+-- n bytes from `at` on
+abbrev pub part : Bytes → ℕ → ℕ → Bytes
+part job at n = take n (drop at job)
+
+-- the record at `at`
+abbrev pub record-at : Bytes → ℕ → Bytes
+record-at job at = part job at (extent (drop at job))
+
+-- what stands at the start of these bytes: nothing, no whole record, or a record of so many bytes
+unfoldable pub frame-of : Bytes → Frame
+frame-of bs = cond (eqb (length bs) 0) End (cond (whole bs) (Whole (extent bs)) Broken)

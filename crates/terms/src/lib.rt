@@ -1,0 +1,434 @@
+// A job's bytes as decoded records: the numbers in them, where a record ends, and what it says.
+ghost use mathlib.Core.Path.{_≡_};
+ghost use mathlib.Core.Bool.{true};
+ghost use Prim.Native.Nat.{_+_, _*_, _^_, _<_, _≤_};
+ghost use lib.ListN.{length, take, drop, getD};
+ghost use Rattle.theory.specs.Limit.{number-bytes, value-bytes};
+ghost use Rattle.theory.specs.Record.{little-endian, word, whole, shape-of, read, read-term, read-step, read-back};
+ghost use Rattle.theory.specs.Codes.{all-below};
+ghost use Rattle.terms.specs.Framing.{part, record-at, frame-of};
+ghost use Rattle.terms.specs.Decoded.{Inside, OperandsPlaced, Placed, Says, listed, item-of, operands-of, arguments-of};
+ghost use Rattle.terms.specs.Bodies.{Body, form-of, sized, made};
+
+// An argument list: its place in the job's bytes, and how many numbers stand there.
+pub struct Args {
+    pub at: usize,
+    pub count: usize,
+}
+
+// A term, with the numbers of its arguments. No record says `True` or `False`: they are terms 0 and 1.
+pub enum Term {
+    True,
+    False,
+    // name
+    BoolVar(u32),
+    // width, name
+    BvVar(u32, u32),
+    // width, value
+    Const(u32, u64),
+    Not(u32),
+    And(Args),
+    Or(Args),
+    Xor(u32, u32),
+    Equals(u32, u32),
+    Ite(u32, u32, u32),
+    // index, term
+    BvBitOf(u32, u32),
+    BvBbTerm(Args),
+    BvNot(u32),
+    BvNeg(u32),
+    BvAnd(Args),
+    BvOr(Args),
+    BvXor(Args),
+    BvAdd(Args),
+    BvMul(Args),
+    BvXNor(u32, u32),
+    BvComp(u32, u32),
+    BvULt(u32, u32),
+    BvSLt(u32, u32),
+    BvShl(u32, u32),
+    BvLShr(u32, u32),
+    BvAShr(u32, u32),
+    BvUDiv(u32, u32),
+    BvURem(u32, u32),
+    BvConcat(Args),
+    // upper index, lower index, term
+    BvExtract(u32, u32, u32),
+    // copies of the top bit, term
+    SignExtend(u32, u32),
+}
+
+// The arguments of a term: so many numbers, or a list in the job.
+pub enum Operands {
+    None,
+    One(u32),
+    Two(u32, u32),
+    Three(u32, u32, u32),
+    List(Args),
+}
+
+// What stands at a place of a job: nothing more, no whole record, or a record of so many bytes.
+pub enum Frame {
+    End,
+    Broken,
+    Whole(usize),
+}
+
+// What a record says: a term, a step's rule and literals, a back's count, or why it can't be read.
+pub enum Item {
+    Term(Term),
+    Step(u32, Args),
+    Back(u32),
+    // a kind that is unknown
+    Unknown,
+    // a body that has not the kind's length
+    Misfit,
+}
+
+// The body of a kind: so many bytes of numbers in front, then from a least to a greatest number of arguments.
+pub enum Form {
+    Unknown,
+    Known(usize, usize, usize),
+}
+
+// A byte as a wide number.
+fn wide(x: u8) -> u64
+    ensures { λ r. ⌜ (r ≡ x) × (r < 256) ⌝ }
+{
+    x as u64
+}
+
+impl Term {
+    // the greatest width of a bit-vector
+    pub const MAX_WIDTH: u32 = 64;
+    // the greatest number of arguments of a term, and of literals of a step
+    pub const MAX_ARGUMENTS: usize = 64;
+    // the greatest number of terms, `True` and `False` counted
+    pub const MAX_TERMS: u32 = 65535;
+    // bytes of a number in a record
+    pub const NUMBER_BYTES: usize = 2;
+    // bytes of a constant's value
+    pub const VALUE_BYTES: usize = 8;
+
+    // Byte i after the place `at`, or 0 past the end.
+    fn byte(s: &[u8], at: usize, i: usize) -> u64
+        ensures { λ r. ⌜ (r ≡ getD (drop at (now (s .entry))) i 0) × (r < 256) ⌝ }
+    {
+        if s.len() <= at {
+            return 0;
+        }
+        if s.len() - at <= i {
+            return 0;
+        }
+        wide(s[at + i])
+    }
+
+    // The number in the n bytes from `at` on, lowest byte first.
+    fn bytes(s: &[u8], at: usize, n: usize) -> u64
+        requires { ⌜ n ≤ 8 ⌝ }
+        ensures { λ r. ⌜ (r ≡ little-endian (take n (drop at (now (s .entry))))) × (r < 256 ^ n) ⌝ }
+    {
+        let mut x: u64 = 0;
+        let mut i = n;
+        while 0 < i {
+            i -= 1;
+            x = 256 * x + Term::byte(s, at, i);
+        }
+        x
+    }
+
+    // The number at `at`.
+    pub fn number(s: &[u8], at: usize) -> u32
+        ensures value { λ r. ⌜ r ≡ word (drop at (now (s .entry))) ⌝ }
+        ensures bound { λ r. ⌜ r < 256 ^ number-bytes ⌝ }
+    {
+        Term::bytes(s, at, Term::NUMBER_BYTES) as u32
+    }
+
+    // A constant's value at `at`.
+    pub fn value(s: &[u8], at: usize) -> u64
+        ensures { λ r. ⌜ r ≡ little-endian (take value-bytes (drop at (now (s .entry)))) ⌝ }
+    {
+        Term::bytes(s, at, Term::VALUE_BYTES)
+    }
+
+    // What stands at the place `at` of a job.
+    pub fn frame(job: &[u8], at: usize) -> Frame
+        ensures { λ r. ⌜ r ≡ frame-of (drop at (now (job .entry))) ⌝ }
+    {
+        if job.len() <= at {
+            return Frame::End;
+        }
+        let left = job.len() - at;
+        if left < Term::NUMBER_BYTES {
+            return Frame::Broken;
+        }
+        let size = Term::number(job, at) as usize;
+        if size < Term::NUMBER_BYTES {
+            return Frame::Broken;
+        }
+        if left < Term::NUMBER_BYTES + size {
+            return Frame::Broken;
+        }
+        Frame::Whole(Term::NUMBER_BYTES + size)
+    }
+
+    // The form of a kind's body, by document 01's table of kinds.
+    fn form(kind: u32) -> Form
+        ensures { λ r. ⌜ r ≡ form-of (shape-of kind) ⌝ }
+    {
+        match kind {
+            10 => Form::Known(Term::NUMBER_BYTES, 0, 0),
+            11 => Form::Known(2 * Term::NUMBER_BYTES, 0, 0),
+            12 => Form::Known(Term::NUMBER_BYTES + Term::VALUE_BYTES, 0, 0),
+            20 => Form::Known(0, 1, 1),
+            21..=22 => Form::Known(0, 1, Term::MAX_ARGUMENTS),
+            23..=24 => Form::Known(0, 2, 2),
+            25 => Form::Known(0, 3, 3),
+            30 => Form::Known(Term::NUMBER_BYTES, 1, 1),
+            31 => Form::Known(0, 1, Term::MAX_ARGUMENTS),
+            40..=41 => Form::Known(0, 1, 1),
+            42..=46 => Form::Known(0, 1, Term::MAX_ARGUMENTS),
+            47..=55 => Form::Known(0, 2, 2),
+            56 => Form::Known(0, 1, Term::MAX_ARGUMENTS),
+            57 => Form::Known(2 * Term::NUMBER_BYTES, 1, 1),
+            58 => Form::Known(Term::NUMBER_BYTES, 1, 1),
+            _ => Form::Unknown,
+        }
+    }
+
+    // Is a body of `size` bytes `front` bytes and then from `least` to `most` arguments?
+    fn fits(size: usize, front: usize, least: usize, most: usize) -> bool
+        ensures { λ r. ⌜ r ≡ sized size front least most ⌝ }
+    {
+        if size < front {
+            return false;
+        }
+        let rest = size - front;
+        if rest % Term::NUMBER_BYTES != 0 {
+            return false;
+        }
+        let count = rest / Term::NUMBER_BYTES;
+        if count < least {
+            return false;
+        }
+        count <= most
+    }
+
+    // A term of a kind below 40, from a body that fits its kind.
+    fn core_term(job: &[u8], kind: u32, body: usize, size: usize) -> Item
+        requires { ⌜ Body (now job) kind body size × (kind < 40) ⌝ }
+        ensures { λ r. ⌜ Says (now (job .entry)) r (made (shape-of kind) (part (now (job .entry)) body size)) ⌝ }
+    {
+        let x = Term::number(job, body);
+        let y = Term::number(job, body + Term::NUMBER_BYTES);
+        let z = Term::number(job, body + 2 * Term::NUMBER_BYTES);
+        let list = Args {
+            at: body,
+            count: size / Term::NUMBER_BYTES,
+        };
+        match kind {
+            10 => Item::Term(Term::BoolVar(x)),
+            11 => Item::Term(Term::BvVar(x, y)),
+            12 => Item::Term(Term::Const(x, Term::value(job, body + Term::NUMBER_BYTES))),
+            20 => Item::Term(Term::Not(x)),
+            21 => Item::Term(Term::And(list)),
+            22 => Item::Term(Term::Or(list)),
+            23 => Item::Term(Term::Xor(x, y)),
+            24 => Item::Term(Term::Equals(x, y)),
+            25 => Item::Term(Term::Ite(x, y, z)),
+            30 => Item::Term(Term::BvBitOf(x, y)),
+            31 => Item::Term(Term::BvBbTerm(list)),
+            _ => Item::Unknown,
+        }
+    }
+
+    // A term of a kind from 40 on, from a body that fits its kind.
+    fn bv_term(job: &[u8], kind: u32, body: usize, size: usize) -> Item
+        requires { ⌜ Body (now job) kind body size × (40 ≤ kind) ⌝ }
+        ensures { λ r. ⌜ Says (now (job .entry)) r (made (shape-of kind) (part (now (job .entry)) body size)) ⌝ }
+    {
+        let x = Term::number(job, body);
+        let y = Term::number(job, body + Term::NUMBER_BYTES);
+        let z = Term::number(job, body + 2 * Term::NUMBER_BYTES);
+        let list = Args {
+            at: body,
+            count: size / Term::NUMBER_BYTES,
+        };
+        match kind {
+            40 => Item::Term(Term::BvNot(x)),
+            41 => Item::Term(Term::BvNeg(x)),
+            42 => Item::Term(Term::BvAnd(list)),
+            43 => Item::Term(Term::BvOr(list)),
+            44 => Item::Term(Term::BvXor(list)),
+            45 => Item::Term(Term::BvAdd(list)),
+            46 => Item::Term(Term::BvMul(list)),
+            47 => Item::Term(Term::BvXNor(x, y)),
+            48 => Item::Term(Term::BvComp(x, y)),
+            49 => Item::Term(Term::BvULt(x, y)),
+            50 => Item::Term(Term::BvSLt(x, y)),
+            51 => Item::Term(Term::BvShl(x, y)),
+            52 => Item::Term(Term::BvLShr(x, y)),
+            53 => Item::Term(Term::BvAShr(x, y)),
+            54 => Item::Term(Term::BvUDiv(x, y)),
+            55 => Item::Term(Term::BvURem(x, y)),
+            56 => Item::Term(Term::BvConcat(list)),
+            57 => Item::Term(Term::BvExtract(x, y, z)),
+            58 => Item::Term(Term::SignExtend(x, y)),
+            _ => Item::Unknown,
+        }
+    }
+
+    // What a record of that kind says that is no step and no back. Its body is the `size` bytes from `body` on.
+    fn read_term(job: &[u8], kind: u32, body: usize, size: usize) -> Item
+        requires { ⌜ body + size ≤ length (now job) ⌝ }
+        ensures { λ r. ⌜ Says (now (job .entry)) r (read-term (shape-of kind) (part (now (job .entry)) body size)) ⌝ }
+    {
+        let Form::Known(front, least, most) = Term::form(kind) else {
+            return Item::Unknown;
+        };
+        if !Term::fits(size, front, least, most) {
+            return Item::Misfit;
+        }
+        if kind < 40 {
+            Term::core_term(job, kind, body, size)
+        } else {
+            Term::bv_term(job, kind, body, size)
+        }
+    }
+
+    // What a step with that body says.
+    fn read_step(job: &[u8], body: usize, size: usize) -> Item
+        requires { ⌜ body + size ≤ length (now job) ⌝ }
+        ensures { λ r. ⌜ Says (now (job .entry)) r (read-step (part (now (job .entry)) body size)) ⌝ }
+    {
+        if !Term::fits(size, Term::NUMBER_BYTES, 0, Term::MAX_ARGUMENTS) {
+            return Item::Misfit;
+        }
+        let rule = Term::number(job, body);
+        let literals = Args {
+            at: body + Term::NUMBER_BYTES,
+            count: (size - Term::NUMBER_BYTES) / Term::NUMBER_BYTES,
+        };
+        Item::Step(rule, literals)
+    }
+
+    // What a back with that body says.
+    fn read_back(job: &[u8], body: usize, size: usize) -> Item
+        requires { ⌜ body + size ≤ length (now job) ⌝ }
+        ensures { λ r. ⌜ Says (now (job .entry)) r (read-back (part (now (job .entry)) body size)) ⌝ }
+    {
+        if size != Term::NUMBER_BYTES {
+            return Item::Misfit;
+        }
+        Item::Back(Term::number(job, body))
+    }
+
+    // What the whole record at `at` says: 100 is a step, 101 a back, and any other kind a term or unknown.
+    pub fn read(job: &[u8], at: usize) -> Item
+        requires { ⌜ whole (drop at (now job)) ≡ true ⌝ }
+        ensures says { λ r. ⌜ item-of (now (job .entry)) r ≡ read (record-at (now (job .entry)) at) ⌝ }
+        ensures placed { λ r. ⌜ Placed (now (job .entry)) r ⌝ }
+    {
+        let size = Term::number(job, at) as usize - Term::NUMBER_BYTES;
+        let kind = Term::number(job, at + Term::NUMBER_BYTES);
+        let body = at + 2 * Term::NUMBER_BYTES;
+        match kind {
+            100 => Term::read_step(job, body, size),
+            101 => Term::read_back(job, body, size),
+            _ => Term::read_term(job, kind, body, size),
+        }
+    }
+
+    // Argument i of a list.
+    pub fn argument(job: &[u8], list: Args, i: usize) -> u32
+        requires { ⌜ Inside (now job) list × (i < list .count) ⌝ }
+        ensures { λ r. ⌜ r ≡ getD (listed (now (job .entry)) list) i 0 ⌝ }
+    {
+        let at = list.at;
+        Term::number(job, at + Term::NUMBER_BYTES * i)
+    }
+
+    // Is each number of a list below n?
+    pub fn all_below(job: &[u8], list: Args, n: u32) -> bool
+        requires { ⌜ Inside (now job) list ⌝ }
+        ensures { λ r. ⌜ r ≡ all-below n (listed (now (job .entry)) list) ⌝ }
+    {
+        let count = list.count;
+        let mut i = 0;
+        while i < count {
+            if n <= Term::argument(job, list, i) {
+                return false;
+            }
+            i += 1;
+        }
+        true
+    }
+
+    // The arguments of a term.
+    pub fn operands(self) -> Operands
+        ensures { λ r. ⌜ r ≡ operands-of self ⌝ }
+    {
+        match self {
+            Term::True => Operands::None,
+            Term::False => Operands::None,
+            Term::BoolVar(_) => Operands::None,
+            Term::BvVar(_, _) => Operands::None,
+            Term::Const(_, _) => Operands::None,
+            Term::Not(x) => Operands::One(x),
+            Term::And(a) => Operands::List(a),
+            Term::Or(a) => Operands::List(a),
+            Term::Xor(x, y) => Operands::Two(x, y),
+            Term::Equals(x, y) => Operands::Two(x, y),
+            Term::Ite(c, x, y) => Operands::Three(c, x, y),
+            Term::BvBitOf(_, x) => Operands::One(x),
+            Term::BvBbTerm(a) => Operands::List(a),
+            Term::BvNot(x) => Operands::One(x),
+            Term::BvNeg(x) => Operands::One(x),
+            Term::BvAnd(a) => Operands::List(a),
+            Term::BvOr(a) => Operands::List(a),
+            Term::BvXor(a) => Operands::List(a),
+            Term::BvAdd(a) => Operands::List(a),
+            Term::BvMul(a) => Operands::List(a),
+            Term::BvXNor(x, y) => Operands::Two(x, y),
+            Term::BvComp(x, y) => Operands::Two(x, y),
+            Term::BvULt(x, y) => Operands::Two(x, y),
+            Term::BvSLt(x, y) => Operands::Two(x, y),
+            Term::BvShl(x, y) => Operands::Two(x, y),
+            Term::BvLShr(x, y) => Operands::Two(x, y),
+            Term::BvAShr(x, y) => Operands::Two(x, y),
+            Term::BvUDiv(x, y) => Operands::Two(x, y),
+            Term::BvURem(x, y) => Operands::Two(x, y),
+            Term::BvConcat(a) => Operands::List(a),
+            Term::BvExtract(_, _, x) => Operands::One(x),
+            Term::SignExtend(_, x) => Operands::One(x),
+        }
+    }
+
+    // Is each argument of a term below n?
+    pub fn below(self, job: &[u8], n: u32) -> bool
+        requires { ⌜ OperandsPlaced (now job) (operands-of self) ⌝ }
+        ensures { λ r. ⌜ r ≡ all-below n (arguments-of (now (job .entry)) self) ⌝ }
+    {
+        match self.operands() {
+            Operands::None => true,
+            Operands::One(x) => x < n,
+            Operands::Two(x, y) => {
+                if n <= x {
+                    return false;
+                }
+                y < n
+            }
+            Operands::Three(x, y, z) => {
+                if n <= x {
+                    return false;
+                }
+                if n <= y {
+                    return false;
+                }
+                z < n
+            }
+            Operands::List(a) => Term::all_below(job, a, n),
+        }
+    }
+}
