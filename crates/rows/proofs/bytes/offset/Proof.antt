@@ -1,0 +1,26 @@
+use native.Mathlib.Omega.{arith}
+use borrow.Author.Needs.{needs}
+use Rattle.rows.proofs.RowLaws.{offset-is}
+use Rattle.rows.proofs.bytes.offset.Statement.{statement}
+use Rattle.rows.proofs.bytes.offset.Tie as tie
+
+returns : tie.Need-returns
+returns c = record { value = omega (arith, offset-is (c .before .before .before .before .before .before .before .args .s .now) (c .before .before .before .before .before .before .before .args .at)); below = omega arith }
+
+pub offset-spec : {M : Type 1} → statement M
+offset-spec =
+    tie.close
+    (tie.spec
+    (λ c. search needs)
+    (λ c κs. search needs)
+    (λ c. search needs)
+    (λ c. search needs)
+    (λ c κs. search needs)
+    (λ c. search needs)
+    (λ c. search needs)
+    (λ c. search needs)
+    (λ c. search needs)
+    (λ c κs. search needs)
+    (λ c. search needs)
+    (λ c. search needs)
+    returns)

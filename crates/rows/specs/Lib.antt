@@ -1,0 +1,5 @@
+pub mod Layout
+pub mod Rows
+pub mod Slots
+pub mod Promise
+pub mod Keys

@@ -1,0 +1,52 @@
+// Sizes and limits, each named once; theory's Limit and specs/Layout.antt have the same.
+
+// What stands for no place.
+pub const MISSING: u32 = 4294967295;
+
+// The place of row 0: `true` and `false` come before it.
+pub const FIRST_PLACE: usize = 2;
+
+// The greatest number of places, those two counted.
+pub const MAX_PLACES: usize = 65535;
+
+// The greatest number of rows.
+pub const MAX_ROWS: usize = MAX_PLACES - FIRST_PLACE;
+
+// The bytes of a number in a record.
+pub const NUMBER_BYTES: usize = 2;
+
+// The bytes of a constant's value.
+pub const VALUE_BYTES: usize = 8;
+
+// A record is its length, then its kind ..
+pub const KIND_AT: usize = NUMBER_BYTES;
+
+// .. then its body.
+pub const BODY_AT: usize = KIND_AT + NUMBER_BYTES;
+
+// The bytes of a row.
+pub const ROW_BYTES: usize = 8;
+
+// A row starts with the offset of its record in the job, of so many bytes ..
+pub const OFFSET_BYTES: usize = 3;
+
+// .. its depth, a number, stands at this byte ..
+pub const DEPTH_BYTE: usize = 3;
+
+// .. its width, 0 for a Bool, at this one ..
+pub const WIDTH_BYTE: usize = 5;
+
+// .. of so many bytes ..
+pub const WIDTH_BYTES: usize = 1;
+
+// .. and a slot of the table, a number, at this one.
+pub const SLOT_BYTE: usize = 6;
+
+// The most slots that a table has: twice the places that there are.
+pub const MAX_SLOTS: usize = 131072;
+
+// The most arguments of a record.
+pub const MAX_ARGUMENTS: usize = 64;
+
+// An array that is long enough for a record's length, its kind, an index and the most arguments.
+pub const KEY_BYTES: usize = NUMBER_BYTES * (3 + MAX_ARGUMENTS);
