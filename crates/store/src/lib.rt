@@ -1,0 +1,2 @@
+// The terms of a job: gates looked up among the kept records.
+pub mod gates;
