@@ -35,7 +35,7 @@ use Rattle.store.specs.Store.{records}
 use Rattle.store.proofs.Reading.{numbers-length, numbers-bytes, record-sound, read-plain, read-indexed, read-constant}
 
 -- ---- one record: the lookup by bytes and the lookup by what a record says
-bool-ext : (a b : Bool) → (T a → T b) → (T b → T a) → a ≡ b
+pub bool-ext : (a b : Bool) → (T a → T b) → (T b → T a) → a ≡ b
 bool-ext true true f g = refl
 bool-ext false false f g = refl
 bool-ext true false f g = absurd (f tt)
