@@ -17,7 +17,7 @@ use Rattle.theory.specs.Bits.{select, get-term-bits, bb, add-bits}
 use Rattle.theory.specs.Verdict.{Verdict, held, accepted}
 use Rattle.theory.specs.RuleTable.{Rule, by-ult, by-slt, by-neg, by-add}
 use Rattle.theory.specs.Rule.{verdict, compare, on-one, on-two, on-many, on-sides}
-use Rattle.theory.specs.Claim.{NoBbTerm, Bounded, rule-8, rule-9, rule-10, rule-12, DepthBound}
+use Rattle.theory.specs.Claim.{NoBbTerm, HasBound, rule-8, rule-9, rule-10, rule-12, DepthBound}
 use Rattle.theory.proofs.Blast.{T-true, not-bb, is-bb, to-from-list}
 use Rattle.theory.proofs.Same.{decode}
 use Rattle.theory.proofs.Form.{code-held, same-of, unary-held, binary-held, many-held}
@@ -252,7 +252,7 @@ add-bound x y r n a b e =
     subst (λ (t : Term). depth t ≤ 2 * n + 2) (many-claim 45 BvAdd (λ is. refl) (λ ts. bb (add-bits ts)) (cons x (cons y nil)) r e)
     (bounded n (length (get-term-bits x)) (depth (bb (ripple-carry-adder term-gates (node False nil) (get-term-bits x) (get-term-bits y)))) (p .1) (add-depth (get-term-bits x) (get-term-bits y) (p .0) (q .0)))
 
-pub sides-bound : {rule : Rule} {l : Term} {n : ℕ} → Bounded rule l n → (r : Term) → on-sides rule l r ≡ held → depth r ≤ 2 * n + 2
+pub sides-bound : {rule : Rule} {l : Term} {n : ℕ} → HasBound rule l n → (r : Term) → on-sides rule l r ≡ held → depth r ≤ 2 * n + 2
 sides-bound (rule-8 {x} {y} {n} a b) r e = ult-bound x y r n a b e
 sides-bound (rule-9 {x} {y} {n} a b) r e = slt-bound x y r n a b e
 sides-bound (rule-10 {x} {y} {n} a b) r e = add-bound x y r n a b e

@@ -44,16 +44,16 @@ pub record NoBbTerm (t : Term) (n : ℕ) : Type 0 where
   pub no-bb : (ts : Terms) → t ≡ node BvBbTerm ts → ⊥
 
 -- the left sides that it is said of
-pub data Bounded : Rule → Term → ℕ → Type 0 where
-  rule-8 : {x y : Term} {n : ℕ} → NoBbTerm x n → NoBbTerm y n → Bounded by-ult (two BvULt x y) n
-  rule-9 : {x y : Term} {n : ℕ} → NoBbTerm x n → NoBbTerm y n → Bounded by-slt (two BvSLt x y) n
-  rule-10 : {x y : Term} {n : ℕ} → NoBbTerm x n → NoBbTerm y n → Bounded by-add (two BvAdd x y) n
-  rule-12 : {x : Term} {n : ℕ} → NoBbTerm x n → Bounded by-neg (node BvNeg (cons x nil)) n
+pub data HasBound : Rule → Term → ℕ → Type 0 where
+  rule-8 : {x y : Term} {n : ℕ} → NoBbTerm x n → NoBbTerm y n → HasBound by-ult (two BvULt x y) n
+  rule-9 : {x y : Term} {n : ℕ} → NoBbTerm x n → NoBbTerm y n → HasBound by-slt (two BvSLt x y) n
+  rule-10 : {x y : Term} {n : ℕ} → NoBbTerm x n → NoBbTerm y n → HasBound by-add (two BvAdd x y) n
+  rule-12 : {x : Term} {n : ℕ} → NoBbTerm x n → HasBound by-neg (node BvNeg (cons x nil)) n
 
 -- the answer to such a step, where it is held
 abbrev pub DepthBound : Type 0
 DepthBound =
-    (number : ℕ) (rule : Rule) (left right : Term) (n : ℕ) → Bounded rule left n
+    (number : ℕ) (rule : Rule) (left right : Term) (n : ℕ) → HasBound rule left n
     → let a = answer-to number rule (two Equals left right ∷ []) in a .code ≡ 0 → a .depth ≤ 2 * n + 2
 
 -- ---- "Until one holds, the last three sum to all answers written, since the tally was zero, by the jobs it was lent for"

@@ -112,43 +112,43 @@ fitting (BvExtract i j) ss = is-bv-sort (first ss) && (leb j i && ltb i (sort-wi
 fitting (SignExtend k) ss = is-bv-sort (first ss) && leb (sort-width (first ss) + k) max-width
 
 -- the sort of the result, where they fit
-abbrev pub result : Op → List Sort → Sort
-result True ss = bool
-result False ss = bool
-result (BoolVar x) ss = bool
-result (BvVar n x) ss = bv n
-result (Const n x) ss = bv n
-result Not ss = bool
-result And ss = bool
-result Or ss = bool
-result Xor ss = bool
-result Equals ss = bool
-result Ite ss = bool
-result (BvBitOf i) ss = bool
-result BvBbTerm ss = bv (length ss)
-result BvNot ss = first ss
-result BvNeg ss = first ss
-result BvAnd ss = first ss
-result BvOr ss = first ss
-result BvXor ss = first ss
-result BvAdd ss = first ss
-result BvMul ss = first ss
-result BvXNor ss = first ss
-result BvComp ss = bv 1
-result BvULt ss = bool
-result BvSLt ss = bool
-result BvShl ss = first ss
-result BvLShr ss = first ss
-result BvAShr ss = first ss
-result BvUDiv ss = first ss
-result BvURem ss = first ss
-result BvConcat ss = bv (sum-widths ss)
-result (BvExtract i j) ss = bv (suc (i - j))
-result (SignExtend k) ss = bv (sort-width (first ss) + k)
+abbrev pub result-sort : Op → List Sort → Sort
+result-sort True ss = bool
+result-sort False ss = bool
+result-sort (BoolVar x) ss = bool
+result-sort (BvVar n x) ss = bv n
+result-sort (Const n x) ss = bv n
+result-sort Not ss = bool
+result-sort And ss = bool
+result-sort Or ss = bool
+result-sort Xor ss = bool
+result-sort Equals ss = bool
+result-sort Ite ss = bool
+result-sort (BvBitOf i) ss = bool
+result-sort BvBbTerm ss = bv (length ss)
+result-sort BvNot ss = first ss
+result-sort BvNeg ss = first ss
+result-sort BvAnd ss = first ss
+result-sort BvOr ss = first ss
+result-sort BvXor ss = first ss
+result-sort BvAdd ss = first ss
+result-sort BvMul ss = first ss
+result-sort BvXNor ss = first ss
+result-sort BvComp ss = bv 1
+result-sort BvULt ss = bool
+result-sort BvSLt ss = bool
+result-sort BvShl ss = first ss
+result-sort BvLShr ss = first ss
+result-sort BvAShr ss = first ss
+result-sort BvUDiv ss = first ss
+result-sort BvURem ss = first ss
+result-sort BvConcat ss = bv (sum-widths ss)
+result-sort (BvExtract i j) ss = bv (suc (i - j))
+result-sort (SignExtend k) ss = bv (sort-width (first ss) + k)
 
 -- the sort of a term, from the sorts of its arguments
 abbrev pub sort-op : Op → List Sort → Sort
-sort-op o ss = guard (takes (arity o) (length ss) && fitting o ss) (result o ss)
+sort-op o ss = guard (takes (arity o) (length ss) && fitting o ss) (result-sort o ss)
 
 -- the sort of a term
 abbrev pub sort-of : Term → Sort
