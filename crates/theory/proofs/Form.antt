@@ -1,4 +1,4 @@
--- What a code 0 says of the literal's form.
+-- What the verdict held says of the form of the literal.
 use mathlib.Core.Path.{_≡_, refl, sym, ap, ap₂, subst, _∙_}
 use mathlib.Core.Bool.{not, Bool, true, false, cond}
 use mathlib.Core.List.{List, [], _∷_, map}

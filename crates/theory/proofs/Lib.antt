@@ -17,6 +17,7 @@ pub mod Form
 pub mod Slicing
 pub mod Verdict
 pub mod Bytes
+pub mod Stops
 pub mod Places
 pub mod Run
 pub mod Demand

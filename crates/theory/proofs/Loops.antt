@@ -12,7 +12,7 @@ use Rattle.theory.specs.Circuit.{ripple-carry-adder, next-carry, sum-bit
 use Rattle.theory.specs.Alethe.{bits, bit-of, ripple, sh, res, carry}
 use Rattle.theory.proofs.Indexed.{cond-true, cond-false, getD-bits, listed, map-bits, adder-bits}
 
--- ---- Carcara's three tables, as its loops fill them: for n bits, at every row j < n and place i < n. A row's number is written `suc j` where it is not 0
+-- ---- the three tables of bitvectors.rs, as its loops fill them: for n bits, at every row j < n and place i < n. A row's number is written `suc j` where it is not 0
 
 pub record Tables {T : Type 0} (G : Gates T) (x y : ℕ → T) (n : ℕ) (shift carries result : ℕ → ℕ → T) : Type 0 where
   pub shift-at : (j i : ℕ) → j ≤ i → i < n → shift j i ≡ G .and-gate (y j) (x (i - j))

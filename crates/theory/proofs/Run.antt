@@ -25,6 +25,7 @@ use Rattle.theory.specs.Codes.{first-fault, all-below, well-sorted, room
 use Rattle.theory.specs.Answer.{Answer}
 use Rattle.theory.specs.Job.{answer-to, reply, item-answers, answers-to, Outcome, outcome, run-from, run}
 use Rattle.theory.proofs.Basics.{none-some, some-inj, taken, foldl-append, getElem-of, getElem-lt, getElem-seam, snoc-elim}
+use Rattle.theory.proofs.Stops.{Stop, fault-code, ending-code}
 use Rattle.theory.proofs.Places.{tree-at, tree-of, at-places-are, term-of-is}
 
 step-count-append : (xs : List Bytes) (r : Bytes) → step-count (xs ++ (r ∷ [])) ≡ step-count xs + cond (is-step (read r)) 1 0
@@ -275,6 +276,7 @@ module _ (job : Bytes) (work space : ℕ) where
 
   -- what a run's outcome says of the job
   pub record Ran (o : Outcome) : Type 0 where
+    pub stop-known : Stop (o .stop)
     pub short : (m : ℕ) → m < o .records → length job ≤ max-job
     pub within : o .records ≤ length (records-of job)
     pub terms-are : o .terms ≡ length (plain-after (o .records) job)
@@ -284,12 +286,13 @@ module _ (job : Bytes) (work space : ℕ) where
     pub exact-answers : (k : ℕ) (a : Answer) → getElem? (o .answers) k ≡ some a → Answered (o .records) k a
 
   stopped : (stop : ℕ) (pre rs : List Bytes) (list : Plain) (answers : List Answer) → records-of job ≡ pre ++ rs → Good pre list answers
-      → ((m : ℕ) → m < length pre → length job ≤ max-job) → Ran (outcome stop (length pre) answers list)
-  stopped stop pre rs list answers all g short =
+      → ((m : ℕ) → m < length pre → length job ≤ max-job) → Stop stop → Ran (outcome stop (length pre) answers list)
+  stopped stop pre rs list answers all g short code =
       let t : take (length pre) (records-of job) ≡ pre = ap (take (length pre)) all ∙ take-append-seam pre rs in
       let p : list ≡ plain-after (length pre) job = g .plain ∙ ap (foldl feed start) (sym t) in
       let l : length (records-of job) ≡ length pre + length rs = ap length all ∙ length-append pre rs in
       record {
+        stop-known = code;
         short = short;
         within = omega arith;
         terms-are = ap length p;
@@ -299,24 +302,25 @@ module _ (job : Bytes) (work space : ℕ) where
         exact-answers = g .exact;
       }
 
-  by-fault : (f : ℕ) (x : Outcome) (y : ℕ → Outcome) → (f ≡ 0 → Ran x) → ((c : ℕ) → Ran (y c))
+  by-fault : (f : ℕ) (x : Outcome) (y : ℕ → Outcome) → (f ≡ 0 → Ran x) → ((c : ℕ) → f ≡ suc c → Ran (y c))
       → Ran (elim f as (λ z. Outcome) [ zero ↦ x | suc c ↦ y c ])
   by-fault zero x y p q = p refl
-  by-fault (suc c) x y p q = q c
+  by-fault (suc c) x y p q = q c refl
 
-  module _ (end : ℕ) (short : length job ≤ max-job) where
+  module _ (end : ℕ) (stop : Stop end) (short : length job ≤ max-job) where
     runs : (rs pre : List Bytes) (list : Plain) (answers : List Answer) (done : ℕ) → done ≡ length pre → records-of job ≡ pre ++ rs → Good pre list answers
         → Ran (run-from work space end done list answers rs)
     unfolding run-from
     runs [] pre list answers done d all g =
-        subst (λ (n : ℕ). Ran (outcome end n answers list)) (sym d) (stopped end pre [] list answers all g (λ m l. short))
+        subst (λ (n : ℕ). Ran (outcome end n answers list)) (sym d) (stopped end pre [] list answers all g (λ m l. short) stop)
     runs (r ∷ rs) pre list answers done d all g =
         by-fault (fault work space list (length answers) r) (run-from work space end (suc done) (feed list r) (answers ++ answers-to list r) rs) (λ c. outcome (suc c) done answers list)
         (λ e. runs rs (pre ++ (r ∷ [])) (feed list r) (answers ++ answers-to list r) (suc done)
         (ap suc d ∙ sym (length-append pre (r ∷ []) ∙ add-one (length pre)))
         (all ∙ sym (append-assoc pre (r ∷ []) rs))
         (next pre list answers r rs all g e))
-        (λ c. subst (λ (n : ℕ). Ran (outcome (suc c) n answers list)) (sym d) (stopped (suc c) pre (r ∷ rs) list answers all g (λ m l. short)))
+        (λ c e. subst (λ (n : ℕ). Ran (outcome (suc c) n answers list)) (sym d)
+        (stopped (suc c) pre (r ∷ rs) list answers all g (λ m l. short) (subst Stop e (fault-code work space list (length answers) r))))
 
   good-start : Good [] start []
   good-start = record { plain = refl; sorted = start-good; counted = refl; exact = λ k a f. absurd (none-some a f); passed = λ m r l f. absurd (omega arith) }
@@ -330,8 +334,8 @@ module _ (job : Bytes) (work space : ℕ) where
   unfolding run
   ran =
       by-length (leb (length job) max-job) (leb→le (length job) max-job) (run-from work space (ending job) 0 start [] (records-of job)) (outcome 2 0 [] start)
-      (λ s. runs (ending job) s (records-of job) [] start [] 0 refl refl good-start)
-      (stopped 2 [] (records-of job) start [] refl good-start (λ m l. absurd (omega arith)))
+      (λ s. runs (ending job) (ending-code job) s (records-of job) [] start [] 0 refl refl good-start)
+      (stopped 2 [] (records-of job) start [] refl good-start (λ m l. absurd (omega arith)) tt)
 
   take-next : (m : ℕ) (r : Bytes) → getElem? (records-of job) m ≡ some r → take (suc m) (records-of job) ≡ take m (records-of job) ++ (r ∷ [])
   take-next m r e =

@@ -1,4 +1,4 @@
--- `sameTerm` is equality of terms, and a kind is its number and the numbers in it.
+-- `same-term` is equality of terms, and a kind is its number and the numbers in it.
 use mathlib.Core.Path.{_≡_, refl, sym, ap₂, subst, _∙_}
 use mathlib.Core.List.{List, [], _∷_}
 use Prim.Native.Nat.{ℕ, _-_}

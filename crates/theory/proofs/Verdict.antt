@@ -1,4 +1,4 @@
--- A verdict of 0 on a well-sorted literal: it is an equation, and both sides have one value under every assignment.
+-- The verdict held on a well-sorted literal: it is an equality, and both sides have one value under every assignment.
 use mathlib.Core.Path.{_≡_, refl, sym, ap, ap₂, subst, _∙_}
 use mathlib.Core.Bool.{Bool, true, false, _&&_, cond}
 use mathlib.Core.List.{List, [], _∷_, map}
