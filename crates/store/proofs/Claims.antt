@@ -19,9 +19,15 @@ use Rattle.theory.proofs.Same.{same-eq, eq-same}
 use Rattle.theory.proofs.Places.{tree-at}
 use Rattle.theory.proofs.Distinct.{WellKept}
 use Rattle.theory.proofs.Place.{tree-place}
-use Rattle.store.specs.Numbers.{number, bit-number, bit-numbers}
+use Rattle.store.specs.Numbers.{number, bit-number}
+use Rattle.theory.specs.Alethe.{bits}
+use native.Mathlib.Nat.{add-zero, zero-add}
 use Rattle.store.specs.Store.{records}
 use Rattle.store.proofs.Lookup.{bool-ext, number-of, bit-hom, number-exact}
+
+bits-same : (n : ℕ) (f g : ℕ → ℕ) → ((i : ℕ) → f i ≡ g i) → bits n f ≡ bits n g
+bits-same zero f g h = refl
+bits-same (suc n) f g h = ap₂ (λ (x : ℕ) (xs : List ℕ). x ∷ xs) (h 0) (bits-same n (λ i. f (suc i)) (λ i. g (suc i)) (λ i. h (suc i)))
 
 module _ (list : Plain) (w : WellKept list) (few : length list ≤ max-terms) where
   -- a term of the list has its place as number
@@ -34,14 +40,22 @@ module _ (list : Plain) (w : WellKept list) (few : length list ≤ max-terms) wh
       ap₂ (λ (x : ℕ) (xs : List ℕ). x ∷ xs) (own-number k (ltb→lt k (length list) (and-l (ltb k (length list)) _ h)))
       (own-numbers ks (and-r (ltb k (length list)) _ h))
 
-  -- the bits of a term that is no BvBbTerm
-  pub select-numbers : (x i k : ℕ) → x < length list → i + k ≤ 64 → map (number-of list w few) (select (tree-at list x) i k) ≡ bit-numbers (records list) x i k
-  unfolding select bit-numbers
-  select-numbers x i zero h l = refl
-  select-numbers x i (suc k) h l =
+  -- the bits of a term that is no BvBbTerm, from bit i on
+  selected : (x i k : ℕ) → x < length list → i + k ≤ 64
+      → map (number-of list w few) (select (tree-at list x) i k) ≡ bits k (λ j. bit-number (records list) (i + j) x)
+  unfolding select
+  selected x i zero h l = refl
+  selected x i (suc k) h l =
       ap₂ (λ (y : ℕ) (ys : List ℕ). y ∷ ys)
-      (bit-hom list w few i (omega arith) (tree-at list x) ∙ ap (bit-number (records list) i) (own-number x h))
-      (select-numbers x (suc i) k h (omega arith))
+      (bit-hom list w few i (omega arith) (tree-at list x) ∙ ap₂ (bit-number (records list)) (sym (add-zero i)) (own-number x h))
+      (selected x (suc i) k h (omega arith)
+      ∙ bits-same k (λ j. bit-number (records list) (suc i + j) x) (λ j. bit-number (records list) (i + suc j) x)
+      (λ j. ap (λ (m : ℕ). bit-number (records list) m x) (let z : suc i + j ≡ i + suc j = omega arith in z)))
+
+  pub select-numbers : (x k : ℕ) → x < length list → k ≤ 64 → map (number-of list w few) (select (tree-at list x) 0 k) ≡ bits k (λ i. bit-number (records list) i x)
+  select-numbers x k h l =
+      selected x 0 k h (omega arith)
+      ∙ bits-same k (λ j. bit-number (records list) (0 + j) x) (λ j. bit-number (records list) j x) (λ j. ap (λ (m : ℕ). bit-number (records list) m x) (zero-add j))
 
   -- the last test of a rule, on numbers
   pub compare-number : (ok : Verdict) (expected : Term) (claim : ℕ) → claim < length list

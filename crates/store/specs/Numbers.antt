@@ -2,7 +2,7 @@
 use mathlib.Core.Bool.{Bool}
 use mathlib.Core.List.{List, [], _∷_}
 use mathlib.Core.Option.{Option, none, some}
-use Prim.Native.Nat.{ℕ, zero, suc}
+use Prim.Native.Nat.{ℕ}
 use lib.Dec.{eqb}
 use Rattle.theory.specs.Kind.{Not, And, Or, Xor, Equals, Ite, BvBitOf, BvBbTerm, Const, kind}
 use Rattle.theory.specs.Gates.{Gates}
@@ -39,11 +39,6 @@ numbers rows = record {
 -- bit i of term x
 abbrev pub bit-number : List Bytes → ℕ → ℕ → ℕ
 bit-number rows i x = place-list (kind (BvBitOf i)) (i ∷ x ∷ []) rows
-
--- k bits of term x, from bit i on
-unfoldable pub bit-numbers : List Bytes → ℕ → ℕ → ℕ → List ℕ
-bit-numbers rows x i zero = []
-bit-numbers rows x i (suc k) = bit-number rows i x ∷ bit-numbers rows x (suc i) k
 
 -- the BvBbTerm of these bits
 abbrev pub bb-number : List Bytes → List ℕ → ℕ

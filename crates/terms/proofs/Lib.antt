@@ -4,3 +4,4 @@ pub mod Forms
 pub mod Arms
 pub mod Reading
 pub mod Lists
+pub mod Cases

@@ -7,8 +7,8 @@ use Rattle.theory.specs.Record.{shape-of}
 use Rattle.terms.specs.declared.Form.the-variants.{Known}
 use Rattle.terms.specs.Framing.{part}
 use Rattle.terms.specs.Bodies.{fitting, form-of}
-use Rattle.terms.proofs.Reading.{steady-of, test-of, form-unknown, term-fits, term-misfit}
 use Rattle.terms.proofs.Parts.{length-part}
+use Rattle.terms.proofs.Reading.{steady-of, test-of, form-unknown, term-fits, term-misfit}
 use Rattle.terms.proofs.Term.read_term.Statement.{statement}
 use Rattle.terms.proofs.Term.read_term.Tie as tie
 

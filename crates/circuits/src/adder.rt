@@ -1,0 +1,79 @@
+// Addition, and what is built of it.
+use crate::bits::FALSE;
+use crate::bits::TRUE;
+use crate::bits::nots;
+use store::gates::and2;
+use store::gates::or2;
+use store::gates::xor2;
+ghost use mathlib.Core.Path.{_≡_};
+ghost use Prim.Native.Nat.{_≤_};
+ghost use lib.ListN.{take};
+ghost use Rattle.theory.specs.Circuit.{sum-bit, next-carry, ripple-carry-adder, last-carry, negate};
+ghost use Rattle.rows.specs.Rows.{kept};
+ghost use Rattle.rows.specs.Slots.{Table};
+ghost use Rattle.store.specs.Numbers.{numbers};
+
+// ripple_carry_adder, one bit of the sum: x, y and the carry into it.
+pub fn sum_bit(job: &[u8], work: &[u8], n: usize, x: u32, y: u32, carry: u32) -> u32
+    requires { ⌜ Table (now job) (now work) n ⌝ }
+    ensures { λ r. ⌜ r ≡ sum-bit (numbers (kept (now (job .entry)) (now (work .entry)) n)) x y carry ⌝ }
+{
+    xor2(job, work, n, xor2(job, work, n, x, y), carry)
+}
+
+// ripple_carry_adder, the carry out of a bit.
+pub fn carry_bit(job: &[u8], work: &[u8], n: usize, x: u32, y: u32, carry: u32) -> u32
+    requires { ⌜ Table (now job) (now work) n ⌝ }
+    ensures { λ r. ⌜ r ≡ next-carry (numbers (kept (now (job .entry)) (now (work .entry)) n)) x y carry ⌝ }
+{
+    let both = and2(job, work, n, x, y);
+    let one = xor2(job, work, n, x, y);
+    or2(job, work, n, both, and2(job, work, n, one, carry))
+}
+
+// A sum's bits, and the carry into the last of them.
+pub struct Sum {
+    pub bits: [u32; 64],
+    pub carry: u32,
+}
+
+// ripple_carry_adder: the bits of x + y with a carry into bit 0. Its second result is the last carry that Rust lists, which goes
+// into the top bit: it is not the carry out of it.
+pub fn ripple_carry_adder(
+    job: &[u8],
+    work: &[u8],
+    n: usize,
+    x: [u32; 64],
+    y: [u32; 64],
+    w: usize,
+    carry: u32,
+) -> Sum
+    requires { ⌜ Table (now job) (now work) n ⌝ }
+    requires { ⌜ (1 ≤ w) × (w ≤ 64) ⌝ }
+    ensures { λ r. ⌜ take w (r .bits) ≡ ripple-carry-adder (numbers (kept (now (job .entry)) (now (work .entry)) n)) carry (take w x) (take w y) ⌝ }
+    ensures { λ r. ⌜ r .carry ≡ last-carry (numbers (kept (now (job .entry)) (now (work .entry)) n)) carry (take w x) (take w y) ⌝ }
+{
+    let mut bits = [0u32; 64];
+    let mut last = carry;
+    let mut c = carry;
+    let mut i = 0;
+    while i < w {
+        bits[i] = sum_bit(job, work, n, x[i], y[i], c);
+        last = c;
+        c = carry_bit(job, work, n, x[i], y[i], c);
+        i += 1;
+    }
+    Sum { bits, carry: last }
+}
+
+// neg: the bits inverted and `false` added, with the carry `true`.
+pub fn negate(job: &[u8], work: &[u8], n: usize, x: [u32; 64], w: usize) -> [u32; 64]
+    requires { ⌜ Table (now job) (now work) n ⌝ }
+    requires { ⌜ (1 ≤ w) × (w ≤ 64) ⌝ }
+    ensures { λ r. ⌜ take w r ≡ negate (numbers (kept (now (job .entry)) (now (work .entry)) n)) (take w x) ⌝ }
+{
+    let inverted = nots(job, work, n, x, w);
+    let falses = [FALSE; 64];
+    let sum = ripple_carry_adder(job, work, n, inverted, falses, w, TRUE);
+    sum.bits
+}

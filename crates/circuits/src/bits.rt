@@ -1,0 +1,135 @@
+// The bits of a term, and one gate at each bit: the rules not, and, or, xor and xnor for two arguments.
+use store::gates::and2;
+use store::gates::bit_of;
+use store::gates::eq2;
+use store::gates::ite3;
+use store::gates::not1;
+use store::gates::or2;
+use store::gates::xor2;
+ghost use mathlib.Core.Path.{_≡_};
+ghost use mathlib.Core.List.{map};
+ghost use Prim.Native.Nat.{_≤_};
+ghost use lib.ListN.{take};
+ghost use Rattle.theory.specs.Alethe.{bits};
+ghost use Rattle.theory.specs.Circuit.{zip-with, choose};
+ghost use Rattle.rows.specs.Rows.{kept};
+ghost use Rattle.rows.specs.Slots.{Table};
+ghost use Rattle.store.specs.Numbers.{numbers, bit-number};
+
+// The numbers of the terms `true` and `false`.
+pub const TRUE: u32 = 0;
+
+pub const FALSE: u32 = 1;
+
+// get_term_bits: the bits 0 to w - 1 of term t, for a term that is no BvBbTerm.
+pub fn select_bits(job: &[u8], work: &[u8], n: usize, t: u32, w: usize) -> [u32; 64]
+    requires { ⌜ Table (now job) (now work) n ⌝ }
+    requires { ⌜ w ≤ 64 ⌝ }
+    ensures { λ r. ⌜ take w r ≡ bits w (λ i. bit-number (kept (now (job .entry)) (now (work .entry)) n) i t) ⌝ }
+{
+    let mut out = [0u32; 64];
+    let mut i = 0;
+    while i < w {
+        out[i] = bit_of(job, work, n, i as u32, t);
+        i += 1;
+    }
+    out
+}
+
+// not: each bit inverted.
+pub fn nots(job: &[u8], work: &[u8], n: usize, x: [u32; 64], w: usize) -> [u32; 64]
+    requires { ⌜ Table (now job) (now work) n ⌝ }
+    requires { ⌜ w ≤ 64 ⌝ }
+    ensures { λ r. ⌜ take w r ≡ map (numbers (kept (now (job .entry)) (now (work .entry)) n) .not-gate) (take w x) ⌝ }
+{
+    let mut out = [0u32; 64];
+    let mut i = 0;
+    while i < w {
+        out[i] = not1(job, work, n, x[i]);
+        i += 1;
+    }
+    out
+}
+
+// and, of two: bit by bit.
+pub fn ands(job: &[u8], work: &[u8], n: usize, x: [u32; 64], y: [u32; 64], w: usize) -> [u32; 64]
+    requires { ⌜ Table (now job) (now work) n ⌝ }
+    requires { ⌜ w ≤ 64 ⌝ }
+    ensures { λ r. ⌜ take w r ≡ zip-with (numbers (kept (now (job .entry)) (now (work .entry)) n) .and-gate) (take w x) (take w y) ⌝ }
+{
+    let mut out = [0u32; 64];
+    let mut i = 0;
+    while i < w {
+        out[i] = and2(job, work, n, x[i], y[i]);
+        i += 1;
+    }
+    out
+}
+
+// or, of two: bit by bit.
+pub fn ors(job: &[u8], work: &[u8], n: usize, x: [u32; 64], y: [u32; 64], w: usize) -> [u32; 64]
+    requires { ⌜ Table (now job) (now work) n ⌝ }
+    requires { ⌜ w ≤ 64 ⌝ }
+    ensures { λ r. ⌜ take w r ≡ zip-with (numbers (kept (now (job .entry)) (now (work .entry)) n) .or-gate) (take w x) (take w y) ⌝ }
+{
+    let mut out = [0u32; 64];
+    let mut i = 0;
+    while i < w {
+        out[i] = or2(job, work, n, x[i], y[i]);
+        i += 1;
+    }
+    out
+}
+
+// xor, of two: bit by bit.
+pub fn xors(job: &[u8], work: &[u8], n: usize, x: [u32; 64], y: [u32; 64], w: usize) -> [u32; 64]
+    requires { ⌜ Table (now job) (now work) n ⌝ }
+    requires { ⌜ w ≤ 64 ⌝ }
+    ensures { λ r. ⌜ take w r ≡ zip-with (numbers (kept (now (job .entry)) (now (work .entry)) n) .xor-gate) (take w x) (take w y) ⌝ }
+{
+    let mut out = [0u32; 64];
+    let mut i = 0;
+    while i < w {
+        out[i] = xor2(job, work, n, x[i], y[i]);
+        i += 1;
+    }
+    out
+}
+
+// xnor, and the equations of `equality`: whether the bits are equal, bit by bit.
+pub fn eqs(job: &[u8], work: &[u8], n: usize, x: [u32; 64], y: [u32; 64], w: usize) -> [u32; 64]
+    requires { ⌜ Table (now job) (now work) n ⌝ }
+    requires { ⌜ w ≤ 64 ⌝ }
+    ensures { λ r. ⌜ take w r ≡ zip-with (numbers (kept (now (job .entry)) (now (work .entry)) n) .eq-gate) (take w x) (take w y) ⌝ }
+{
+    let mut out = [0u32; 64];
+    let mut i = 0;
+    while i < w {
+        out[i] = eq2(job, work, n, x[i], y[i]);
+        i += 1;
+    }
+    out
+}
+
+// Bit by bit: x where c is true, else y. The shifts and the divider end in this.
+pub fn ites(
+    job: &[u8],
+    work: &[u8],
+    n: usize,
+    c: u32,
+    x: [u32; 64],
+    y: [u32; 64],
+    w: usize,
+) -> [u32; 64]
+    requires { ⌜ Table (now job) (now work) n ⌝ }
+    requires { ⌜ w ≤ 64 ⌝ }
+    ensures { λ r. ⌜ take w r ≡ choose (numbers (kept (now (job .entry)) (now (work .entry)) n)) c (take w x) (take w y) ⌝ }
+{
+    let mut out = [0u32; 64];
+    let mut i = 0;
+    while i < w {
+        out[i] = ite3(job, work, n, c, x[i], y[i]);
+        i += 1;
+    }
+    out
+}

@@ -1,0 +1,66 @@
+// Multiplication by rows: row j is x, j places up, where bit j of y is set.
+use crate::adder::carry_bit;
+use crate::adder::sum_bit;
+use crate::bits::FALSE;
+use crate::bits::ands;
+use store::gates::and2;
+ghost use mathlib.Core.Path.{_≡_};
+ghost use mathlib.Core.List.{_++_};
+ghost use Prim.Native.Nat.{_≤_};
+ghost use lib.ListN.{take, drop};
+ghost use Rattle.theory.specs.Circuit.{ripple-carry-adder, partial-products, shift-add-multiplier};
+ghost use Rattle.rows.specs.Rows.{kept};
+ghost use Rattle.rows.specs.Slots.{Table};
+ghost use Rattle.store.specs.Numbers.{numbers, false-number};
+
+// One more row: added to the sum so far, from place j on. The places below j stay as they are.
+fn add_row(
+    job: &[u8],
+    work: &[u8],
+    n: usize,
+    sum: [u32; 64],
+    x: [u32; 64],
+    y: u32,
+    j: usize,
+    w: usize,
+) -> [u32; 64]
+    requires { ⌜ Table (now job) (now work) n ⌝ }
+    requires { ⌜ (j ≤ w) × (w ≤ 64) ⌝ }
+    ensures { λ r. ⌜ take w r ≡ take j (take w sum) ++ ripple-carry-adder (numbers (kept (now (job .entry)) (now (work .entry)) n)) false-number (drop j (take w sum)) (partial-products (numbers (kept (now (job .entry)) (now (work .entry)) n)) y (take w x)) ⌝ }
+{
+    let mut out = sum;
+    let mut c = FALSE;
+    let mut k = 0;
+    while k < w - j {
+        let product = and2(job, work, n, y, x[k]);
+        let i = j + k;
+        out[i] = sum_bit(job, work, n, sum[i], product, c);
+        c = carry_bit(job, work, n, sum[i], product, c);
+        k += 1;
+    }
+    out
+}
+
+// shift_add_multiplier: the product of x and y, at their width. Rust's tables of rows are one row here, which each turn replaces.
+pub fn shift_add_multiplier(
+    job: &[u8],
+    work: &[u8],
+    n: usize,
+    x: [u32; 64],
+    y: [u32; 64],
+    w: usize,
+) -> [u32; 64]
+    requires { ⌜ Table (now job) (now work) n ⌝ }
+    requires { ⌜ (1 ≤ w) × (w ≤ 64) ⌝ }
+    ensures { λ r. ⌜ take w r ≡ shift-add-multiplier (numbers (kept (now (job .entry)) (now (work .entry)) n)) (take w x) (take w y) ⌝ }
+{
+    let low = [y[0]; 64];
+    let mut res = ands(job, work, n, low, x, w);
+    let mut j = 1;
+    while j < w {
+        let next = add_row(job, work, n, res, x, y[j], j, w);
+        res = next;
+        j += 1;
+    }
+    res
+}
