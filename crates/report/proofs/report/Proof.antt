@@ -1,0 +1,31 @@
+-- One case for each way out.
+use native.Mathlib.Omega.{arith}
+use borrow.Author.Needs.{needs}
+use Rattle.report.proofs.Lines.{report-none, report-short, report-whole}
+use Rattle.report.proofs.report.Statement.{statement}
+use Rattle.report.proofs.report.Tie as tie
+
+returns : tie.Need-returns
+returns c = let a = c .before .before .before .args in report-none (a .stop) (a .terms) (a .count) (a .answers .now) (a .out .now) (omega arith)
+
+returns-2 : tie.Need-returns-2
+returns-2 c = let a = c .before .before .before .before .args in report-short (a .stop) (a .terms) (a .count) (a .answers .now) (a .out .now) (omega arith) (omega arith)
+
+returns-3 : tie.Need-returns-3
+returns-3 c =
+    let a = c .before .before .before .before .before .before .before .before .before .before .before .before .args in
+    report-whole (a .stop) (a .terms) (a .count) (a .answers .now) (a .out .now) (omega arith) (omega arith) (c .before .before .before .before .before .before .put-head .ensures .0) (c .before .before .put-lines .ensures)
+
+pub report-spec : {M : Type 1} → statement M
+report-spec =
+    tie.close
+    (tie.spec
+    (λ c. search needs)
+    returns
+    (λ c. search needs)
+    (λ c. search needs)
+    returns-2
+    (λ c κs. search needs)
+    (λ c κs. search needs)
+    (λ c. search needs)
+    returns-3)

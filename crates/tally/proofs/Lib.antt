@@ -1,0 +1,2 @@
+-- Laws that the proofs of `tally` use.
+pub mod Counting
