@@ -1,3 +1,9 @@
 pub mod Reading
 pub mod Lookup
+pub mod Sorting
+pub mod Arguing
+pub mod Asking
+pub mod Keeping
+pub mod Growing
+pub mod Taking
 pub mod Claims

@@ -94,7 +94,7 @@ skips e d rest o ks f p q =
     none-of false false c g h k x y = rw (x, y)
 
 -- a record that says a term has as many arguments as its kind may have
-says-count : (r : Bytes) (o : Op) (ks : List ℕ) → SaysTerm r o ks → T (takes (arity o) (length ks))
+pub says-count : (r : Bytes) (o : Op) (ks : List ℕ) → SaysTerm r o ks → T (takes (arity o) (length ks))
 says-count r o ks s =
     let n = (length (body-of r) - front (s .shape)) / 2 in
     let t : T (takes (arity o) n) = and-r (eqb ((length (body-of r) - front (s .shape)) % 2) 0) _ (and-r (leb (front (s .shape)) (length (body-of r))) _ (s .fit)) in
