@@ -20,10 +20,10 @@ use Rattle.theory.proofs.Places.{tree-at}
 use Rattle.theory.proofs.Distinct.{WellKept}
 use Rattle.theory.proofs.Place.{tree-place}
 use Rattle.store.specs.Numbers.{number, bit-number}
-use Rattle.theory.specs.Alethe.{bits}
-use native.Mathlib.Nat.{add-zero, zero-add}
 use Rattle.store.specs.Store.{records}
 use Rattle.store.proofs.Lookup.{bool-ext, number-of, bit-hom, number-exact}
+use Rattle.theory.specs.Alethe.{bits}
+use native.Mathlib.Nat.{add-zero, zero-add}
 
 bits-same : (n : ℕ) (f g : ℕ → ℕ) → ((i : ℕ) → f i ≡ g i) → bits n f ≡ bits n g
 bits-same zero f g h = refl

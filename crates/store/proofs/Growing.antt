@@ -5,22 +5,21 @@ use mathlib.Core.List.{List, [], _∷_, _++_, map, foldl}
 use mathlib.Core.Option.{Option, none, some}
 use Prim.Native.Nat.{ℕ, zero, suc, _+_, _-_, _<_, _≤_}
 use native.Mathlib.Omega.{arith}
-use lib.Dec.{T}
-use lib.ListN.{length, take, drop, getD, getElem?, length-take, length-append, take-append-drop}
+use lib.ListN.{length, take, getD, length-take, length-append}
 use lib.Seq.{take-take, take-all, take-nil, take-append-seam, getD-take}
 use Rattle.theory.specs.Limit.{first-terms, max-job}
 use Rattle.theory.specs.Kind.{Op, True}
-use Rattle.theory.specs.Term.{Term, node, nil, from-list, fold}
-use Rattle.theory.specs.Sort.{guard, sort-of, sort-width}
+use Rattle.theory.specs.Term.{Term, node, nil}
+use Rattle.theory.specs.Sort.{sort-of, sort-width}
 use Rattle.theory.specs.Depth.{depth}
 use Rattle.theory.specs.Record.{Bytes, Item, term, read}
 use Rattle.theory.specs.Plain.{Entry, entry, Plain, term-of, has, put, feed, feed-item}
 use Rattle.theory.specs.Plain as P
-use Rattle.theory.specs.Codes.{all-below}
-use Rattle.theory.proofs.Basics.{getElem-lt, getElem-take, take-getElem}
-use Rattle.theory.proofs.Places.{tree-at, trees-old}
+use Rattle.theory.proofs.Run.{good-take, start-good}
+use Rattle.theory.proofs.Distinct.{take-well, start-well}
+use Rattle.theory.proofs.Places.{tree-at}
 use Rattle.theory.proofs.Run.{AllGood}
-use Rattle.theory.proofs.Distinct.{Kept, WellKept}
+use Rattle.theory.proofs.Distinct.{WellKept}
 use Rattle.rows.specs.Rows.{kept, column, depths, widths}
 use Rattle.rows.specs.Promise.{Wiped, Cut}
 use Rattle.rows.proofs.Face.{kept-length, kept-at, depths-at, widths-at}
@@ -29,17 +28,6 @@ use Rattle.store.specs.Interning.{Started, CutBack}
 use Rattle.store.proofs.Keeping.{row-kept, row-says}
 
 -- ---- the start
-start-good : AllGood P.start
-unfolding fold guard
-start-good = (tt, (tt, tt))
-
-start-well : WellKept P.start
-start-well = record {
-  is-true = refl;
-  is-false = refl;
-  kept = λ i e p f. let l = getElem-lt P.start i e f in absurd (omega arith);
-}
-
 pub started : {job work after : Bytes} → length job ≤ max-job → Wiped work after → Started job work after
 unfolding kept column
 started {job} {work} {after} h w = record {
@@ -57,35 +45,6 @@ started {job} {work} {after} h w = record {
 }
 
 -- ---- a part of the list
-good-take : (n : ℕ) (list : Plain) → AllGood list → AllGood (take n list)
-good-take zero list h = tt
-good-take (suc n) [] h = tt
-good-take (suc n) (e ∷ list) h = (h .0, good-take n list (h .1))
-
--- an entry in another list, where the places before are the same
-pub moved : (ks ls : Plain) (i : ℕ) (e : Entry) → ((args : List ℕ) → T (all-below i args) → map (tree-at ls) args ≡ map (tree-at ks) args)
-    → ((j : ℕ) (d : Entry) → j < i → getElem? ls j ≡ some d → getElem? ks j ≡ some d) → Kept ks i e → Kept ls i e
-moved ks ls i e same f k = record {
-  sound = k .sound;
-  op = k .op;
-  args = k .args;
-  says = k .says;
-  below = k .below;
-  made = k .made ∙ ap (λ (ts : List Term). node (k .op) (from-list ts)) (sym (same (k .args) (k .below)));
-  new = λ j d l g. k .new j d l (f j d l g);
-}
-
-take-well : (n : ℕ) (list : Plain) → first-terms ≤ n → n ≤ length list → WellKept list → WellKept (take n list)
-take-well n list h l w = record {
-  is-true = take-getElem n list 0 (omega arith) ∙ w .is-true;
-  is-false = take-getElem n list 1 (omega arith) ∙ w .is-false;
-  kept = λ i e p f.
-      let b : i < length (take n list) = getElem-lt (take n list) i e f in
-      moved list (take n list) i e
-      (λ args c. sym (trees-old (take n list) (drop n list) i (omega arith) args c) ∙ ap (λ (x : Plain). map (tree-at x) args) (take-append-drop n list))
-      (λ j d m g. getElem-take n list j d g) (w .kept i e p (getElem-take n list i e f));
-}
-
 -- ---- records that say terms, fed one after the other
 -- r says a term
 record SaysSome (r : Bytes) : Type 0 where

@@ -1,17 +1,17 @@
 -- A record built from a kind and numbers says the term of that kind with these arguments, where it may have so many.
-use mathlib.Core.Path.{_≡_, refl, sym, ap, ap₂, subst, _∙_}
+use mathlib.Core.Path.{_≡_, refl, ap, ap₂, _∙_}
 use mathlib.Core.Bool.{Bool, true, false, _&&_, cond}
 use mathlib.Core.List.{List, [], _∷_, _++_}
-use mathlib.Core.Option.{Option, none, some}
-use Prim.Native.Nat.{ℕ, zero, suc, _+_, _-_, _*_, _/_, _%_, _<_, _≤_}
+use mathlib.Core.Option.{some}
+use Prim.Native.Nat.{ℕ, _+_, _-_, _*_, _/_, _%_, _<_}
 use native.Mathlib.Omega.{arith}
 use lib.Dec.{T, leb, ltb, eqb, ltb→lt, eqb→eq, le→leb}
 use lib.Seq.{drop-at}
 use lib.Ieee.Fits.{and-l, and-r}
-use lib.ListN.{length, take, drop, length-append}
+use lib.ListN.{length, length-append}
 use Rattle.theory.specs.Limit.{number-bytes, value-bytes, max-terms}
 use Rattle.theory.specs.Kind.{Op, Const, kind, Arity, exactly, arity, takes}
-use Rattle.theory.specs.Record.{Bytes, little-endian, word, words, bytes-of, kind-of, body-of, fits, arguments, Shape, plain, indexed, valued, front, make, shape-of, Item, term, misfit, read-term, read-step, read-back, read}
+use Rattle.theory.specs.Record.{Bytes, little-endian, word, words, bytes-of, kind-of, body-of, fits, arguments, Shape, plain, indexed, valued, shape-of, term, misfit, read-term, read-step, read-back, read}
 use Rattle.theory.proofs.Blast.{T-true}
 use Rattle.theory.proofs.Bytes.{AllBytes, Sound}
 use Rattle.rows.specs.Keys.{record-of, numbers, all-places}

@@ -14,22 +14,26 @@ use lib.ListN.{length, take, drop, getD, getElem?, length-take, length-append, l
 use lib.Seq.{take-take, getD-append-seam, drop-append-le}
 use borrow.Author.Tests.{eqb-true, eqb-false}
 use Rattle.theory.specs.Limit.{first-terms, max-terms, term-bytes}
-use Rattle.theory.specs.Kind.{Op, True, kind}
-use Rattle.theory.specs.Term.{Term, node, nil, from-list, same-numbers}
+use Rattle.theory.specs.Kind.{Op, True}
+use Rattle.theory.specs.Term.{Term, node, nil, same-numbers}
 use Rattle.theory.specs.Sort.{Sort, bad, bool, bv, good, same-sort, sort-of, sort-width, first}
-use Rattle.theory.specs.Depth.{depth, depth-op, gate-kind}
+use Rattle.theory.specs.Depth.{depth}
 use Rattle.theory.specs.Record.{Bytes, little-endian, word, extent, whole, term, read}
 use Rattle.theory.specs.Plain.{Entry, entry, Plain, term-of, has, put, feed, feed-item}
 use Rattle.theory.specs.Plain as P
 use Rattle.theory.specs.Codes.{all-below, first-fault, well-sorted, room}
-use Rattle.theory.proofs.Basics.{none-some, some-inj, or-left, or-right, foldl-append, getElem-of, getElem-lt, getElem-old, snoc-elim}
+use Rattle.theory.proofs.Run.{good-snoc}
+use Rattle.theory.proofs.Distinct.{has-at, snoc-well}
+use Rattle.theory.proofs.Bytes.{take-bytes, drop-bytes}
+use Rattle.theory.proofs.Bounds.{depth-step}
+use Rattle.theory.proofs.Basics.{some-inj, foldl-append, getElem-of}
 use Rattle.theory.proofs.Blast.{T-true}
-use Rattle.theory.proofs.Same.{same-numbers-eq, same-numbers-refl}
+use Rattle.theory.proofs.Same.{same-numbers-eq}
 use Rattle.theory.proofs.Bytes.{AllBytes, Sound, says-term}
 use Rattle.theory.proofs.Sorts.{sized, sorts-sized}
-use Rattle.theory.proofs.Places.{entry-at, tree-at, tree-of, tree-at-old, trees-old, term-of-is}
+use Rattle.theory.proofs.Places.{entry-at, tree-at, tree-of, tree-at-old, term-of-is}
 use Rattle.theory.proofs.Run.{AllGood}
-use Rattle.theory.proofs.Distinct.{Kept, WellKept}
+use Rattle.theory.proofs.Distinct.{WellKept}
 use Rattle.theory.proofs.Bounds.{place-depth}
 use Rattle.rows.specs.Layout.{missing, number-end, record-at, depth-at, width-at}
 use Rattle.rows.specs.Rows.{kept, depths, widths, place-of}
@@ -45,30 +49,18 @@ use Rattle.terms.specs.Decoded.{op-of, arguments-of}
 use Rattle.store.specs.Store.{Store, stored, listed, records}
 use Rattle.store.specs.Sorts.{sorts-at, deepest-at}
 use Rattle.store.specs.Kinds.{Fitting}
-use Rattle.store.specs.Interning.{Offered, Taken, code-of, rows-after, answer-for}
-use Rattle.store.specs.Interning.{list-after as list-after-of}
-use Rattle.store.specs.declared.intern.Interned.{Interned}
-use Rattle.store.specs.declared.intern.Interned.the-variants as I
+use Rattle.store.specs.Interning.{Offered, Taken, code-of, rows-after, answer-for, list-after as list-after-of}
 use Rattle.store.proofs.Lookup.{says-count}
 use Rattle.store.proofs.Asking.{tree-depth}
 use Rattle.store.proofs.Keeping.{records-at}
-use Rattle.store.proofs.Growing.{moved}
+use Rattle.store.specs.declared.intern.Interned.{Interned}
+use Rattle.store.specs.declared.intern.Interned.the-variants as I
 
 -- ---- bytes
 -- every element of a slice of bytes is one
 pub all-bytes : (bs : Bytes) → ((i : ℕ) → Fits w8 (getD bs i 0)) → AllBytes bs
 all-bytes [] f = tt
 all-bytes (b ∷ bs) f = (f 0 .fits, all-bytes bs (λ i. f (suc i)))
-
-take-bytes : (n : ℕ) (bs : Bytes) → AllBytes bs → AllBytes (take n bs)
-take-bytes zero bs h = tt
-take-bytes (suc n) [] h = tt
-take-bytes (suc n) (b ∷ bs) h = (h .0, take-bytes n bs (h .1))
-
-drop-bytes : (n : ℕ) (bs : Bytes) → AllBytes bs → AllBytes (drop n bs)
-drop-bytes zero bs h = h
-drop-bytes (suc n) [] h = tt
-drop-bytes (suc n) (b ∷ bs) h = drop-bytes n bs (h .1)
 
 -- the parts of a whole record
 record Whole (bs : Bytes) : Type 0 where
@@ -97,12 +89,6 @@ pub whole-inside : (job : Bytes) (at : ℕ) → whole (drop at job) ≡ true →
 whole-inside job at w = let p = whole-parts (drop at job) w in let x = p .low in let y = p .fit in let d = length-drop at job in omega arith
 
 -- ---- is the record there?
-has-at : (list : Plain) (j : ℕ) (e : Entry) (r : Bytes) → getElem? list j ≡ some e → e .bytes ≡ r → T (has list r)
-has-at [] j e r f g = absurd (none-some e f)
-has-at (d ∷ list) zero e r f g =
-    or-left (same-numbers (d .bytes) r) (has list r) (subst (λ (s : Bytes). T (same-numbers (d .bytes) s)) (ap (λ (x : Entry). x .bytes) (some-inj d e f) ∙ g) (same-numbers-refl (d .bytes)))
-has-at (d ∷ list) (suc j) e r f g = or-right (same-numbers (d .bytes) r) (has list r) (has-at list j e r f g)
-
 record There (list : Plain) (r : Bytes) : Type 0 where
   place : ℕ
   near : place < length list
@@ -164,33 +150,6 @@ store-same {job} {work} {after} {n} s t k d w =
     }
 
 -- ---- one more entry
-good-snoc : (list : Plain) (e : Entry) → AllGood list → T (good (sort-of (e .tree))) → AllGood (list ++ (e ∷ []))
-good-snoc [] e h g = (g, tt)
-good-snoc (d ∷ list) e h g = (h .0, good-snoc list e (h .1) g)
-
-snoc-well : (list : Plain) (r : Bytes) (o : Op) (ks : List ℕ) → WellKept list → Sound r → read r ≡ term o ks → T (all-below (length list) ks)
-    → (T (has list r) → ⊥) → WellKept (list ++ (entry (tree-of list o ks) r ∷ []))
-snoc-well list r o ks w s d b n =
-    let new = entry (tree-of list o ks) r in
-    let old : (j : ℕ) (e : Entry) → j < length list → getElem? (list ++ (new ∷ [])) j ≡ some e → getElem? list j ≡ some e
-    = λ j e l g. sym (getElem-old list (new ∷ []) j l) ∙ g in
-    record {
-      is-true = getElem-old list (new ∷ []) 0 (getElem-lt list 0 _ (w .is-true)) ∙ w .is-true;
-      is-false = getElem-old list (new ∷ []) 1 (getElem-lt list 1 _ (w .is-false)) ∙ w .is-false;
-      kept = λ i e p f. snoc-elim list new i e f
-          (λ g. let l = getElem-lt list i e g in
-          moved list (list ++ (new ∷ [])) i e (λ args c. trees-old list (new ∷ []) i (omega arith) args c) (λ j x m h. old j x (omega arith) h) (w .kept i e p g))
-          (λ q z. subst (Kept (list ++ (new ∷ [])) i) z (subst (λ (k : ℕ). Kept (list ++ (new ∷ [])) k new) (sym q) (record {
-            sound = s;
-            op = o;
-            args = ks;
-            says = d;
-            below = b;
-            made = ap (λ (ts : List Term). node o (from-list ts)) (sym (trees-old list (new ∷ []) (length list) (omega arith) ks b));
-            new = λ j x l g c. n (has-at list j x r (old j x l g) c);
-          })));
-    }
-
 records-snoc : (list : Plain) (e : Entry) → first-terms ≤ length list → records (list ++ (e ∷ [])) ≡ records list ++ (e .bytes ∷ [])
 records-snoc list e h =
     ap (map (λ (x : Entry). x .bytes)) (drop-append-le first-terms list (e ∷ []) h) ∙ map-append (λ (x : Entry). x .bytes) (drop first-terms list) (e ∷ [])
@@ -285,14 +244,6 @@ deepest-le list m f (k ∷ ks) b =
   where
     both : {d e : ℕ} → d ≤ k → k < suc m → e ≤ m → max d e ≤ m
     both p q r = omega arith
-
-depth-step : (o : Op) (s : Sort) (d : ℕ) → depth-op o s d ≤ suc d
-depth-step o s d = go (gate-kind (kind o) s) (eqb (kind o) 31)
-  where
-    go : (a b : Bool) → cond a (suc d) (cond b d 0) ≤ suc d
-    go true b = omega arith
-    go false true = omega arith
-    go false false = omega arith
 
 width-step : (s : Sort) → T (sized s) → sort-width s ≤ 64
 width-step bad h = omega arith

@@ -13,10 +13,10 @@ use Rattle.terms.specs.declared.Term.{Term}
 use Rattle.terms.specs.declared.Item.the-variants as I
 use Rattle.terms.specs.Framing.{record-at}
 use Rattle.terms.specs.Decoded.{op-of, operands-of, arguments-of, item-of}
+use Rattle.store.specs.Store.{Store, listed}
 use Rattle.store.specs.Sorts.{Arguments}
 use Rattle.store.specs.declared.intern.Interned.{Interned}
 use Rattle.store.specs.declared.intern.Interned.the-variants.{Unsorted, Spent, Found, New}
-use Rattle.store.specs.Store.{Store, listed}
 
 -- the store is empty: `true` and `false` alone, and the work memory is all zero
 pub record Started (job work after : Bytes) : Type 0 where

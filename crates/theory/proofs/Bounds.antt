@@ -81,7 +81,7 @@ module _ (job : Bytes) (work space : ℕ) where
       )
 
 -- ---- depths
-depth-step : (o : Op) (s : Sort) (d : ℕ) → depth-op o s d ≤ suc d
+pub depth-step : (o : Op) (s : Sort) (d : ℕ) → depth-op o s d ≤ suc d
 depth-step o s d = go (gate-kind (kind o) s) (eqb (kind o) 31)
   where
     go : (a b : Bool) → cond a (suc d) (cond b d 0) ≤ suc d
@@ -89,7 +89,7 @@ depth-step o s d = go (gate-kind (kind o) s) (eqb (kind o) 31)
     go false true = omega arith
     go false false = omega arith
 
-deepest-le : (list : Plain) (m : ℕ) → ((k : ℕ) → k < suc m → depth (tree-at list k) ≤ k) → (ks : List ℕ) → T (all-below (suc m) ks)
+pub deepest-le : (list : Plain) (m : ℕ) → ((k : ℕ) → k < suc m → depth (tree-at list k) ≤ k) → (ks : List ℕ) → T (all-below (suc m) ks)
     → deepest (from-list (map (tree-at list) ks)) ≤ m
 unfolding depth
 deepest-le list m f [] b = omega arith

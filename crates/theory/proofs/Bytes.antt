@@ -19,12 +19,12 @@ abbrev pub AllBytes : Bytes → Type 0
 AllBytes [] = Unit {0}
 AllBytes (b ∷ bs) = (b < 256) × AllBytes bs
 
-take-bytes : (n : ℕ) (bs : Bytes) → AllBytes bs → AllBytes (take n bs)
+pub take-bytes : (n : ℕ) (bs : Bytes) → AllBytes bs → AllBytes (take n bs)
 take-bytes zero bs h = tt
 take-bytes (suc n) [] h = tt
 take-bytes (suc n) (b ∷ bs) h = (h .0, take-bytes n bs (h .1))
 
-drop-bytes : (n : ℕ) (bs : Bytes) → AllBytes bs → AllBytes (drop n bs)
+pub drop-bytes : (n : ℕ) (bs : Bytes) → AllBytes bs → AllBytes (drop n bs)
 drop-bytes zero bs h = h
 drop-bytes (suc n) [] h = tt
 drop-bytes (suc n) (b ∷ bs) h = drop-bytes n bs (h .1)
@@ -265,7 +265,7 @@ same-record r s o ks a b er es =
         sym (take-append-drop 4 r) ∙ ap₂ (λ (x y : Bytes). x ++ y) head body ∙ take-append-drop 4 s
 
 -- ---- the records of a job are whole
-cut-start : (bs : Bytes) → AllBytes bs → T (whole bs) → Sound (take (extent bs) bs)
+pub cut-start : (bs : Bytes) → AllBytes bs → T (whole bs) → Sound (take (extent bs) bs)
 cut-start bs h w =
     let t = and-r (leb 2 (length bs)) _ w in
     let two : 2 ≤ word bs = leb→le 2 (word bs) (and-l (leb 2 (word bs)) _ t) in

@@ -22,7 +22,7 @@ use Rattle.theory.proofs.Bytes.{AllBytes, Sound, same-record, record-so
 use Rattle.theory.proofs.Places.{entry-at, tree-at, tree-of, trees-old, more-below}
 use Rattle.theory.proofs.Run.{fed, plain-ind, plain-next}
 
-has-at : (list : Plain) (j : ℕ) (e : Entry) (r : Bytes) → getElem? list j ≡ some e → e .bytes ≡ r → T (has list r)
+pub has-at : (list : Plain) (j : ℕ) (e : Entry) (r : Bytes) → getElem? list j ≡ some e → e .bytes ≡ r → T (has list r)
 has-at [] j e r f g = absurd (none-some e f)
 has-at (d ∷ list) zero e r f g =
     or-left (same-numbers (d .bytes) r) (has list r) (subst (λ (s : Bytes). T (same-numbers (d .bytes) s)) (ap (λ (x : Entry). x .bytes) (some-inj d e f) ∙ g) (same-numbers-refl (d .bytes)))
@@ -44,7 +44,7 @@ pub record WellKept (list : Plain) : Type 0 where
   pub kept : (i : ℕ) (e : Entry) → first-terms ≤ i → getElem? list i ≡ some e → Kept list i e
 
 -- the same in another list, where the places before are the same
-moved : (ks ls : Plain) (i : ℕ) (e : Entry) → ((args : List ℕ) → T (all-below i args) → map (tree-at ls) args ≡ map (tree-at ks) args)
+pub moved : (ks ls : Plain) (i : ℕ) (e : Entry) → ((args : List ℕ) → T (all-below i args) → map (tree-at ls) args ≡ map (tree-at ks) args)
     → ((j : ℕ) (d : Entry) → j < i → getElem? ls j ≡ some d → getElem? ks j ≡ some d) → Kept ks i e → Kept ls i e
 moved ks ls i e same f k = record {
   sound = k .sound;
@@ -56,7 +56,7 @@ moved ks ls i e same f k = record {
   new = λ j d l g. k .new j d l (f j d l g);
 }
 
-take-well : (n : ℕ) (list : Plain) → first-terms ≤ n → n ≤ length list → WellKept list → WellKept (take n list)
+pub take-well : (n : ℕ) (list : Plain) → first-terms ≤ n → n ≤ length list → WellKept list → WellKept (take n list)
 take-well n list h l w = record {
   is-true = take-getElem n list 0 (omega arith) ∙ w .is-true;
   is-false = take-getElem n list 1 (omega arith) ∙ w .is-false;
@@ -67,7 +67,7 @@ take-well n list h l w = record {
       (λ j d m g. getElem-take n list j d g) (w .kept i e p (getElem-take n list i e f));
 }
 
-snoc-well : (list : Plain) (r : Bytes) (o : Op) (ks : List ℕ) → WellKept list → Sound r → read r ≡ term o ks → T (all-below (length list) ks)
+pub snoc-well : (list : Plain) (r : Bytes) (o : Op) (ks : List ℕ) → WellKept list → Sound r → read r ≡ term o ks → T (all-below (length list) ks)
     → (T (has list r) → ⊥) → WellKept (list ++ (entry (tree-of list o ks) r ∷ []))
 snoc-well list r o ks w s d b n =
     let new = entry (tree-of list o ks) r in
@@ -90,7 +90,7 @@ snoc-well list r o ks w s d b n =
           })));
     }
 
-start-well : WellKept start
+pub start-well : WellKept start
 start-well = record {
   is-true = refl;
   is-false = refl;

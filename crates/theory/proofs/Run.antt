@@ -46,11 +46,11 @@ abbrev pub AllGood : Plain → Type 0
 AllGood [] = Unit {0}
 AllGood (e ∷ list) = T (good (sort-of (e .tree))) × AllGood list
 
-good-snoc : (list : Plain) (e : Entry) → AllGood list → T (good (sort-of (e .tree))) → AllGood (list ++ (e ∷ []))
+pub good-snoc : (list : Plain) (e : Entry) → AllGood list → T (good (sort-of (e .tree))) → AllGood (list ++ (e ∷ []))
 good-snoc [] e h g = (g, tt)
 good-snoc (d ∷ list) e h g = (h .0, good-snoc list e (h .1) g)
 
-good-take : (n : ℕ) (list : Plain) → AllGood list → AllGood (take n list)
+pub good-take : (n : ℕ) (list : Plain) → AllGood list → AllGood (take n list)
 good-take zero list h = tt
 good-take (suc n) [] h = tt
 good-take (suc n) (e ∷ list) h = (h .0, good-take n list (h .1))
@@ -60,7 +60,7 @@ good-at [] i h l = absurd (omega arith)
 good-at (e ∷ list) zero h l = h .0
 good-at (e ∷ list) (suc i) h l = good-at list i (h .1) (omega arith)
 
-start-good : AllGood start
+pub start-good : AllGood start
 unfolding fold guard
 start-good = (tt, (tt, tt))
 

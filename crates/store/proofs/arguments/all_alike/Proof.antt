@@ -6,8 +6,8 @@ use Rattle.theory.specs.Sort.{is-bv-sort}
 use Rattle.terms.specs.Decoded.{numbers-of}
 use Rattle.store.specs.Store.{listed}
 use Rattle.store.specs.Sorts.{sort-read, sorts-at}
-use Rattle.store.specs.declared.sorts.Sort.{Sort}
 use Rattle.store.proofs.Arguing.{alike-not, alike-bv}
+use Rattle.store.specs.declared.sorts.Sort.{Sort}
 use Rattle.store.proofs.arguments.all_alike.Statement.{statement}
 use Rattle.store.proofs.arguments.all_alike.Tie as tie
 

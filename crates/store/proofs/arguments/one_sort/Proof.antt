@@ -6,8 +6,8 @@ use Rattle.theory.specs.Sort.{good}
 use Rattle.terms.specs.Decoded.{numbers-of}
 use Rattle.store.specs.Store.{listed}
 use Rattle.store.specs.Sorts.{sort-read, sorts-at}
-use Rattle.store.specs.declared.sorts.Sort.{Sort}
 use Rattle.store.proofs.Arguing.{one-bad, one-good}
+use Rattle.store.specs.declared.sorts.Sort.{Sort}
 use Rattle.store.proofs.arguments.one_sort.Statement.{statement}
 use Rattle.store.proofs.arguments.one_sort.Tie as tie
 

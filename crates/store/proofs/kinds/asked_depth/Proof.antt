@@ -8,8 +8,8 @@ use Rattle.theory.specs.Sort as S
 use Rattle.terms.specs.Decoded.{numbers-of}
 use Rattle.store.specs.Store.{listed}
 use Rattle.store.specs.Sorts.{sort-read, sorts-at, deepest-at}
-use Rattle.store.specs.declared.sorts.Sort.{Sort}
 use Rattle.store.proofs.Asking.{depth-of, depth-gate, depth-same, depth-other}
+use Rattle.store.specs.declared.sorts.Sort.{Sort}
 use Rattle.store.proofs.kinds.asked_depth.Statement.{statement}
 use Rattle.store.proofs.kinds.asked_depth.Tie as tie
 

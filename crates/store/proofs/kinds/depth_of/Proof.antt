@@ -8,8 +8,8 @@ use Rattle.terms.specs.Decoded.{arguments-of, numbers-of}
 use Rattle.store.specs.Store.{listed}
 use Rattle.store.specs.Sorts.{Arguments, sorts-at, deepest-at}
 use Rattle.store.specs.Kinds.{asked-depth}
-use Rattle.store.specs.declared.kinds.Asks.{Asks}
 use Rattle.store.proofs.Asking.{depth-is}
+use Rattle.store.specs.declared.kinds.Asks.{Asks}
 use Rattle.store.proofs.kinds.depth_of.Statement.{statement}
 use Rattle.store.proofs.kinds.depth_of.Tie as tie
 

@@ -7,8 +7,8 @@ use Rattle.terms.specs.Decoded.{arguments-of, numbers-of}
 use Rattle.store.specs.Store.{listed}
 use Rattle.store.specs.Sorts.{Arguments, sorts-at}
 use Rattle.store.specs.Kinds.{asked-sort}
-use Rattle.store.specs.declared.kinds.Asks.{Asks}
 use Rattle.store.proofs.Asking.{sort-is}
+use Rattle.store.specs.declared.kinds.Asks.{Asks}
 use Rattle.store.proofs.kinds.sort_of.Statement.{statement}
 use Rattle.store.proofs.kinds.sort_of.Tie as tie
 
