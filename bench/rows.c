@@ -10,7 +10,7 @@ uint32_t bench_add(const uint8_t *job, size_t job_len, uint8_t *work, size_t wor
 uint32_t bench_find(const uint8_t *job, size_t job_len, const uint8_t *work, size_t work_len, size_t n, uint32_t kind, uint32_t a, uint32_t b);
 
 // Rows of 8 bytes; the table has as many slots as rows fit into the memory, 131,072 at most.
-enum { MOST = 65000, ROOMY = 131072 * 8, TIGHT = MOST * 8, ROUNDS = 200000 };
+enum { MOST = 65000, ROOMY = 131072 * 8, CLOSE = 65533 * 8, FULL = MOST * 8, ROUNDS = 200000 };
 
 static double now(void) {
     struct timespec t;
@@ -35,21 +35,22 @@ static int measure(size_t n, size_t memory, const uint8_t *job, uint8_t *work) {
     size_t len = 8 * n, wrong = 0;
     memset(work, 0xAB, memory);
     bench_wipe(work, memory);
+    size_t rounds = memory == FULL ? ROUNDS / 100 : ROUNDS;
     double start = now();
     for (size_t i = 0; i < n; i++)
         wrong += bench_add(job, len, work, memory, i, 8 * i) != i + 2;
     double added = now() - start;
     start = now();
-    for (size_t k = 0; k < ROUNDS; k++) {
+    for (size_t k = 0; k < rounds; k++) {
         size_t i = k * 40503 % n;
         wrong += bench_find(job, len, work, memory, n, kind_of(i), left_of(i), right_of(i)) != i + 2;
     }
     double found = now() - start;
     start = now();
-    for (size_t k = 0; k < ROUNDS; k++)
+    for (size_t k = 0; k < rounds; k++)
         wrong += bench_find(job, len, work, memory, n, 24, k % 65535, k % 251) != 4294967295u;
     double missed = now() - start;
-    printf("%8zu %12zu %12.2f %12.1f %12.1f %12.1f\n", n, memory, added / 1e6, added / n, found / ROUNDS, missed / ROUNDS);
+    printf("%8zu %12zu %12.2f %12.1f %12.1f %12.1f\n", n, memory, added / 1e6, added / n, found / rounds, missed / rounds);
     return wrong != 0;
 }
 
@@ -62,7 +63,8 @@ int main(void) {
     printf("   terms  work memory  entering ms  ns a record  ns a hit     ns a miss\n");
     for (int k = 0; k < 3; k++)
         wrong |= measure(sizes[k], ROOMY, job, work);
-    wrong |= measure(MOST, TIGHT, job, work);
+    wrong |= measure(MOST, CLOSE, job, work);
+    wrong |= measure(MOST, FULL, job, work);
     if (wrong)
         printf("WRONG: a lookup did not answer as it should\n");
     return wrong;
