@@ -1,0 +1,45 @@
+use borrow.Author.Needs.{needs}
+use mathlib.Core.Path.{sym, ap₂, _∙_}
+use denote.Ref.{now}
+use Rattle.theory.specs.Gates.{term-gates}
+use Rattle.theory.specs.Bits.{get-term-bits}
+use Rattle.theory.specs.Bits.{literally-false}
+use Rattle.theory.specs.Circuit.{urem}
+use Rattle.theory.proofs.Divider.{urem-hom}
+use Rattle.store.specs.Numbers.{is-false-number}
+use Rattle.operand_rules.proofs.Numbers.{false-test}
+use Rattle.theory.specs.Verdict.{form-only}
+use Rattle.operand_rules.specs.Rules.{tree}
+use Rattle.operand_rules.proofs.Numbers.{operand-as, store-hom, bits-end}
+use Rattle.operand_rules.proofs.division.urem_check.Statement.{statement}
+use Rattle.operand_rules.proofs.division.urem_check.Tie as tie
+
+get-term-bits-requires : tie.Need-get-term-bits-requires
+get-term-bits-requires c κs = operand-as (c .before .before .before .pre .left) (c .width-at .ensures .0)
+
+get-term-bits-requires-2 : tie.Need-get-term-bits-requires-2
+get-term-bits-requires-2 c κs = operand-as (c .before .before .before .before .pre .right) (c .before .width-at .ensures .0)
+
+returns : tie.Need-returns
+returns c =
+    let b = c .before .before in
+    let s = b .before .before .before .before .before in
+    let a = s .args in
+    let st = s .pre .left .store in
+    let h = store-hom st in
+    let xs = get-term-bits (tree (now (a .job)) (now (a .work)) (a .n) (a .x)) in
+    let ys = get-term-bits (tree (now (a .job)) (now (a .work)) (a .n) (a .y)) in
+    bits-end form-only st (s .pre .claimed) (urem term-gates literally-false xs ys)
+    (c .before .urem .ensures ∙ ap₂ (urem _ is-false-number) (b .before .get-term-bits .ensures) (b .get-term-bits2 .ensures) ∙ sym (urem-hom h literally-false is-false-number (false-test st) xs ys))
+    (c .compare-bits-form .ensures)
+
+pub urem-check-spec : {M : Type 1} → statement M
+urem-check-spec =
+    tie.close
+    (tie.spec
+    (λ c κs. search needs)
+    get-term-bits-requires
+    get-term-bits-requires-2
+    (λ c κs. search needs)
+    (λ c κs. search needs)
+    returns)

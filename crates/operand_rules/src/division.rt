@@ -1,0 +1,70 @@
+// The rules udiv and urem, held to their form only.
+ghost use mathlib.Core.Path.{_≡_};
+ghost use Rattle.theory.specs.Bits.{divided};
+ghost use Rattle.theory.specs.Verdict.{form-only};
+ghost use Prim.Native.Nat.{_+_, _<_};
+ghost use Rattle.theory.specs.Limit.{first-terms};
+ghost use Rattle.theory.specs.Gates.{term-gates};
+ghost use Rattle.theory.specs.Circuit.{udiv, urem};
+ghost use Rattle.theory.specs.RuleTable.{by-udiv, by-urem};
+ghost use Rattle.theory.specs.Rule.{compare, verdict};
+ghost use Rattle.store.specs.Store.{Store};
+ghost use Rattle.operand_rules.specs.Rules.{Two, tree, verdict-of};
+use crate::Verdict;
+use crate::bits::compare_bits_form;
+use crate::bits::get_term_bits;
+use crate::bits::width_at;
+use store::terms_at::term_at;
+use terms::Term;
+
+// The claim is the term of the quotient's circuit.
+fn udiv_check(job: &[u8], work: &[u8], n: usize, x: u32, y: u32, claim: u32) -> Verdict
+    requires { ⌜ Two (now job) (now work) n x y claim ⌝ }
+    ensures { λ v. ⌜ verdict-of v ≡ compare form-only (divided (udiv term-gates) (tree (now (job .entry)) (now (work .entry)) n x) (tree (now (job .entry)) (now (work .entry)) n y)) (tree (now (job .entry)) (now (work .entry)) n claim) ⌝ }
+{
+    let w = width_at(job, work, n, x);
+    let xs = get_term_bits(job, work, n, x, w);
+    let ys = get_term_bits(job, work, n, y, w);
+    let bits = circuits::divider::udiv(job, work, n, xs, ys, w);
+    compare_bits_form(job, work, n, bits, w, claim)
+}
+
+// udiv: (= (bvudiv x y) claim).
+pub fn udiv(job: &[u8], work: &[u8], n: usize, literal: u32) -> Verdict
+    requires { ⌜ Store (now job) (now work) n × (literal < first-terms + n) ⌝ }
+    ensures { λ v. ⌜ verdict-of v ≡ verdict by-udiv (tree (now (job .entry)) (now (work .entry)) n literal) ⌝ }
+{
+    let Term::Equals(l, r) = term_at(job, work, n, literal) else {
+        return Verdict::WrongForm;
+    };
+    let Term::BvUDiv(x, y) = term_at(job, work, n, l) else {
+        return Verdict::WrongForm;
+    };
+    udiv_check(job, work, n, x, y, r)
+}
+
+// The claim is the term of the remainder's circuit.
+fn urem_check(job: &[u8], work: &[u8], n: usize, x: u32, y: u32, claim: u32) -> Verdict
+    requires { ⌜ Two (now job) (now work) n x y claim ⌝ }
+    ensures { λ v. ⌜ verdict-of v ≡ compare form-only (divided (urem term-gates) (tree (now (job .entry)) (now (work .entry)) n x) (tree (now (job .entry)) (now (work .entry)) n y)) (tree (now (job .entry)) (now (work .entry)) n claim) ⌝ }
+{
+    let w = width_at(job, work, n, x);
+    let xs = get_term_bits(job, work, n, x, w);
+    let ys = get_term_bits(job, work, n, y, w);
+    let bits = circuits::divider::urem(job, work, n, xs, ys, w);
+    compare_bits_form(job, work, n, bits, w, claim)
+}
+
+// urem: (= (bvurem x y) claim).
+pub fn urem(job: &[u8], work: &[u8], n: usize, literal: u32) -> Verdict
+    requires { ⌜ Store (now job) (now work) n × (literal < first-terms + n) ⌝ }
+    ensures { λ v. ⌜ verdict-of v ≡ verdict by-urem (tree (now (job .entry)) (now (work .entry)) n literal) ⌝ }
+{
+    let Term::Equals(l, r) = term_at(job, work, n, literal) else {
+        return Verdict::WrongForm;
+    };
+    let Term::BvURem(x, y) = term_at(job, work, n, l) else {
+        return Verdict::WrongForm;
+    };
+    urem_check(job, work, n, x, y, r)
+}

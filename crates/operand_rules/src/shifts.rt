@@ -1,0 +1,115 @@
+// The rules shl, lshr and ashr; ashr is held to its form only.
+ghost use mathlib.Core.Path.{_≡_};
+ghost use Rattle.theory.specs.Bits.{shifted};
+ghost use Rattle.theory.specs.Verdict.{held, form-only};
+ghost use mathlib.Core.List.{map};
+ghost use Prim.Native.Nat.{_≤_};
+ghost use lib.ListN.{take};
+ghost use Prim.Native.Nat.{_+_, _<_};
+ghost use Rattle.theory.specs.Limit.{first-terms};
+ghost use Rattle.theory.specs.Gates.{term-gates};
+ghost use Rattle.theory.specs.Circuit.{shl, lshr, ashr};
+ghost use Rattle.theory.specs.RuleTable.{by-shl, by-lshr, by-ashr};
+ghost use Rattle.theory.specs.Rule.{compare, verdict};
+ghost use Rattle.store.specs.Store.{Store};
+ghost use Rattle.operand_rules.specs.Rules.{Two, number-in, width-bits, tree, verdict-of};
+use crate::Verdict;
+use crate::bits::compare_bits;
+use crate::bits::compare_bits_form;
+use crate::bits::get_term_bits;
+use crate::bits::width_at;
+use circuits::bits::select_bits;
+use store::gates::constant;
+use store::terms_at::term_at;
+use terms::Term;
+
+// The bits of the width w, as a constant of that width.
+fn width_bits(job: &[u8], work: &[u8], n: usize, w: usize) -> [u32; 64]
+    requires { ⌜ Store (now job) (now work) n ⌝ }
+    requires { ⌜ (1 ≤ w) × (w ≤ 64) ⌝ }
+    ensures { λ r. ⌜ take w r ≡ map (number-in (now (job .entry)) (now (work .entry)) n) (width-bits w) ⌝ }
+{
+    let size = constant(job, work, n, w as u32, w as u64);
+    select_bits(job, work, n, size, w)
+}
+
+// The claim is the term of the circuit of x shifted left.
+fn shl_check(job: &[u8], work: &[u8], n: usize, x: u32, y: u32, claim: u32) -> Verdict
+    requires { ⌜ Two (now job) (now work) n x y claim ⌝ }
+    ensures { λ v. ⌜ verdict-of v ≡ compare held (shifted (shl term-gates) (tree (now (job .entry)) (now (work .entry)) n x) (tree (now (job .entry)) (now (work .entry)) n y)) (tree (now (job .entry)) (now (work .entry)) n claim) ⌝ }
+{
+    let w = width_at(job, work, n, x);
+    let xs = get_term_bits(job, work, n, x, w);
+    let ys = get_term_bits(job, work, n, y, w);
+    let size = width_bits(job, work, n, w);
+    let bits = circuits::shift::shl(job, work, n, size, xs, ys, w);
+    compare_bits(job, work, n, bits, w, claim)
+}
+
+// shl: (= (bvshl x y) claim).
+pub fn shl(job: &[u8], work: &[u8], n: usize, literal: u32) -> Verdict
+    requires { ⌜ Store (now job) (now work) n × (literal < first-terms + n) ⌝ }
+    ensures { λ v. ⌜ verdict-of v ≡ verdict by-shl (tree (now (job .entry)) (now (work .entry)) n literal) ⌝ }
+{
+    let Term::Equals(l, r) = term_at(job, work, n, literal) else {
+        return Verdict::WrongForm;
+    };
+    let Term::BvShl(x, y) = term_at(job, work, n, l) else {
+        return Verdict::WrongForm;
+    };
+    shl_check(job, work, n, x, y, r)
+}
+
+// The claim is the term of the circuit of x shifted right.
+fn lshr_check(job: &[u8], work: &[u8], n: usize, x: u32, y: u32, claim: u32) -> Verdict
+    requires { ⌜ Two (now job) (now work) n x y claim ⌝ }
+    ensures { λ v. ⌜ verdict-of v ≡ compare held (shifted (lshr term-gates) (tree (now (job .entry)) (now (work .entry)) n x) (tree (now (job .entry)) (now (work .entry)) n y)) (tree (now (job .entry)) (now (work .entry)) n claim) ⌝ }
+{
+    let w = width_at(job, work, n, x);
+    let xs = get_term_bits(job, work, n, x, w);
+    let ys = get_term_bits(job, work, n, y, w);
+    let size = width_bits(job, work, n, w);
+    let bits = circuits::shift::lshr(job, work, n, size, xs, ys, w);
+    compare_bits(job, work, n, bits, w, claim)
+}
+
+// lshr: (= (bvlshr x y) claim).
+pub fn lshr(job: &[u8], work: &[u8], n: usize, literal: u32) -> Verdict
+    requires { ⌜ Store (now job) (now work) n × (literal < first-terms + n) ⌝ }
+    ensures { λ v. ⌜ verdict-of v ≡ verdict by-lshr (tree (now (job .entry)) (now (work .entry)) n literal) ⌝ }
+{
+    let Term::Equals(l, r) = term_at(job, work, n, literal) else {
+        return Verdict::WrongForm;
+    };
+    let Term::BvLShr(x, y) = term_at(job, work, n, l) else {
+        return Verdict::WrongForm;
+    };
+    lshr_check(job, work, n, x, y, r)
+}
+
+// The claim is the term of the circuit of x shifted right, the top bit coming in.
+fn ashr_check(job: &[u8], work: &[u8], n: usize, x: u32, y: u32, claim: u32) -> Verdict
+    requires { ⌜ Two (now job) (now work) n x y claim ⌝ }
+    ensures { λ v. ⌜ verdict-of v ≡ compare form-only (shifted (ashr term-gates) (tree (now (job .entry)) (now (work .entry)) n x) (tree (now (job .entry)) (now (work .entry)) n y)) (tree (now (job .entry)) (now (work .entry)) n claim) ⌝ }
+{
+    let w = width_at(job, work, n, x);
+    let xs = get_term_bits(job, work, n, x, w);
+    let ys = get_term_bits(job, work, n, y, w);
+    let size = width_bits(job, work, n, w);
+    let bits = circuits::shift::ashr(job, work, n, size, xs, ys, w);
+    compare_bits_form(job, work, n, bits, w, claim)
+}
+
+// ashr: (= (bvashr x y) claim).
+pub fn ashr(job: &[u8], work: &[u8], n: usize, literal: u32) -> Verdict
+    requires { ⌜ Store (now job) (now work) n × (literal < first-terms + n) ⌝ }
+    ensures { λ v. ⌜ verdict-of v ≡ verdict by-ashr (tree (now (job .entry)) (now (work .entry)) n literal) ⌝ }
+{
+    let Term::Equals(l, r) = term_at(job, work, n, literal) else {
+        return Verdict::WrongForm;
+    };
+    let Term::BvAShr(x, y) = term_at(job, work, n, l) else {
+        return Verdict::WrongForm;
+    };
+    ashr_check(job, work, n, x, y, r)
+}
