@@ -13,7 +13,7 @@ use denote.Enum.Declared.{tagOf}
 use Rattle.theory.specs.Limit.{first-terms}
 use Rattle.theory.specs.Kind.{Op, Equals, kind, arity, takes}
 use Rattle.theory.specs.Term.{Term, node, nil, cons, fold, to-list, from-list}
-use Rattle.theory.specs.Sort.{Sort, bad, bool, bv, guard, good, all-are, alike, fitting, result-sort, same-sort, is-bv-sort, sort-width, sort-of}
+use Rattle.theory.specs.Sort.{Sort, bad, bool, bv, guard, good, all-are, alike, fitting, result-sort, same-sort, is-bv-sort, sort-of}
 use Rattle.theory.specs.Record.{Bytes}
 use Rattle.theory.specs.Codes.{all-below}
 use Rattle.theory.specs.Verdict.{Verdict, wrong-form}
@@ -34,7 +34,7 @@ use Rattle.terms.proofs.Term as E
 use Rattle.store.specs.Store.{Store, listed}
 use Rattle.store.specs.Terms.{TermAt}
 use Rattle.operand_rules.specs.Rules.{One, Two, Same, tree}
-use Rattle.operand_rules.proofs.Tests.{is-true, same-eqb}
+use Rattle.operand_rules.proofs.Tests.{same-eqb}
 
 -- ---- sorts
 pub good-guard : (b : Bool) (s : Sort) → T (good (guard b s)) → T b

@@ -1,6 +1,6 @@
 -- `let Sort::Bv(w) = sort_at(..) else { .. }`, and the bits of a width.
 use mathlib.Core.Path.{_≡_, refl, sym, ap, ap₂, _∙_}
-use mathlib.Core.Bool.{Bool, cond}
+use mathlib.Core.Bool.{cond}
 use mathlib.Core.List.{List, [], _∷_, map}
 use Prim.Native.Nat.{ℕ, zero, suc, _+_, _^_, _<_, _≤_}
 use native.Mathlib.Nat.{add-zero, zero-add}
@@ -8,7 +8,6 @@ use native.Mathlib.Omega.{arith}
 use borrow.Author.Tests.{lt-ltb, le-leb}
 use types.Run.{OneOf, miss}
 use denote.Enum.Declared.{tagOf}
-use lib.Dec.{eqb}
 use Rattle.theory.specs.Limit.{first-terms}
 use Rattle.theory.specs.Kind.{Const}
 use Rattle.theory.specs.Term.{Term, node, nil, fold}

@@ -1,7 +1,7 @@
 -- The text of what a run came to, and where it is written.
 use mathlib.Core.Path.{_≡_}
 use mathlib.Core.Bool.{cond, _&&_}
-use mathlib.Core.List.{[], _∷_, _++_}
+use mathlib.Core.List.{[], _++_}
 use Prim.Native.Nat.{ℕ, _+_, _*_, _≤_}
 use lib.Dec.{leb}
 use lib.ListN.{length, take, drop}

@@ -6,9 +6,10 @@ use native.Mathlib.Omega.{arith}
 use lib.Dec.{leb, ltb}
 use lib.ListN.{drop, length, take}
 use borrow.Author.Tests.{eq-eqb, le-leb, le-ltb, leb-true, lt-leb, lt-ltb, ltb-true, ne-eqb}
-use Rattle.theory.specs.Limit.{first-terms}
+use Rattle.theory.specs.Limit.{first-terms, max-terms, term-bytes}
 use Rattle.theory.specs.Record.{Bytes, extent}
-use Rattle.rows.specs.Layout.{missing, number-at, number-end, record-at}
+use Rattle.terms.specs.Framing.{record-at}
+use Rattle.rows.specs.Layout.{missing, number-at, number-end, max-rows}
 use Rattle.rows.specs.Rows.{depths, kept, place-of, widths}
 use Rattle.rows.specs.Slots.{Table, TableOf, added-row, seek-of, slot-count, start-of}
 use Rattle.rows.specs.Promise.{Grown, answer-to, count-after, list-after, room-for}
@@ -21,7 +22,6 @@ use Rattle.rows.specs.declared.kept.Added.{Added}
 
 -- the part of the job that the code looks up is the record
 pub part-record : (job : Bytes) (at len : ℕ) → len ≡ number-at job at → take (at + len + 2 - at) (drop at job) ≡ record-at job at
-unfolding record-at
 part-record job at len e =
     let f : at + len + 2 - at ≡ extent (drop at job) = omega arith in
     rw f
@@ -33,24 +33,24 @@ free-below job work c x t q =
 
 -- ---- room for a row
 
-room-tests : (n len : ℕ) (a b : Bool) → leb (8 * suc n) len ≡ a → ltb (2 + n) 65535 ≡ b → room-for n len ≡ (a && b)
+room-tests : (n len : ℕ) (a b : Bool) → leb (term-bytes * suc n) len ≡ a → ltb (2 + n) max-terms ≡ b → room-for n len ≡ (a && b)
 unfolding room-for
 room-tests n len a b p q = rw (p, q)
 
-pub room-yes : (n len : ℕ) → n < 65533 → n * 8 + 8 ≤ len → room-for n len ≡ true
-room-yes n len h k = room-tests n len true true (le-leb (8 * suc n) len (omega arith)) (lt-ltb (2 + n) 65535 (omega arith))
+pub room-yes : (n len : ℕ) → n < max-rows → n * term-bytes + term-bytes ≤ len → room-for n len ≡ true
+room-yes n len h k = room-tests n len true true (le-leb (term-bytes * suc n) len (omega arith)) (lt-ltb (2 + n) max-terms (omega arith))
 
-pub room-numbers : (n len : ℕ) → 65533 ≤ n → room-for n len ≡ false
-room-numbers n len h = room-tests n len (leb (8 * suc n) len) false refl (le-ltb (2 + n) 65535 (omega arith)) ∙ and-false (leb (8 * suc n) len)
+pub room-numbers : (n len : ℕ) → max-rows ≤ n → room-for n len ≡ false
+room-numbers n len h = room-tests n len (leb (term-bytes * suc n) len) false refl (le-ltb (2 + n) max-terms (omega arith)) ∙ and-false (leb (term-bytes * suc n) len)
 
-pub room-memory : (n len : ℕ) → len < n * 8 + 8 → room-for n len ≡ false
-room-memory n len h = room-tests n len false (ltb (2 + n) 65535) (lt-leb (8 * suc n) len (omega arith)) refl
+pub room-memory : (n len : ℕ) → len < n * term-bytes + term-bytes → room-for n len ≡ false
+room-memory n len h = room-tests n len false (ltb (2 + n) max-terms) (lt-leb (term-bytes * suc n) len (omega arith)) refl
 
-room-true : (n len : ℕ) → room-for n len ≡ true → (n < 65533) × (n * 8 + 8 ≤ len)
+room-true : (n len : ℕ) → room-for n len ≡ true → (n < max-rows) × (n * term-bytes + term-bytes ≤ len)
 unfolding room-for
 room-true n len e =
-    let a : 2 + n < 65535 = ltb-true (2 + n) 65535 (and-second (leb (8 * suc n) len) (ltb (2 + n) 65535) e) in
-    let b : 8 * suc n ≤ len = leb-true (8 * suc n) len (and-first (leb (8 * suc n) len) (ltb (2 + n) 65535) e) in
+    let a : 2 + n < max-terms = ltb-true (2 + n) max-terms (and-second (leb (term-bytes * suc n) len) (ltb (2 + n) max-terms) e) in
+    let b : term-bytes * suc n ≤ len = leb-true (term-bytes * suc n) len (and-first (leb (term-bytes * suc n) len) (ltb (2 + n) max-terms) e) in
     (omega arith, omega arith)
 
 -- ---- the answer and the memory, by what the table has for the record
@@ -113,7 +113,7 @@ module _ (job work : Bytes) (n c : ℕ) (table : TableOf job work n c) (slot : r
   unfolding answer-for place-in
   answer-is (Seek.At p) e =
       let small : p ≤ n + 1 = seek-is-at job work c x n p (table .slots .low) e in
-      let few : n ≤ 65533 = table .slots .rows .few in
+      let few : n ≤ max-rows = table .slots .rows .few in
       found-is p (place-sought (Seek.At p) e) (λ m. omega arith)
   answer-is (Seek.Free t) e = sym (spent-or-new (Seek.Free t) refl e)
   answer-is Seek.Full e = answer-full (room-for n (length work)) refl e ∙ sym (spent-or-new Seek.Full refl e)
@@ -127,7 +127,7 @@ module _ (job work : Bytes) (n c at depth width : ℕ) (table : TableOf job work
 
   slot : room-for n (length work) ≡ true → n < c
   slot e =
-      let r : (n < 65533) × (n * 8 + 8 ≤ length work) = room-true n (length work) e in
+      let r : (n < max-rows) × (n * term-bytes + term-bytes ≤ length work) = room-true n (length work) e in
       rw count (slot-count-more n (length work) (omega arith) (r .1))
 
   -- a memory of the same length has the same slots
@@ -150,7 +150,7 @@ module _ (job work : Bytes) (n c at depth width : ℕ) (table : TableOf job work
       → Grown job work (cond room (added-row work n t at depth width) work) n at depth width (cond room (Added.New (2 + n)) Added.Spent)
   unfolding count-after list-after
   grown-free t e true f g =
-      let r : (n < 65533) × (n * 8 + 8 ≤ length work) = room-true n (length work) f in
+      let r : (n < max-rows) × (n * term-bytes + term-bytes ≤ length work) = room-true n (length work) f in
       record {
         answer-is = g;
         table = retable (added-row work n t at depth width) (n + 1) (length-added job work n c t at depth width table (r .0) (r .1) small inside e)

@@ -8,7 +8,8 @@ use native.Mathlib.Omega.{arith}
 use lib.ListN.{getD, length}
 use Rattle.theory.specs.Limit.{first-terms}
 use Rattle.theory.specs.Record.{Bytes}
-use Rattle.rows.specs.Layout.{depth-at, max-rows, missing, offset-at, record-at, width-at}
+use Rattle.terms.specs.Framing.{record-at}
+use Rattle.rows.specs.Layout.{depth-at, max-rows, missing, offset-at, width-at}
 use Rattle.rows.specs.Rows.{depths, kept, place-from, place-of, row-record, widths}
 use Rattle.rows.specs.Slots.{Table}
 use Rattle.rows.proofs.RowLaws.{getD-column, getD-kept, length-kept, same-refl, same-sound}

@@ -11,15 +11,16 @@ use lib.ListN.{length-append, length-replicate, drop, getD, length, replicate, t
 use lib.Seq.{sets, sets-eq, length-sets, length-take-le, take-at, take-suc, take-all}
 use borrow.Author.Tests.{le-ltb, lt-ltb}
 use Rattle.theory.specs.Record.{Bytes, bytes-of}
-use Rattle.rows.specs.Layout.{missing}
+use Rattle.rows.specs.Layout.{missing, key-bytes}
 use Rattle.rows.specs.Rows.{place-of}
 use Rattle.rows.specs.Keys.{all-places, numbers, place-constant, place-list, record-of}
 use Rattle.rows.proofs.RowLaws.{and-first, and-second}
+use Rattle.theory.specs.Limit.{max-terms, number-bytes, value-bytes}
 
 -- ---- the first `at` bytes of the array are p
 
 pub record Written (key p : Bytes) (at : ℕ) : Type 0 where
-  pub long : length key ≡ 134
+  pub long : length key ≡ key-bytes
   pub bytes : take at key ≡ p
 
 take-sets : (l : Bytes) (i : ℕ) (vs : Bytes) → i + length vs ≤ length l → take (i + length vs) (sets l i vs) ≡ take i l ++ vs
@@ -28,14 +29,14 @@ take-sets l i vs h =
     ∙ take-at (take i l ++ vs) (drop (i + length vs) l) (i + length vs)
     (length-append (take i l) vs ∙ ap (λ (n : ℕ). n + length vs) (length-take-le i l (omega arith)))
 
-pub written-start : Written (replicate 134 0) [] 0
-written-start = record { long = length-replicate {A = ℕ} 134 0; bytes = refl }
+pub written-start : Written (replicate key-bytes 0) [] 0
+written-start = record { long = length-replicate {A = ℕ} key-bytes 0; bytes = refl }
 
 length-bytes : (k x : ℕ) → length (bytes-of k x) ≡ k
 length-bytes zero x = refl
 length-bytes (suc k) x = ap suc (length-bytes k (x / 256))
 
-pub written-more : {key p : Bytes} {at : ℕ} → Written key p at → (k x : ℕ) → at + k ≤ 134 → {after : Bytes} → after ≡ sets key at (bytes-of k x)
+pub written-more : {key p : Bytes} {at : ℕ} → Written key p at → (k x : ℕ) → at + k ≤ key-bytes → {after : Bytes} → after ≡ sets key at (bytes-of k x)
     → Written after (p ++ bytes-of k x) (at + k)
 written-more {key} {p} {at} w k x h e =
     rw e (record {
@@ -50,9 +51,9 @@ numbers-append : (xs ys : List ℕ) → numbers (xs ++ ys) ≡ numbers xs ++ num
 unfolding numbers
 numbers-append [] ys = refl
 numbers-append (x ∷ xs) ys =
-    ap (λ (l : Bytes). bytes-of 2 x ++ l) (numbers-append xs ys) ∙ sym (append-assoc (bytes-of 2 x) (numbers xs) (numbers ys))
+    ap (λ (l : Bytes). bytes-of number-bytes x ++ l) (numbers-append xs ys) ∙ sym (append-assoc (bytes-of number-bytes x) (numbers xs) (numbers ys))
 
-numbers-one : (x : ℕ) → numbers (x ∷ []) ≡ bytes-of 2 x
+numbers-one : (x : ℕ) → numbers (x ∷ []) ≡ bytes-of number-bytes x
 unfolding numbers
 numbers-one x = refl
 
@@ -61,17 +62,17 @@ unfolding numbers
 length-numbers [] = refl
 length-numbers (x ∷ xs) = omega (arith, length-numbers xs)
 
-places-more : (xs : List ℕ) (x : ℕ) → all-places xs ≡ true → x < 65535 → all-places (xs ++ (x ∷ [])) ≡ true
+places-more : (xs : List ℕ) (x : ℕ) → all-places xs ≡ true → x < max-terms → all-places (xs ++ (x ∷ [])) ≡ true
 unfolding all-places
-places-more [] x e h = rw (lt-ltb x 65535 h)
+places-more [] x e h = rw (lt-ltb x max-terms h)
 places-more (y ∷ xs) x e h =
-    rw (and-first (ltb y 65535) (all-places xs) e, places-more xs x (and-second (ltb y 65535) (all-places xs) e) h)
+    rw (and-first (ltb y max-terms) (all-places xs) e, places-more xs x (and-second (ltb y max-terms) (all-places xs) e) h)
 
-places-no : (xs : List ℕ) (i : ℕ) → i < length xs → 65535 ≤ getD xs i 0 → all-places xs ≡ false
+places-no : (xs : List ℕ) (i : ℕ) → i < length xs → max-terms ≤ getD xs i 0 → all-places xs ≡ false
 unfolding all-places
 places-no [] i h l = absurd (not-suc-le-zero h)
-places-no (x ∷ xs) zero h l = rw (le-ltb x 65535 l)
-places-no (x ∷ xs) (suc i) h l = rw (places-no xs i (le-of-suc-le-suc h) l) (and-false (ltb x 65535))
+places-no (x ∷ xs) zero h l = rw (le-ltb x max-terms l)
+places-no (x ∷ xs) (suc i) h l = rw (places-no xs i (le-of-suc-le-suc h) l) (and-false (ltb x max-terms))
 
 -- ---- the loop over the numbers: the array has the record's head and the first i of them
 
@@ -79,15 +80,15 @@ pub record Building (kind : ℕ) (xs : List ℕ) (key : Bytes) (at i : ℕ) : Ty
   pub many : i ≤ length xs
   pub far : at ≡ 4 + i * 2
   pub places : all-places (take i xs) ≡ true
-  pub written : Written key ((bytes-of 2 (2 + length (numbers xs)) ++ bytes-of 2 kind) ++ numbers (take i xs)) at
+  pub written : Written key ((bytes-of number-bytes (2 + length (numbers xs)) ++ bytes-of number-bytes kind) ++ numbers (take i xs)) at
 
-pub building-start : (kind : ℕ) (xs : List ℕ) {key : Bytes} → Written key (([] ++ bytes-of 2 (2 + length xs * 2)) ++ bytes-of 2 kind) 4
+pub building-start : (kind : ℕ) (xs : List ℕ) {key : Bytes} → Written key (([] ++ bytes-of number-bytes (2 + length xs * 2)) ++ bytes-of number-bytes kind) 4
     → Building kind xs key 4 0
 unfolding numbers all-places
 building-start kind xs w = record { many = omega arith; far = refl; places = refl; written = rw (length-numbers xs) w }
 
 pub building-turn : {kind : ℕ} {xs : List ℕ} {key : Bytes} {at i : ℕ} → Building kind xs key at i → length xs ≤ 64 → i < length xs
-    → (x : ℕ) → x ≡ getD xs i 0 → x < 65535 → {after : Bytes} → after ≡ sets key at (bytes-of 2 x) → Building kind xs after (at + 2) (i + 1)
+    → (x : ℕ) → x ≡ getD xs i 0 → x < max-terms → {after : Bytes} → after ≡ sets key at (bytes-of number-bytes x) → Building kind xs after (at + 2) (i + 1)
 building-turn {kind} {xs} {key} {at} {i} b few h x e low {after} stored = record {
   many = omega arith;
   far = omega (arith, b .far);
@@ -106,14 +107,14 @@ building-end {kind} {xs} {key} {at} {i} b h rows =
     let all : all-places xs ≡ true = ap all-places (sym t) ∙ b .places in
     rw (all, b .written .bytes, t)
 
-pub building-none : (kind : ℕ) (xs : List ℕ) (rows : List Bytes) (i : ℕ) → i < length xs → 65535 ≤ getD xs i 0 → missing ≡ place-list kind xs rows
+pub building-none : (kind : ℕ) (xs : List ℕ) (rows : List Bytes) (i : ℕ) → i < length xs → max-terms ≤ getD xs i 0 → missing ≡ place-list kind xs rows
 unfolding place-list
 building-none kind xs rows i h l = rw (places-no xs i h l)
 
 -- ---- a constant
 
 pub constant-end : {key : Bytes} (kind width value : ℕ)
-    → Written key (((([] ++ bytes-of 2 12) ++ bytes-of 2 kind) ++ bytes-of 2 width) ++ bytes-of 8 value) 14
+    → Written key (((([] ++ bytes-of number-bytes 12) ++ bytes-of number-bytes kind) ++ bytes-of number-bytes width) ++ bytes-of value-bytes value) 14
     → (rows : List Bytes) → place-of (take 14 key) rows ≡ place-constant kind width value rows
 unfolding place-constant record-of
 constant-end kind width value w rows = ap (λ (x : Bytes). place-of x rows) (w .bytes)

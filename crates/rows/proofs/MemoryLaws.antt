@@ -12,9 +12,10 @@ use lib.Dec.{ltb}
 use lib.ListN.{getD-replicate, length-replicate, List·getD-eq-default, drop, getD, length, replicate, take}
 use lib.Seq.{sets, length-sets}
 use borrow.Author.Tests.{eq-eqb, le-ltb, lt-ltb, ne-eqb}
-use Rattle.theory.specs.Limit.{max-job}
+use Rattle.theory.specs.Limit.{max-job, term-bytes, number-bytes}
 use Rattle.theory.specs.Record.{Bytes, extent, bytes-of}
-use Rattle.rows.specs.Layout.{depth-at, max-slots, number-at, offset-at, record-at, width-at}
+use Rattle.terms.specs.Framing.{record-at}
+use Rattle.rows.specs.Layout.{depth-at, max-slots, number-at, offset-at, width-at, max-rows}
 use Rattle.rows.specs.Rows.{Rows, column, depths, kept, row-record, stored-row, widths}
 use Rattle.rows.specs.Slots.{Reach, Table, TableOf, added-row, dropped-row, holder-from, seek-of, slot-at, slot-count, start-of, stored-slot, turn}
 use Rattle.rows.specs.Promise.{Cut, Wiped}
@@ -25,64 +26,64 @@ use Rattle.rows.specs.declared.slots.Seek.{Seek}
 
 -- ---- a stored row leaves the slots
 
-module _ (work : Bytes) (n offset depth width : ℕ) (room : n * 8 + 8 ≤ length work) where
-  slot-stays : (j i : ℕ) → 6 ≤ i → i < 8 → getD (stored-row work n offset depth width) (j * 8 + i) 0 ≡ getD work (j * 8 + i) 0
+module _ (work : Bytes) (n offset depth width : ℕ) (room : n * term-bytes + term-bytes ≤ length work) where
+  slot-stays : (j i : ℕ) → 6 ≤ i → i < term-bytes → getD (stored-row work n offset depth width) (j * term-bytes + i) 0 ≡ getD work (j * term-bytes + i) 0
   slot-stays j i a b = go (decLt j n)
     where
-      go : Dec (j < n) → getD (stored-row work n offset depth width) (j * 8 + i) 0 ≡ getD work (j * 8 + i) 0
-      go (yes h) = before-stored work n offset depth width room (j * 8 + i) (omega arith)
-      go (no h) = after-stored work n offset depth width room (j * 8 + i) (omega arith)
+      go : Dec (j < n) → getD (stored-row work n offset depth width) (j * term-bytes + i) 0 ≡ getD work (j * term-bytes + i) 0
+      go (yes h) = before-stored work n offset depth width room (j * term-bytes + i) (omega arith)
+      go (no h) = after-stored work n offset depth width room (j * term-bytes + i) (omega arith)
 
   pub slot-row : (j : ℕ) → slot-at (stored-row work n offset depth width) j ≡ slot-at work j
   unfolding slot-at
   slot-row j =
-      let e : j * 8 + 6 + 1 ≡ j * 8 + 7 = omega arith in
+      let e : j * term-bytes + 6 + 1 ≡ j * term-bytes + 7 = omega arith in
       rw (number-is, number-is work, e, slot-stays j 6 (omega arith) (omega arith), slot-stays j 7 (omega arith) (omega arith))
 
 -- ---- a stored slot
 
-module _ (work : Bytes) (t v : ℕ) (room : t * 8 + 8 ≤ length work) where
+module _ (work : Bytes) (t v : ℕ) (room : t * term-bytes + term-bytes ≤ length work) where
   pub length-slot : length (stored-slot work t v) ≡ length work
   unfolding stored-slot
-  length-slot = length-sets work (t * 8 + 6) (bytes-of 2 v)
+  length-slot = length-sets work (t * term-bytes + 6) (bytes-of number-bytes v)
 
-  other-byte : (j : ℕ) → (j < t * 8 + 6) ⊎ (t * 8 + 8 ≤ j) → getD (stored-slot work t v) j 0 ≡ getD work j 0
+  other-byte : (j : ℕ) → (j < t * term-bytes + 6) ⊎ (t * term-bytes + term-bytes ≤ j) → getD (stored-slot work t v) j 0 ≡ getD work j 0
   unfolding stored-slot
-  other-byte j (inl h) = sets-before work (t * 8 + 6) (bytes-of 2 v) j 0 h
-  other-byte j (inr h) = sets-after work (t * 8 + 6) (bytes-of 2 v) j 0 (omega arith)
+  other-byte j (inl h) = sets-before work (t * term-bytes + 6) (bytes-of number-bytes v) j 0 h
+  other-byte j (inr h) = sets-after work (t * term-bytes + 6) (bytes-of number-bytes v) j 0 (omega arith)
 
-  low-byte : getD (stored-slot work t v) (t * 8 + 6) 0 ≡ v % 256
+  low-byte : getD (stored-slot work t v) (t * term-bytes + 6) 0 ≡ v % 256
   unfolding stored-slot
   low-byte =
-      ap (λ (k : ℕ). getD (sets work (t * 8 + 6) (bytes-of 2 v)) k 0) (sym (add-zero (t * 8 + 6)))
-      ∙ sets-in work (t * 8 + 6) (bytes-of 2 v) 0 0 (omega arith) (omega arith)
+      ap (λ (k : ℕ). getD (sets work (t * term-bytes + 6) (bytes-of number-bytes v)) k 0) (sym (add-zero (t * term-bytes + 6)))
+      ∙ sets-in work (t * term-bytes + 6) (bytes-of number-bytes v) 0 0 (omega arith) (omega arith)
 
-  high-byte : getD (stored-slot work t v) (t * 8 + 6 + 1) 0 ≡ v / 256 % 256
+  high-byte : getD (stored-slot work t v) (t * term-bytes + 6 + 1) 0 ≡ v / 256 % 256
   unfolding stored-slot
-  high-byte = sets-in work (t * 8 + 6) (bytes-of 2 v) 1 0 (omega arith) (omega arith)
+  high-byte = sets-in work (t * term-bytes + 6) (bytes-of number-bytes v) 1 0 (omega arith) (omega arith)
 
   pub slot-here : v < 65536 → slot-at (stored-slot work t v) t ≡ v
   unfolding slot-at
   slot-here h = rw (number-is, low-byte, high-byte) (omega arith)
 
   -- bytes 0 to 5 of any eight, and all of any other eight, stay
-  far-byte : (j i : ℕ) → i < 6 → getD (stored-slot work t v) (j * 8 + i) 0 ≡ getD work (j * 8 + i) 0
+  far-byte : (j i : ℕ) → i < 6 → getD (stored-slot work t v) (j * term-bytes + i) 0 ≡ getD work (j * term-bytes + i) 0
   far-byte j i h = go (decLt t j)
     where
-      go : Dec (t < j) → getD (stored-slot work t v) (j * 8 + i) 0 ≡ getD work (j * 8 + i) 0
-      go (yes l) = other-byte (j * 8 + i) (inr (omega arith))
-      go (no l) = other-byte (j * 8 + i) (inl (omega arith))
+      go : Dec (t < j) → getD (stored-slot work t v) (j * term-bytes + i) 0 ≡ getD work (j * term-bytes + i) 0
+      go (yes l) = other-byte (j * term-bytes + i) (inr (omega arith))
+      go (no l) = other-byte (j * term-bytes + i) (inl (omega arith))
 
-  slot-other-byte : (j i : ℕ) → (j ≡ t → ⊥) → 6 ≤ i → i < 8 → Dec (t < j) → getD (stored-slot work t v) (j * 8 + i) 0 ≡ getD work (j * 8 + i) 0
-  slot-other-byte j i h a b (yes l) = other-byte (j * 8 + i) (inr (omega arith))
+  slot-other-byte : (j i : ℕ) → (j ≡ t → ⊥) → 6 ≤ i → i < term-bytes → Dec (t < j) → getD (stored-slot work t v) (j * term-bytes + i) 0 ≡ getD work (j * term-bytes + i) 0
+  slot-other-byte j i h a b (yes l) = other-byte (j * term-bytes + i) (inr (omega arith))
   slot-other-byte j i h a b (no l) =
       let m : j < t = omega (arith, h) in
-      other-byte (j * 8 + i) (inl (omega arith))
+      other-byte (j * term-bytes + i) (inl (omega arith))
 
   pub slot-other : (j : ℕ) → (j ≡ t → ⊥) → slot-at (stored-slot work t v) j ≡ slot-at work j
   unfolding slot-at
   slot-other j h =
-      let e : j * 8 + 6 + 1 ≡ j * 8 + 7 = omega arith in
+      let e : j * term-bytes + 6 + 1 ≡ j * term-bytes + 7 = omega arith in
       rw (
         number-is,
         number-is work,
@@ -94,13 +95,13 @@ module _ (work : Bytes) (t v : ℕ) (room : t * 8 + 8 ≤ length work) where
   pub offset-slot : (k : ℕ) → offset-at (stored-slot work t v) k ≡ offset-at work k
   unfolding offset-at
   offset-slot k =
-      let z : getD (stored-slot work t v) (k * 8) 0 ≡ getD work (k * 8) 0 = rw add-zero at (far-byte k 0 (omega arith)) in
+      let z : getD (stored-slot work t v) (k * term-bytes) 0 ≡ getD work (k * term-bytes) 0 = rw add-zero at (far-byte k 0 (omega arith)) in
       rw (offset-is, offset-is work, z, far-byte k 1 (omega arith), far-byte k 2 (omega arith))
 
   pub depth-slot : (k : ℕ) → depth-at (stored-slot work t v) k ≡ depth-at work k
   unfolding depth-at
   depth-slot k =
-      let e : k * 8 + 3 + 1 ≡ k * 8 + 4 = omega arith in
+      let e : k * term-bytes + 3 + 1 ≡ k * term-bytes + 4 = omega arith in
       rw (number-is, number-is work, e, far-byte k 3 (omega arith), far-byte k 4 (omega arith))
 
   pub width-slot : (k : ℕ) → width-at (stored-slot work t v) k ≡ width-at work k
@@ -117,7 +118,7 @@ module _ (work : Bytes) (t v : ℕ) (room : t * 8 + 8 ≤ length work) where
 
 -- ---- a row is added
 
-module _ (job work : Bytes) (n c t offset depth width : ℕ) (table : TableOf job work n c) (few : n < 65533) (room : n * 8 + 8 ≤ length work)
+module _ (job work : Bytes) (n c t offset depth width : ℕ) (table : TableOf job work n c) (few : n < max-rows) (room : n * term-bytes + term-bytes ≤ length work)
     (small : offset < 16777216) (inside : offset + extent (drop offset job) ≤ length job)
     (free : seek-of job work c (record-at job offset) ≡ Seek.Free t) where
   free-at : FreeAt job work c (record-at job offset) t
@@ -128,7 +129,7 @@ module _ (job work : Bytes) (n c t offset depth width : ℕ) (table : TableOf jo
       subst (λ (j : ℕ). j < c) (free-at .there)
       (turn-below c (start-of c (record-at job offset)) (free-at .far) (start-below c (record-at job offset) (omega (arith, free-at .near))) (free-at .near))
 
-  slot-room : t * 8 + 8 ≤ length (stored-row work n offset depth width)
+  slot-room : t * term-bytes + term-bytes ≤ length (stored-row work n offset depth width)
   slot-room = rw (length-stored work n offset depth width room) (omega (arith, slot-below, table .slots .cells))
 
   pub table-added : TableOf job (added-row work n t offset depth width) (n + 1) c
@@ -242,7 +243,7 @@ module _ (job work : Bytes) (k c : ℕ) (table : TableOf job work (k + 1) c) whe
       let r : Reach work c (start-of c (record-at job (offset-at work k))) k = table .reach k (omega arith) in
       holder-holds work c (start-of c (record-at job (offset-at work k))) k r (start-below c (record-at job (offset-at work k)) (omega (arith, r .near)))
 
-  last-room : last-slot * 8 + 8 ≤ length work
+  last-room : last-slot * term-bytes + term-bytes ≤ length work
   last-room = omega (arith, last-holds, table .slots .cells)
 
   pub table-dropped : TableOf job (dropped-row job work k c) k c
@@ -278,9 +279,9 @@ zero-byte n j = go (decLt j n)
 
 zero-slot : (n j : ℕ) → slot-at (replicate n 0) j ≡ 0
 unfolding slot-at
-zero-slot n j = rw (number-is, zero-byte n (j * 8 + 6), zero-byte n (j * 8 + 6 + 1))
+zero-slot n j = rw (number-is, zero-byte n (j * term-bytes + 6), zero-byte n (j * term-bytes + 6 + 1))
 
-pub table-empty : (job : Bytes) (len c : ℕ) → length job ≤ max-job → c * 8 ≤ len → c ≤ max-slots → TableOf job (replicate len 0) 0 c
+pub table-empty : (job : Bytes) (len c : ℕ) → length job ≤ max-job → c * term-bytes ≤ len → c ≤ max-slots → TableOf job (replicate len 0) 0 c
 table-empty job len c short h small = record {
   slots = record {
     rows = record { short = short; few = omega arith; room = omega arith; inside = λ k l. absurd (not-suc-le-zero l) };
@@ -304,7 +305,6 @@ module _ (job work : Bytes) (k c at : ℕ) (table : TableOf job work (k + 1) c) 
 
   module _ (len start : ℕ) (long : len ≡ number-at job at) (first : start ≡ start-of c (take (at + len + 2 - at) (drop at job))) where
     start-is : start ≡ start-of c (record-at job (offset-at work k))
-    unfolding record-at
     start-is =
         let e : at + len + 2 - at ≡ extent (drop at job) = omega arith in
         first ∙ rw (e, place)
@@ -314,7 +314,7 @@ module _ (job work : Bytes) (k c at : ℕ) (table : TableOf job work (k + 1) c) 
       unfolding last-slot last-start
       slot-is = holds ∙ ap (λ (s : ℕ). holder-from work c s (k + 1) 0 c) start-is
 
-      pub drop-room : (t < c) × (t * 8 + 8 ≤ length work)
+      pub drop-room : (t < c) × (t * term-bytes + term-bytes ≤ length work)
       drop-room = rw slot-is (last-holds job work k c table .1, last-room job work k c table)
 
       pub drop-is : stored-slot work t 0 ≡ dropped-row job work k c
@@ -323,11 +323,11 @@ module _ (job work : Bytes) (k c at : ℕ) (table : TableOf job work (k + 1) c) 
 
 -- ---- the number of slots
 
-pub slot-count-room : (len : ℕ) → slot-count len * 8 ≤ len
+pub slot-count-room : (len : ℕ) → slot-count len * term-bytes ≤ len
 unfolding slot-count
 slot-count-room len = go (decLt (len / 8) max-slots)
   where
-    go : Dec (len / 8 < max-slots) → cond (ltb (len / 8) max-slots) (len / 8) max-slots * 8 ≤ len
+    go : Dec (len / 8 < max-slots) → cond (ltb (len / 8) max-slots) (len / 8) max-slots * term-bytes ≤ len
     go (yes h) = rw (lt-ltb (len / 8) max-slots h) (omega arith)
     go (no h) = rw (le-ltb (len / 8) max-slots (omega arith)) (omega arith)
 
@@ -340,7 +340,7 @@ slot-count-small len = go (decLt (len / 8) max-slots)
     go (no h) = rw (le-ltb (len / 8) max-slots (omega arith)) (omega arith)
 
 -- where a row has room there is a slot for it
-pub slot-count-more : (n len : ℕ) → n < max-slots → n * 8 + 8 ≤ len → n < slot-count len
+pub slot-count-more : (n len : ℕ) → n < max-slots → n * term-bytes + term-bytes ≤ len → n < slot-count len
 unfolding slot-count
 slot-count-more n len few room = go (decLt (len / 8) max-slots)
   where

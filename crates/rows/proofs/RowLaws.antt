@@ -13,9 +13,11 @@ use lib.Seq.{sets, drop-cons, getD-take, getD-drop, getD-at, getD-set-same, getD
 use borrow.Author.Tests.{eq-eqb, eqb-true}
 use borrow.Author.Count.{below-more}
 use Rattle.theory.specs.Record.{Bytes, extent, little-endian, word, bytes-of}
-use Rattle.rows.specs.Layout.{depth-at, missing, number-at, offset-at, offset-bytes, offset-number, record-at, width-at}
+use Rattle.terms.specs.Framing.{record-at}
+use Rattle.rows.specs.Layout.{depth-at, missing, number-at, offset-at, offset-bytes, offset-number, width-at, max-rows}
 use Rattle.rows.specs.Rows.{Rows, column, kept, place-from, place-of, row-bytes, row-record, stored-row}
 use Rattle.theory.specs.Term.{same-numbers}
+use Rattle.theory.specs.Limit.{term-bytes, number-bytes}
 
 -- ---- numbers in bytes
 
@@ -165,11 +167,9 @@ module _ (job work : Bytes) (n : ℕ) (x : Bytes) (p : ℕ) where
 
 module _ (job x : Bytes) (at : ℕ) (inside : at + extent (drop at job) ≤ length job) where
   pub length-record : length (record-at job at) ≡ extent (drop at job)
-  unfolding record-at
   length-record = simp (length-take, length-drop) (omega arith)
 
   pub record-byte : (k : ℕ) → k < extent (drop at job) → getD (record-at job at) k 0 ≡ getD job (at + k) 0
-  unfolding record-at
   record-byte k h = rw (getD-take, getD-drop)
 
   pub record-equal : length x ≡ extent (drop at job) → ((k : ℕ) → k < length x → getD job (at + k) 0 ≡ getD x k 0) → x ≡ record-at job at
@@ -260,54 +260,54 @@ sets-after l i (a ∷ vs) j d h = sets-after (set l i a) (suc i) vs j d (omega a
 
 -- ---- a row that is stored
 
-module _ (work : Bytes) (n offset depth width : ℕ) (room : n * 8 + 8 ≤ length work) where
+module _ (work : Bytes) (n offset depth width : ℕ) (room : n * term-bytes + term-bytes ≤ length work) where
   pub length-stored : length (stored-row work n offset depth width) ≡ length work
   unfolding stored-row
-  length-stored = length-sets work (n * 8) (row-bytes offset depth width)
+  length-stored = length-sets work (n * term-bytes) (row-bytes offset depth width)
 
   -- its three parts, stored one after the other
-  pub stored-parts : (a b c : Bytes) → a ≡ sets work (n * 8) (bytes-of 3 offset) → b ≡ sets a (n * 8 + 3) (bytes-of 2 depth)
-      → c ≡ sets b (n * 8 + 5) (bytes-of 1 width) → c ≡ stored-row work n offset depth width
+  pub stored-parts : (a b c : Bytes) → a ≡ sets work (n * term-bytes) (bytes-of offset-bytes offset) → b ≡ sets a (n * term-bytes + 3) (bytes-of number-bytes depth)
+      → c ≡ sets b (n * term-bytes + 5) (bytes-of 1 width) → c ≡ stored-row work n offset depth width
   unfolding stored-row row-bytes
   stored-parts a b c p q r =
-      let e : n * 8 + 5 ≡ n * 8 + 3 + 2 = omega arith in
+      let e : n * term-bytes + 5 ≡ n * term-bytes + 3 + 2 = omega arith in
       r
       ∙ ap (λ (j : ℕ). sets b j (bytes-of 1 width)) e
-      ∙ ap (λ (l : Bytes). sets l (n * 8 + 3 + 2) (bytes-of 1 width)) q
-      ∙ sym (sets-append a (n * 8 + 3) (bytes-of 2 depth) (bytes-of 1 width))
-      ∙ ap (λ (l : Bytes). sets l (n * 8 + 3) (bytes-of 2 depth ++ bytes-of 1 width)) p
-      ∙ sym (sets-append work (n * 8) (bytes-of 3 offset) (bytes-of 2 depth ++ bytes-of 1 width))
+      ∙ ap (λ (l : Bytes). sets l (n * term-bytes + 3 + 2) (bytes-of 1 width)) q
+      ∙ sym (sets-append a (n * term-bytes + 3) (bytes-of number-bytes depth) (bytes-of 1 width))
+      ∙ ap (λ (l : Bytes). sets l (n * term-bytes + 3) (bytes-of number-bytes depth ++ bytes-of 1 width)) p
+      ∙ sym (sets-append work (n * term-bytes) (bytes-of offset-bytes offset) (bytes-of number-bytes depth ++ bytes-of 1 width))
 
   -- the bytes before it stay
-  pub before-stored : (j : ℕ) → j < n * 8 → getD (stored-row work n offset depth width) j 0 ≡ getD work j 0
+  pub before-stored : (j : ℕ) → j < n * term-bytes → getD (stored-row work n offset depth width) j 0 ≡ getD work j 0
   unfolding stored-row
-  before-stored j h = sets-before work (n * 8) (row-bytes offset depth width) j 0 h
+  before-stored j h = sets-before work (n * term-bytes) (row-bytes offset depth width) j 0 h
 
   -- its own bytes
-  at-stored : (j : ℕ) → j < 6 → getD (stored-row work n offset depth width) (n * 8 + j) 0 ≡ getD (row-bytes offset depth width) j 0
+  at-stored : (j : ℕ) → j < 6 → getD (stored-row work n offset depth width) (n * term-bytes + j) 0 ≡ getD (row-bytes offset depth width) j 0
   unfolding stored-row row-bytes
-  at-stored j h = sets-in work (n * 8) (row-bytes offset depth width) j 0 h (omega arith)
+  at-stored j h = sets-in work (n * term-bytes) (row-bytes offset depth width) j 0 h (omega arith)
 
   -- the bytes after it stay
-  pub after-stored : (j : ℕ) → n * 8 + 6 ≤ j → getD (stored-row work n offset depth width) j 0 ≡ getD work j 0
+  pub after-stored : (j : ℕ) → n * term-bytes + 6 ≤ j → getD (stored-row work n offset depth width) j 0 ≡ getD work j 0
   unfolding stored-row row-bytes
-  after-stored j h = sets-after work (n * 8) (row-bytes offset depth width) j 0 h
+  after-stored j h = sets-after work (n * term-bytes) (row-bytes offset depth width) j 0 h
 
-  at-stored0 : getD (stored-row work n offset depth width) (n * 8) 0 ≡ getD (row-bytes offset depth width) 0 0
-  at-stored0 = ap (λ (k : ℕ). getD (stored-row work n offset depth width) k 0) (sym (add-zero (n * 8))) ∙ at-stored 0 (omega arith)
+  at-stored0 : getD (stored-row work n offset depth width) (n * term-bytes) 0 ≡ getD (row-bytes offset depth width) 0 0
+  at-stored0 = ap (λ (k : ℕ). getD (stored-row work n offset depth width) k 0) (sym (add-zero (n * term-bytes))) ∙ at-stored 0 (omega arith)
 
   pub offset-before : (k : ℕ) → k < n → offset-at (stored-row work n offset depth width) k ≡ offset-at work k
   unfolding offset-at
   offset-before k h =
-      rw (offset-is, offset-is work, before-stored (k * 8) (omega arith), before-stored (k * 8 + 1) (omega arith), before-stored (k * 8 + 2) (omega arith))
+      rw (offset-is, offset-is work, before-stored (k * term-bytes) (omega arith), before-stored (k * term-bytes + 1) (omega arith), before-stored (k * term-bytes + 2) (omega arith))
 
   pub depth-before : (k : ℕ) → k < n → depth-at (stored-row work n offset depth width) k ≡ depth-at work k
   unfolding depth-at
-  depth-before k h = rw (number-is, number-is work, before-stored (k * 8 + 3) (omega arith), before-stored (k * 8 + 3 + 1) (omega arith))
+  depth-before k h = rw (number-is, number-is work, before-stored (k * term-bytes + 3) (omega arith), before-stored (k * term-bytes + 3 + 1) (omega arith))
 
   pub width-before : (k : ℕ) → k < n → width-at (stored-row work n offset depth width) k ≡ width-at work k
   unfolding width-at
-  width-before k h = before-stored (k * 8 + 5) (omega arith)
+  width-before k h = before-stored (k * term-bytes + 5) (omega arith)
 
   pub offset-stored : offset < 16777216 → offset-at (stored-row work n offset depth width) n ≡ offset
   unfolding offset-at row-bytes
@@ -316,14 +316,14 @@ module _ (work : Bytes) (n offset depth width : ℕ) (room : n * 8 + 8 ≤ lengt
   pub depth-stored : depth < 65536 → depth-at (stored-row work n offset depth width) n ≡ depth
   unfolding depth-at row-bytes
   depth-stored h =
-      let e : n * 8 + 3 + 1 ≡ n * 8 + 4 = omega arith in
+      let e : n * term-bytes + 3 + 1 ≡ n * term-bytes + 4 = omega arith in
       rw (number-is, e, at-stored 3 (omega arith), at-stored 4 (omega arith)) (omega arith)
 
   pub width-stored : width < 256 → width-at (stored-row work n offset depth width) n ≡ width
   unfolding width-at row-bytes
   width-stored h = rw (at-stored 5 (omega arith)) (omega arith)
 
-  pub rows-stored : (job : Bytes) → Rows job work n → n < 65533 → offset < 16777216 → offset + extent (drop offset job) ≤ length job
+  pub rows-stored : (job : Bytes) → Rows job work n → n < max-rows → offset < 16777216 → offset + extent (drop offset job) ≤ length job
       → Rows job (stored-row work n offset depth width) (n + 1)
   rows-stored job rows few small inside = record {
     short = rows .short;

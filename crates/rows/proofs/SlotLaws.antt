@@ -12,7 +12,8 @@ use lib.Seq.{drop-cons}
 use borrow.Author.Tests.{eq-eqb, le-ltb, lt-ltb, ne-eqb}
 use borrow.Author.Count.{below-more}
 use Rattle.theory.specs.Record.{Bytes, extent}
-use Rattle.rows.specs.Layout.{missing, offset-at, record-at}
+use Rattle.terms.specs.Framing.{record-at}
+use Rattle.rows.specs.Layout.{missing, offset-at}
 use Rattle.rows.specs.Rows.{kept, place-from, place-of, row-record}
 use Rattle.rows.specs.Slots.{Reach, Slots, TableOf, hash-from, seek-from, seek-of, slot-at, start-of, turn}
 use Rattle.rows.proofs.RowLaws.{place-end, place-found, place-next, same-differ, same-refl, same-sound}

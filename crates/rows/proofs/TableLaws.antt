@@ -6,18 +6,20 @@ use native.Mathlib.Omega.{arith}
 use lib.ListN.{length}
 use borrow.Author.Count.{below-more}
 use Rattle.theory.specs.Record.{Bytes}
-use Rattle.rows.specs.Layout.{offset-at, record-at}
+use Rattle.terms.specs.Framing.{record-at}
+use Rattle.rows.specs.Layout.{offset-at}
 use Rattle.rows.specs.Rows.{Rows}
 use Rattle.rows.specs.Slots.{Reach, TableOf, seek-of, slot-at, start-of, turn}
 use Rattle.rows.proofs.RowLaws.{filled}
 use Rattle.rows.proofs.SlotLaws.{FreeAt, PassedBy, absent, seek-is-full, start-below, turn-apart, turn-below}
 use Rattle.rows.proofs.Pigeon.{pigeon}
 use Rattle.rows.specs.declared.slots.Seek.{Seek}
+use Rattle.theory.specs.Limit.{term-bytes}
 
 -- a row less: slot t held the last row, n, and now holds 0
 module _ (job work after : Bytes) (n c t : ℕ) (table : TableOf job work (n + 1) c) (below : t < c) (held : slot-at work t ≡ n + 1)
     (emptied : slot-at after t ≡ 0) (others : (j : ℕ) → (j ≡ t → ⊥) → slot-at after j ≡ slot-at work j)
-    (offsets : (k : ℕ) → offset-at after k ≡ offset-at work k) (rows : Rows job after n) (cells : c * 8 ≤ length after) where
+    (offsets : (k : ℕ) → offset-at after k ≡ offset-at work k) (rows : Rows job after n) (cells : c * term-bytes ≤ length after) where
   less-low : (j : ℕ) → j < c → Dec (j ≡ t) → slot-at after j ≤ n
   less-low j h (yes e) = omega (arith, ap (λ (i : ℕ). slot-at after i) e)
   less-low j h (no e) =
@@ -54,7 +56,7 @@ module _ (job work after : Bytes) (n c t : ℕ) (table : TableOf job work (n + 1
 module _ (job work after : Bytes) (n c t : ℕ) (x : Bytes) (table : TableOf job work n c) (free : FreeAt job work c x t)
     (filled : slot-at after t ≡ n + 1) (others : (j : ℕ) → (j ≡ t → ⊥) → slot-at after j ≡ slot-at work j)
     (offsets : (k : ℕ) → k < n → offset-at after k ≡ offset-at work k) (new : record-at job (offset-at after n) ≡ x)
-    (rows : Rows job after (n + 1)) (cells : c * 8 ≤ length after) where
+    (rows : Rows job after (n + 1)) (cells : c * term-bytes ≤ length after) where
   more-low : (j : ℕ) → j < c → Dec (j ≡ t) → slot-at after j ≤ n + 1
   more-low j h (yes e) = omega (arith, ap (λ (i : ℕ). slot-at after i) e)
   more-low j h (no e) = omega (arith, others j e, table .slots .low j h)

@@ -3,7 +3,7 @@ use mathlib.Core.Path.{_≡_}
 use Prim.Native.Nat.{ℕ, _+_, _*_, _-_, _^_, _<_}
 use lib.ListN.{getD, take, drop}
 use Rattle.theory.specs.Limit.{number-bytes, term-bytes, max-terms, first-terms, max-arguments}
-use Rattle.theory.specs.Record.{Bytes, little-endian, word, extent}
+use Rattle.theory.specs.Record.{Bytes, little-endian, word}
 
 -- ---- sizes
 -- the first number that a number's bytes can't hold
@@ -54,10 +54,6 @@ number-at s at = word (drop at s)
 -- the number of an offset's bytes at a place
 abbrev pub offset-number : Bytes → ℕ → ℕ
 offset-number s at = little-endian (take offset-bytes (drop at s))
-
--- the record that stands at a place of the job, length and all
-unfoldable pub record-at : Bytes → ℕ → Bytes
-record-at job at = take (extent (drop at job)) (drop at job)
 
 -- where row k's record stands in the job
 unfoldable pub offset-at : Bytes → ℕ → ℕ

@@ -7,7 +7,8 @@ use lib.ListN.{length, take, replicate}
 use lib.Dec.{eqb, ltb, leb}
 use Rattle.theory.specs.Limit.{term-bytes, first-terms, max-terms, max-job}
 use Rattle.theory.specs.Record.{Bytes}
-use Rattle.rows.specs.Layout.{missing, record-at}
+use Rattle.terms.specs.Framing.{record-at}
+use Rattle.rows.specs.Layout.{missing}
 use Rattle.rows.specs.Rows.{kept, depths, widths, place-of}
 use Rattle.rows.specs.Slots.{Table}
 use Rattle.rows.specs.declared.kept.Added.{Added}

@@ -7,7 +7,8 @@ use lib.Seq.{sets}
 use Rattle.theory.specs.Limit.{number-bytes, term-bytes, first-terms, max-job}
 use Rattle.theory.specs.Term.{same-numbers}
 use Rattle.theory.specs.Record.{Bytes, extent, bytes-of}
-use Rattle.rows.specs.Layout.{missing, max-rows, offset-bytes, width-bytes, record-at, offset-at, depth-at, width-at}
+use Rattle.terms.specs.Framing.{record-at}
+use Rattle.rows.specs.Layout.{missing, max-rows, offset-bytes, width-bytes, offset-at, depth-at, width-at}
 
 -- f 0, f 1 and so on, n of them
 unfoldable pub column : {A : Type 0} → (ℕ → A) → ℕ → List A

@@ -4,7 +4,8 @@ ghost use Prim.Native.Nat.{_+_, _*_, _≤_, _<_};
 ghost use lib.ListN.{length, drop};
 ghost use Rattle.theory.specs.Limit.{term-bytes};
 ghost use Rattle.theory.specs.Record.{extent};
-ghost use Rattle.rows.specs.Layout.{number-end, record-at};
+ghost use Rattle.terms.specs.Framing.{record-at};
+ghost use Rattle.rows.specs.Layout.{number-end};
 ghost use Rattle.rows.specs.Rows.{kept, place-of};
 ghost use Rattle.rows.specs.Slots.{Table, TableOf, added-row, dropped-row};
 ghost use Rattle.rows.specs.Promise.{Grown, Cut};
@@ -12,7 +13,6 @@ use super::bytes::number;
 use super::layout::FIRST_PLACE;
 use super::layout::MAX_ROWS;
 use super::layout::MISSING;
-use super::layout::NUMBER_BYTES;
 use super::layout::ROW_BYTES;
 use super::rows::find;
 use super::rows::offset_at;
@@ -23,6 +23,7 @@ use super::slots::holder;
 use super::slots::probe;
 use super::slots::put_slot;
 use super::slots::slot_count;
+use terms::Term;
 
 // The place of the record `wanted` among n kept ones, or MISSING.
 pub fn find_record(job: &[u8], work: &[u8], n: usize, wanted: &[u8]) -> u32
@@ -47,7 +48,7 @@ pub fn find_at(job: &[u8], work: &[u8], n: usize, at: usize) -> u32
     requires { ⌜ Table (now job) (now work) n × (at + extent (drop at (now job)) ≤ length (now job)) ⌝ }
     ensures { λ r. ⌜ r ≡ place-of (record-at (now (job .entry)) at) (kept (now (job .entry)) (now (work .entry)) n) ⌝ }
 {
-    let end = at + number(job, at) + NUMBER_BYTES;
+    let end = at + number(job, at) + Term::NUMBER_BYTES;
     find_record(job, work, n, &job[at..end])
 }
 
@@ -63,7 +64,7 @@ pub fn add(job: &[u8], work: &mut [u8], n: usize, at: usize, depth: usize, width
     requires { ⌜ Table (now job) (now work) n × (at + extent (drop at (now job)) ≤ length (now job)) × (depth < number-end) × (width < 256) ⌝ }
     ensures { λ r. ⌜ Grown (now (job .entry)) (now (work .entry)) (now (work .exit)) n at depth width r ⌝ }
 {
-    let end = at + number(job, at) + NUMBER_BYTES;
+    let end = at + number(job, at) + Term::NUMBER_BYTES;
     let c = slot_count(work.len());
     let sought = probe(job, work, n, c, &job[at..end]);
     match sought {
@@ -110,7 +111,7 @@ fn drop_row(job: &[u8], work: &mut [u8], k: usize, c: usize)
     ensures { λ _. ⌜ now (work .exit) ≡ dropped-row (now (job .entry)) (now (work .entry)) k c ⌝ }
 {
     let at = offset_at(work, k);
-    let end = at + number(job, at) + NUMBER_BYTES;
+    let end = at + number(job, at) + Term::NUMBER_BYTES;
     let start = first_slot(c, &job[at..end]);
     let t = holder(work, c, start, k + 1);
     put_slot(work, t, 0);

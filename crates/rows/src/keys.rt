@@ -13,10 +13,8 @@ use super::kept::find_record;
 use super::layout::BODY_AT;
 use super::layout::KEY_BYTES;
 use super::layout::KIND_AT;
-use super::layout::MAX_PLACES;
 use super::layout::MISSING;
-use super::layout::NUMBER_BYTES;
-use super::layout::VALUE_BYTES;
+use terms::Term;
 
 // The place of the record that is the first `len` bytes of the array, among n kept ones, or MISSING.
 fn find_key(job: &[u8], work: &[u8], n: usize, key: [u8; KEY_BYTES], len: usize) -> u32
@@ -32,18 +30,18 @@ pub fn find_list(job: &[u8], work: &[u8], n: usize, kind: u32, args: &[u32]) -> 
     ensures { λ r. ⌜ r ≡ place-list kind (now (args .entry)) (kept (now (job .entry)) (now (work .entry)) n) ⌝ }
 {
     let mut key = [0u8; KEY_BYTES];
-    let len = NUMBER_BYTES + args.len() * NUMBER_BYTES;
-    put_number(&mut key, 0, NUMBER_BYTES, len);
-    put_number(&mut key, KIND_AT, NUMBER_BYTES, kind as usize);
+    let len = Term::NUMBER_BYTES + args.len() * Term::NUMBER_BYTES;
+    put_number(&mut key, 0, Term::NUMBER_BYTES, len);
+    put_number(&mut key, KIND_AT, Term::NUMBER_BYTES, kind as usize);
     let mut at = BODY_AT;
     let mut i: usize = 0;
     while i < args.len() {
         let x = args[i] as usize;
-        if MAX_PLACES <= x {
+        if Term::MAX_TERMS <= x {
             return MISSING;
         }
-        put_number(&mut key, at, NUMBER_BYTES, x);
-        at += NUMBER_BYTES;
+        put_number(&mut key, at, Term::NUMBER_BYTES, x);
+        at += Term::NUMBER_BYTES;
         i += 1;
     }
     find_key(job, work, n, key, at)
@@ -82,11 +80,11 @@ pub fn find_constant(job: &[u8], work: &[u8], n: usize, kind: u32, width: u32, v
     ensures { λ r. ⌜ r ≡ place-constant kind width value (kept (now (job .entry)) (now (work .entry)) n) ⌝ }
 {
     let mut key = [0u8; KEY_BYTES];
-    let at = BODY_AT + NUMBER_BYTES;
-    let end = at + VALUE_BYTES;
-    put_number(&mut key, 0, NUMBER_BYTES, end - NUMBER_BYTES);
-    put_number(&mut key, KIND_AT, NUMBER_BYTES, kind as usize);
-    put_number(&mut key, BODY_AT, NUMBER_BYTES, width as usize);
-    put_number(&mut key, at, VALUE_BYTES, value as usize);
+    let at = BODY_AT + Term::NUMBER_BYTES;
+    let end = at + Term::VALUE_BYTES;
+    put_number(&mut key, 0, Term::NUMBER_BYTES, end - Term::NUMBER_BYTES);
+    put_number(&mut key, KIND_AT, Term::NUMBER_BYTES, kind as usize);
+    put_number(&mut key, BODY_AT, Term::NUMBER_BYTES, width as usize);
+    put_number(&mut key, at, Term::VALUE_BYTES, value as usize);
     find_key(job, work, n, key, end)
 }

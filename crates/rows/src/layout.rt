@@ -1,4 +1,5 @@
-// Sizes and limits, each named once; theory's Limit and specs/Layout.antt have the same.
+// Where things stand in a row; theory's Limit and specs/Layout.antt have the same. Sizes of numbers and limits of terms are Term's.
+use terms::Term;
 
 // What stands for no place.
 pub const MISSING: u32 = 4294967295;
@@ -6,23 +7,14 @@ pub const MISSING: u32 = 4294967295;
 // The place of row 0: `true` and `false` come before it.
 pub const FIRST_PLACE: usize = 2;
 
-// The greatest number of places, those two counted.
-pub const MAX_PLACES: usize = 65535;
-
 // The greatest number of rows.
-pub const MAX_ROWS: usize = MAX_PLACES - FIRST_PLACE;
-
-// The bytes of a number in a record.
-pub const NUMBER_BYTES: usize = 2;
-
-// The bytes of a constant's value.
-pub const VALUE_BYTES: usize = 8;
+pub const MAX_ROWS: usize = Term::MAX_TERMS - FIRST_PLACE;
 
 // A record is its length, then its kind ..
-pub const KIND_AT: usize = NUMBER_BYTES;
+pub const KIND_AT: usize = Term::NUMBER_BYTES;
 
 // .. then its body.
-pub const BODY_AT: usize = KIND_AT + NUMBER_BYTES;
+pub const BODY_AT: usize = KIND_AT + Term::NUMBER_BYTES;
 
 // The bytes of a row.
 pub const ROW_BYTES: usize = 8;
@@ -45,8 +37,5 @@ pub const SLOT_BYTE: usize = 6;
 // The most slots that a table has: twice the places that there are.
 pub const MAX_SLOTS: usize = 131072;
 
-// The most arguments of a record.
-pub const MAX_ARGUMENTS: usize = 64;
-
 // An array that is long enough for a record's length, its kind, an index and the most arguments.
-pub const KEY_BYTES: usize = NUMBER_BYTES * (3 + MAX_ARGUMENTS);
+pub const KEY_BYTES: usize = Term::NUMBER_BYTES * (3 + Term::MAX_ARGUMENTS);

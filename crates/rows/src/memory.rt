@@ -1,5 +1,4 @@
 // Wiping the work memory.
-ghost use lib.ListN.{length};
 ghost use Rattle.rows.specs.Promise.{Wiped};
 
 // Sets every byte to zero: no row, and no trace of a job.

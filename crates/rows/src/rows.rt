@@ -12,11 +12,11 @@ use super::bytes::wide;
 use super::layout::DEPTH_BYTE;
 use super::layout::FIRST_PLACE;
 use super::layout::MISSING;
-use super::layout::NUMBER_BYTES;
 use super::layout::OFFSET_BYTES;
 use super::layout::ROW_BYTES;
 use super::layout::WIDTH_BYTE;
 use super::layout::WIDTH_BYTES;
+use terms::Term;
 
 // Where row k's record stands in the job.
 pub fn offset_at(work: &[u8], k: usize) -> usize
@@ -49,7 +49,7 @@ pub fn put_row(work: &mut [u8], n: usize, offset: usize, depth: usize, width: us
 {
     let at = n * ROW_BYTES;
     put_number(work, at, OFFSET_BYTES, offset);
-    put_number(work, at + DEPTH_BYTE, NUMBER_BYTES, depth);
+    put_number(work, at + DEPTH_BYTE, Term::NUMBER_BYTES, depth);
     put_number(work, at + WIDTH_BYTE, WIDTH_BYTES, width);
 }
 
@@ -67,7 +67,7 @@ pub fn find(job: &[u8], work: &[u8], n: usize, wanted: &[u8]) -> u32
         let at = offset_at(work, row);
         let place = row + FIRST_PLACE;
         row += 1;
-        if number(job, at) + NUMBER_BYTES != wanted.len() {
+        if number(job, at) + Term::NUMBER_BYTES != wanted.len() {
             continue 'rows;
         }
         let mut left = wanted.len();

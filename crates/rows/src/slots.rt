@@ -11,10 +11,10 @@ use super::bytes::put_number;
 use super::bytes::wide;
 use super::layout::FIRST_PLACE;
 use super::layout::MAX_SLOTS;
-use super::layout::NUMBER_BYTES;
 use super::layout::ROW_BYTES;
 use super::layout::SLOT_BYTE;
 use super::rows::offset_at;
+use terms::Term;
 
 // What the table has for a record: its place, or the slot that its row is to take, or no slot.
 pub enum Seek {
@@ -44,7 +44,7 @@ pub fn put_slot(work: &mut [u8], j: usize, v: usize)
     requires { ⌜ j * term-bytes + term-bytes ≤ length (now work) ⌝ }
     ensures { λ _. ⌜ now (work .exit) ≡ stored-slot (now (work .entry)) j v ⌝ }
 {
-    put_number(work, j * ROW_BYTES + SLOT_BYTE, NUMBER_BYTES, v);
+    put_number(work, j * ROW_BYTES + SLOT_BYTE, Term::NUMBER_BYTES, v);
 }
 
 // A number made of all bytes of a record.
@@ -98,7 +98,7 @@ pub fn probe(job: &[u8], work: &[u8], n: usize, c: usize, wanted: &[u8]) -> Seek
         d += 1;
         let row = held - 1;
         let at = offset_at(work, row);
-        if number(job, at) + NUMBER_BYTES != wanted.len() {
+        if number(job, at) + Term::NUMBER_BYTES != wanted.len() {
             continue 'rows;
         }
         let mut left = wanted.len();

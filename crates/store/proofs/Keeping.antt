@@ -19,9 +19,9 @@ use Rattle.theory.proofs.Bytes.{Sound, says-term}
 use Rattle.theory.proofs.Places.{entry-at, tree-at, tree-of}
 use Rattle.theory.proofs.Distinct.{Kept, tree-0, tree-1}
 use Rattle.theory.proofs.Distinct as T
-use Rattle.rows.specs.Layout.{record-at, offset-at}
+use Rattle.terms.specs.Framing.{record-at}
+use Rattle.rows.specs.Layout.{offset-at}
 use Rattle.rows.proofs.Face.{kept-at}
-use Rattle.terms.specs.Framing as F
 use Rattle.terms.specs.declared.Term.{Term as Decoded}
 use Rattle.terms.specs.declared.Term.the-variants as D
 use Rattle.terms.specs.declared.Item.{Item}
@@ -45,7 +45,6 @@ records-at list k =
 
 -- a record that lies in the job and is whole
 pub stands-whole : (job : Bytes) (at : ℕ) → at + extent (drop at job) ≤ length job → Sound (record-at job at) → whole (drop at job) ≡ true
-unfolding record-at
 stands-whole job at h s =
     let bs = drop at job in
     let d : length bs ≡ length job - at = length-drop at job in
@@ -76,11 +75,10 @@ module _ {job work : Bytes} {n : ℕ} (s : Store job work n) where
     row-place : first-terms + (p - first-terms) ≡ p
     row-place = omega arith
 
-    row-item : (i : Item) → item-of job i ≡ read (F.record-at job at) → let q = row-kept (p - first-terms) (omega arith) in item-of job i ≡ term (q .op) (q .args)
-    unfolding record-at
+    row-item : (i : Item) → item-of job i ≡ read (record-at job at) → let q = row-kept (p - first-terms) (omega arith) in item-of job i ≡ term (q .op) (q .args)
     row-item i f = f ∙ ap (λ (k : ℕ). read (record-at job k)) e ∙ row-says (p - first-terms) (omega arith)
 
-    pub row-term : {t : Decoded} → item-of job (I.Term t) ≡ read (F.record-at job at) → OperandsPlaced job (operands-of t) → TermAt job work n p t
+    pub row-term : {t : Decoded} → item-of job (I.Term t) ≡ read (record-at job at) → OperandsPlaced job (operands-of t) → TermAt job work n p t
     row-term {t} f o =
         let q = row-kept (p - first-terms) (omega arith) in
         let g = row-item (I.Term t) f in
@@ -94,11 +92,11 @@ module _ {job work : Bytes} {n : ℕ} (s : Store job work n) where
         }
 
     -- once it is known which item it is
-    pub read-term-at : (i : Item) {t : Decoded} → i ≡ I.Term t → item-of job i ≡ read (F.record-at job at) → Placed job i → TermAt job work n p t
+    pub read-term-at : (i : Item) {t : Decoded} → i ≡ I.Term t → item-of job i ≡ read (record-at job at) → Placed job i → TermAt job work n p t
     read-term-at i {t} d f o = row-term {t = t} (ap (item-of job) (sym d) ∙ f) (subst (Placed job) d o)
 
     -- a row's record says nothing else
-    pub read-no-term : (i j : Item) → i ≡ j → item-of job i ≡ read (F.record-at job at) → ((o : Op) (ks : List ℕ) → item-of job j ≡ term o ks → ⊥) → {t : Decoded} → TermAt job work n p t
+    pub read-no-term : (i j : Item) → i ≡ j → item-of job i ≡ read (record-at job at) → ((o : Op) (ks : List ℕ) → item-of job j ≡ term o ks → ⊥) → {t : Decoded} → TermAt job work n p t
     read-no-term i j d f g =
         let q = row-kept (p - first-terms) (omega arith) in
         absurd (g (q .op) (q .args) (ap (item-of job) (sym d) ∙ row-item i f))

@@ -35,7 +35,8 @@ use Rattle.theory.proofs.Places.{entry-at, tree-at, tree-of, tree-at-old, term-
 use Rattle.theory.proofs.Run.{AllGood}
 use Rattle.theory.proofs.Distinct.{WellKept}
 use Rattle.theory.proofs.Bounds.{place-depth}
-use Rattle.rows.specs.Layout.{missing, number-end, record-at, depth-at, width-at}
+use Rattle.terms.specs.Framing.{record-at}
+use Rattle.rows.specs.Layout.{missing, number-end, depth-at, width-at}
 use Rattle.rows.specs.Rows.{kept, depths, widths, place-of}
 use Rattle.rows.specs.Slots.{Table}
 use Rattle.rows.specs.Promise.{Grown, room-for, answer-to, count-after, list-after}
@@ -43,7 +44,6 @@ use Rattle.rows.specs.declared.kept.Added.{Added}
 use Rattle.rows.specs.declared.kept.Added.the-variants as A
 use Rattle.rows.proofs.Face.{kept-length, depths-at, widths-at, place-stands, place-absent}
 use Rattle.rows.proofs.RowLaws.{length-column}
-use Rattle.terms.specs.Framing as F
 use Rattle.terms.specs.declared.Term.{Term as Decoded}
 use Rattle.terms.specs.Decoded.{op-of, arguments-of}
 use Rattle.store.specs.Store.{Store, stored, listed, records}
@@ -55,6 +55,7 @@ use Rattle.store.proofs.Asking.{tree-depth}
 use Rattle.store.proofs.Keeping.{records-at}
 use Rattle.store.specs.declared.intern.Interned.{Interned}
 use Rattle.store.specs.declared.intern.Interned.the-variants as I
+use Rattle.terms.proofs.Parts.{whole-parts}
 
 -- ---- bytes
 -- every element of a slice of bytes is one
@@ -62,20 +63,8 @@ pub all-bytes : (bs : Bytes) → ((i : ℕ) → Fits w8 (getD bs i 0)) → AllBy
 all-bytes [] f = tt
 all-bytes (b ∷ bs) f = (f 0 .fits, all-bytes bs (λ i. f (suc i)))
 
--- the parts of a whole record
-record Whole (bs : Bytes) : Type 0 where
-  low : 2 ≤ word bs
-  fit : extent bs ≤ length bs
-
-whole-parts : (bs : Bytes) → whole bs ≡ true → Whole bs
-whole-parts bs e =
-    let t : T (whole bs) = subst T (sym e) tt in
-    let u = and-r (leb 2 (length bs)) _ t in
-    record { low = leb→le 2 (word bs) (and-l (leb 2 (word bs)) _ u); fit = leb→le (extent bs) (length bs) (and-r (leb 2 (word bs)) _ u) }
-
 -- the record at `at` is whole
 pub whole-sound : (job : Bytes) (at : ℕ) → AllBytes job → whole (drop at job) ≡ true → Sound (record-at job at)
-unfolding record-at
 whole-sound job at b w =
     let bs = drop at job in
     let p = whole-parts bs w in
@@ -293,13 +282,13 @@ bad-test bool = (λ e. absurd (let z : _≡_ {A = ℕ} 0 1 = cc in omega arith),
 bad-test (bv n) = (λ e. absurd (let z : _≡_ {A = ℕ} 0 1 = cc in omega arith), λ e. tt)
 
 module _ {job work : Bytes} {n at : ℕ} {t : Decoded} (o : Offered job work n at t) where
-  says-it : read (F.record-at job at) ≡ term (op-of t) (arguments-of job t)
+  says-it : read (record-at job at) ≡ term (op-of t) (arguments-of job t)
   says-it = sym (o .says)
 
   pub fitting : Fitting job work n t
   fitting = record {
     arguments = o .arguments;
-    number = T-true _ (says-count (F.record-at job at) (op-of t) (arguments-of job t) (says-term (F.record-at job at) (op-of t) (arguments-of job t) says-it));
+    number = T-true _ (says-count (record-at job at) (op-of t) (arguments-of job t) (says-term (record-at job at) (op-of t) (arguments-of job t) says-it));
   }
 
   all-low : T (all-below (length (listed job work n)) (arguments-of job t))
@@ -334,13 +323,13 @@ module _ {job work : Bytes} {n at : ℕ} {t : Decoded} (o : Offered job work n a
 
   -- the answer and its code
   decided : {sorted there roomy : Bool} → well-sorted (term-of (listed job work n) (op-of t) (arguments-of job t)) ≡ sorted
-      → has (listed job work n) (F.record-at job at) ≡ there → room (length work) (listed job work n) ≡ roomy
-      → answer-for sorted there roomy n ≡ answer-for (well-sorted (term-of (listed job work n) (op-of t) (arguments-of job t))) (has (listed job work n) (F.record-at job at)) (room (length work) (listed job work n)) n
+      → has (listed job work n) (record-at job at) ≡ there → room (length work) (listed job work n) ≡ roomy
+      → answer-for sorted there roomy n ≡ answer-for (well-sorted (term-of (listed job work n) (op-of t) (arguments-of job t))) (has (listed job work n) (record-at job at)) (room (length work) (listed job work n)) n
   decided e f g = rw (e, f, g)
 
   taken : {answer : Interned} {after : Bytes}
-      → answer ≡ answer-for (well-sorted (term-of (listed job work n) (op-of t) (arguments-of job t))) (has (listed job work n) (F.record-at job at)) (room (length work) (listed job work n)) n
-      → Store job after (rows-after answer n) → listed job after (rows-after answer n) ≡ list-after-of answer (listed job work n) (F.record-at job at) → Taken job work after n at t answer
+      → answer ≡ answer-for (well-sorted (term-of (listed job work n) (op-of t) (arguments-of job t))) (has (listed job work n) (record-at job at)) (room (length work) (listed job work n)) n
+      → Store job after (rows-after answer n) → listed job after (rows-after answer n) ≡ list-after-of answer (listed job work n) (record-at job at) → Taken job work after n at t answer
   taken {answer} e s l = record { answer-is = e; code-is = ap code-of e ∙ code-law _ _ _ n; store = s; listed-is = l }
 
   -- it has no sort
@@ -353,42 +342,41 @@ module _ {job work : Bytes} {n at : ℕ} {t : Decoded} (o : Offered job work n a
     sorted-true : well-sorted (term-of (listed job work n) (op-of t) (arguments-of job t)) ≡ true
     sorted-true = sorted-is e ∙ T-true _ (bad-test s .1 f)
 
-    sound-it : Sound (F.record-at job at)
-    unfolding record-at
+    sound-it : Sound (record-at job at)
     sound-it = whole-sound job at bytes (o .stands)
 
     grown-as : (b : Added) → a ≡ b → Grown job work after n at d w b
     grown-as b q = subst (Grown job work after n at d w) q g
 
     pub taken-found : {p : ℕ} → a ≡ A.Found p → Taken job work after n at t (I.Found n)
-    unfolding record-at count-after list-after answer-for
+    unfolding count-after list-after answer-for
     taken-found {p} q =
         let h = grown-as (A.Found p) q in
         let s = o .arguments .store in
-        let there = found-there s (F.record-at job at) (found-means (F.record-at job at) (kept job work n) (length work) (h .answer-is)) in
+        let there = found-there s (record-at job at) (found-means (record-at job at) (kept job work n) (length work) (h .answer-is)) in
         taken (decided sorted-true there refl) (store-same s (h .table) (h .kept-is) (h .depths-are) (h .widths-are))
-        (ap stored (h .kept-is) ∙ fed-old s (F.record-at job at) (op-of t) (arguments-of job t) says-it all-low there)
+        (ap stored (h .kept-is) ∙ fed-old s (record-at job at) (op-of t) (arguments-of job t) says-it all-low there)
 
     pub taken-spent : a ≡ A.Spent → Taken job work after n at t I.Spent
-    unfolding record-at count-after list-after answer-for
+    unfolding count-after list-after answer-for
     taken-spent q =
         let h = grown-as A.Spent q in
         let s = o .arguments .store in
-        let m = spent-means (F.record-at job at) (kept job work n) (length work) (h .answer-is) in
-        let there = missing-there s (F.record-at job at) (sound-it .long) (m .0) in
+        let m = spent-means (record-at job at) (kept job work n) (length work) (h .answer-is) in
+        let there = missing-there s (record-at job at) (sound-it .long) (m .0) in
         let none-left : room (length work) (listed job work n) ≡ false = room-is ∙ ap (λ (k : ℕ). room-for k (length work)) (sym (kept-length job work n)) ∙ m .1 in
         taken (decided sorted-true there none-left) (store-same s (h .table) (h .kept-is) (h .depths-are) (h .widths-are)) (ap stored (h .kept-is))
 
     pub taken-new : {p : ℕ} → a ≡ A.New p → Taken job work after n at t (I.New (n + 1))
-    unfolding record-at count-after list-after answer-for
+    unfolding count-after list-after answer-for
     taken-new {p} q =
         let h = grown-as (A.New p) q in
         let st = o .arguments .store in
-        let m = new-means (F.record-at job at) (kept job work n) (length work) (h .answer-is) in
-        let there = missing-there st (F.record-at job at) (sound-it .long) (m .0) in
+        let m = new-means (record-at job at) (kept job work n) (length work) (h .answer-is) in
+        let there = missing-there st (record-at job at) (sound-it .long) (m .0) in
         let some-left : room (length work) (listed job work n) ≡ true = room-is ∙ ap (λ (k : ℕ). room-for k (length work)) (sym (kept-length job work n)) ∙ m .1 in
         let ds = h .depths-are ∙ ap (λ (x : ℕ). depths work n ++ (x ∷ [])) de in
         let ws = h .widths-are ∙ ap (λ (x : ℕ). widths work n ++ (x ∷ [])) (we ∙ ap sort-width e) in
         taken (decided sorted-true there some-left)
-        (store-snoc st (F.record-at job at) (op-of t) (arguments-of job t) says-it all-low after there (h .kept-is) sound-it (subst (λ (x : Sort). T (good x)) e (bad-test s .1 f)) (h .table) ds ws)
-        (snoc-fed st (F.record-at job at) (op-of t) (arguments-of job t) says-it all-low after there (h .kept-is))
+        (store-snoc st (record-at job at) (op-of t) (arguments-of job t) says-it all-low after there (h .kept-is) sound-it (subst (λ (x : Sort). T (good x)) e (bad-test s .1 f)) (h .table) ds ws)
+        (snoc-fed st (record-at job at) (op-of t) (arguments-of job t) says-it all-low after there (h .kept-is))

@@ -11,7 +11,7 @@ use Rattle.terms.specs.declared.Frame.the-variants.{End, Broken, Whole}
 abbrev pub part : Bytes → ℕ → ℕ → Bytes
 part job at n = take n (drop at job)
 
--- the record at `at`
+-- the record at `at`, length and all
 abbrev pub record-at : Bytes → ℕ → Bytes
 record-at job at = part job at (extent (drop at job))
 

@@ -104,7 +104,7 @@ impl Term {
     // the greatest number of arguments of a term, and of literals of a step
     pub const MAX_ARGUMENTS: usize = 64;
     // the greatest number of terms, `True` and `False` counted
-    pub const MAX_TERMS: u32 = 65535;
+    pub const MAX_TERMS: usize = 65535;
     // bytes of a number in a record
     pub const NUMBER_BYTES: usize = 2;
     // bytes of a constant's value

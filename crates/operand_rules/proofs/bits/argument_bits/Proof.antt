@@ -1,8 +1,6 @@
 use borrow.Author.Needs.{needs}
 use mathlib.Core.Path.{refl}
 use Prim.Native.Nat.{_-_}
-use lib.ListN.{drop}
-use denote.Ref.{now}
 use Rattle.theory.specs.Alethe.{bit-of}
 use Rattle.theory.proofs.Bytes.{words-length}
 use Rattle.terms.specs.Decoded.{listed}

@@ -1,6 +1,5 @@
 use borrow.Author.Needs.{needs}
 use mathlib.Core.Path.{ap, _∙_}
-use native.Mathlib.Omega.{arith}
 use Rattle.theory.specs.Sort.{sort-width}
 use Rattle.operand_rules.proofs.Numbers.{widths, operand-as}
 use Rattle.operand_rules.proofs.bits.width_at.Statement.{statement}

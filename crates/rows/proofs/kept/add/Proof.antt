@@ -3,7 +3,7 @@ use native.Mathlib.Omega.{arith}
 use lib.ListN.{length}
 use borrow.Author.Needs.{needs}
 use Rattle.theory.specs.Record.{Bytes}
-use Rattle.rows.specs.Layout.{record-at}
+use Rattle.terms.specs.Framing.{record-at}
 use Rattle.rows.specs.Slots.{TableOf, seek-of, slot-count}
 use Rattle.rows.specs.Promise.{Grown, room-for}
 use Rattle.rows.proofs.MemoryLaws.{at-count}
