@@ -9,8 +9,8 @@ use lib.ListN.{length, drop}
 use lib.Seq.{drop-drop}
 use Rattle.theory.specs.Record.{Bytes, word}
 use Rattle.theory.specs.Answer.{decode-answer, decode-answers}
-use Rattle.theory.specs.Program.{decimal, steps-text, terms-text, stop-text, blank, end-line, answer-lines}
-use Rattle.report.specs.Text.{Wrote, head, line, report-text, written}
+use Rattle.theory.specs.Program.{decimal, steps-text, terms-text, stop-text, blank, end-line, too-long-text, answer-lines}
+use Rattle.report.specs.Text.{Wrote, head-space, head, line, report-text, too-long, written}
 use Rattle.report.proofs.Writing.{wrote-more, wrote-same, wrote-none, at-start}
 
 -- the first line: three totals and the end of the line
@@ -106,3 +106,16 @@ module _ (stop terms count : ℕ) (bs old : Bytes) where
   report-whole g h w v =
       rw (le-leb _ _ g, le-leb _ _ h)
       (at-start (wrote-same (wrote-more w v) (ap (λ (n : ℕ). head n terms stop ++ answer-lines 1 (decode-answers count bs)) (sym (length-decode count bs)))))
+
+-- the cases of `too long`
+module _ (old : Bytes) where
+  abbrev pub Refused : Bytes → ℕ → Type 0
+  Refused new p = let text = too-long (length old) in (new ≡ written text old) × (p ≡ length text)
+
+  pub refused-none : length old < head-space → Refused old 0
+  unfolding too-long
+  refused-none h = rw (lt-leb _ _ h) (refl, refl)
+
+  pub refused-whole : {new : Bytes} {p : ℕ} → head-space ≤ length old → Wrote old 0 (too-long-text ++ end-line) new p → Refused new p
+  unfolding too-long
+  refused-whole h w = rw (le-leb _ _ h) (at-start w)

@@ -85,13 +85,6 @@ module _ {old text : Bytes} {at : ℕ} where
         end-is = refl;
       }
 
--- the two-byte number at i
-pub word-at : (bs : Bytes) (i : ℕ) → i + 1 < length bs → getD bs i 0 + 256 * getD bs (i + 1) 0 ≡ word (drop i bs)
-word-at bs i h =
-    sym (ap word (drop-cons bs i 0 (omega arith) ∙ ap (λ (l : Bytes). getD bs i 0 ∷ l) (drop-cons bs (suc i) 0 (omega arith)))
-    ∙ ap (λ (j : ℕ). getD bs i 0 + 256 * (getD bs j 0 + 256 * 0)) (sym (add-one i))
-    ∙ let x = getD bs i 0 in let y = getD bs (i + 1) 0 in omega arith)
-
 -- where a text of two parts ends
 pub end-two : (a b : Bytes) {old new : Bytes} {at p : ℕ} → Wrote old at (a ++ b) new p → p ≡ at + length a + length b
 end-two a b w = let e = w .end-is in omega (arith, length-append a b)

@@ -9,7 +9,7 @@ use Rattle.theory.specs.Limit.{answer-bytes}
 use Rattle.theory.specs.Record.{Bytes}
 use Rattle.theory.specs.Answer.{Answer, decode-answers}
 use Rattle.theory.specs.Job.{Outcome}
-use Rattle.theory.specs.Program.{decimal, steps-text, terms-text, stop-text, blank, end-line, outcome-text}
+use Rattle.theory.specs.Program.{decimal, steps-text, terms-text, stop-text, blank, end-line, too-long-text, outcome-text}
 
 -- a memory `old` is `new` after a text was written at `at`, with every other byte as it was; `end` is the place after the text
 pub record Wrote (old : Bytes) (at : ℕ) (text new : Bytes) (end : ℕ) : Type 0 where
@@ -42,6 +42,10 @@ report-text stop terms count answers space =
     cond (leb (count * answer-bytes) (length answers) && leb (head-space + count * line-space) space)
     (outcome-text (came-to stop terms count answers))
     []
+
+-- `too long`, where a memory of `space` bytes is long enough for any first line
+unfoldable pub too-long : ℕ → Bytes
+too-long space = cond (leb head-space space) (too-long-text ++ end-line) []
 
 -- a memory with a text at its start, and every byte after it as it was
 abbrev pub written : Bytes → Bytes → Bytes

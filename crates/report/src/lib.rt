@@ -7,16 +7,15 @@ ghost use Rattle.theory.specs.Limit.{answer-bytes};
 ghost use Rattle.theory.specs.Record.{word};
 ghost use Rattle.theory.specs.Answer.{decode-answer, decode-answers};
 ghost use Rattle.theory.specs.Program.{decimal, answer-lines};
-ghost use Rattle.report.specs.Text.{Wrote, line-space, head-space, line, head, report-text, written};
-
-// The bytes of an answer.
-const ANSWER_BYTES: usize = 10;
+ghost use Rattle.report.specs.Text.{Wrote, line-space, head-space, line, head, report-text, too-long, written};
+use terms::ANSWER_BYTES;
+use terms::Term;
 
 // No first line is longer than this.
-const HEAD_SPACE: usize = 64;
+pub const HEAD_SPACE: usize = 64;
 
 // No line of an answer is longer than this.
-const LINE_SPACE: usize = 32;
+pub const LINE_SPACE: usize = 32;
 
 // The digit 0.
 const ZERO: u32 = 48;
@@ -26,21 +25,6 @@ const SPACE: u32 = 32;
 
 // The end of a line.
 const NEWLINE: u32 = 10;
-
-// A byte as a number.
-fn wide(x: u8) -> u32
-    ensures { λ r. ⌜ (r ≡ x) × (r < 256) ⌝ }
-{
-    x as u32
-}
-
-// The two-byte number at i.
-fn word_at(s: &[u8], i: usize) -> u32
-    requires { ⌜ i + 1 < length (now s) ⌝ }
-    ensures { λ r. ⌜ (r ≡ word (drop i (now (s .entry)))) × (r < 65536) ⌝ }
-{
-    wide(s[i]) + 256 * wide(s[i + 1])
-}
 
 // Writes one byte at `at`. This function and the next ones answer the place after what they wrote.
 fn put_byte(x: u32, out: &mut [u8], at: usize) -> usize
@@ -89,7 +73,7 @@ fn put_field(s: &[u8], i: usize, end: u32, out: &mut [u8], at: usize) -> usize
     requires { ⌜ (i + 1 < length (now s)) × (end < 256) × (at + 6 ≤ length (now out)) ⌝ }
     ensures { λ r. ⌜ Wrote (now (out .entry)) at (decimal (word (drop i (now (s .entry)))) ++ (end ∷ [])) (now (out .exit)) r × (r ≤ at + 6) ⌝ }
 {
-    put_ended(word_at(s, i), end, out, at)
+    put_ended(Term::number(s, i), end, out, at)
 }
 
 // Writes a text, and a number after it.
@@ -152,4 +136,15 @@ pub fn report(stop: u32, terms: u32, count: u32, answers: &[u8], out: &mut [u8])
     }
     let lines = put_head(count, terms, stop, out);
     put_lines(answers, count, out, lines)
+}
+
+// Writes `too long`, and answers how many bytes that is. Nothing is written where `out` has not the space for a first line.
+pub fn too_long(out: &mut [u8]) -> usize
+    ensures memory { λ _. ⌜ now (out .exit) ≡ written (too-long (length (now (out .entry)))) (now (out .entry)) ⌝ }
+    ensures size { λ r. ⌜ r ≡ length (too-long (length (now (out .entry)))) ⌝ }
+{
+    if out.len() < HEAD_SPACE {
+        return 0;
+    }
+    put_text(b"too long\n", out, 0)
 }

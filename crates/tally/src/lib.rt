@@ -1,4 +1,4 @@
-// The tally that a host lends: what the jobs of its service came to.
+// The tally that a host lends: what the jobs of its service came to, counted field by field.
 ghost use mathlib.Core.Path.{_≡_};
 ghost use mathlib.Core.Bool.{cond};
 ghost use Prim.Native.Nat.{_+_, _*_, _<_, _≤_};
@@ -7,6 +7,8 @@ ghost use Rattle.theory.specs.Answer.{decode-answer, decode-answers};
 ghost use Rattle.theory.specs.Limit.{answer-bytes};
 ghost use Rattle.theory.specs.Tally.{up as held-up, how-many, tally-after};
 ghost use Rattle.tally.specs.Counted.{as-tally, in-class, whole-answers, answers-in};
+use terms::ANSWER_BYTES;
+use terms::Term;
 
 // Jobs, and their answers by class of code. Each field holds at its largest number.
 #[repr(C)]
@@ -17,34 +19,27 @@ pub struct Tally {
     pub refused: u64,
 }
 
-// The bytes of an answer.
-const ANSWER_BYTES: usize = 10;
+// The place of the code in an answer: after its length, its kind and its rule.
+const CODE_AT: usize = 3 * Term::NUMBER_BYTES;
 
 // The largest number of a field.
 const LARGEST: u64 = 18446744073709551615;
 
 // The class of code 0.
-const HELD: u32 = 0;
+pub const HELD: u32 = 0;
 
 // The class of code 1.
-const FORM_ONLY: u32 = 1;
+pub const FORM_ONLY: u32 = 1;
 
 // The class of every code from 2 on.
-const REFUSED: u32 = 2;
+pub const REFUSED: u32 = 2;
 
-// A byte as a number.
-fn wide(x: u8) -> u32
-    ensures { λ r. ⌜ (r ≡ x) × (r < 256) ⌝ }
-{
-    x as u32
-}
-
-// The code of answer k, counted from 0: bytes 6 and 7 of its ten.
+// The code of answer k, counted from 0.
 fn answer_code(answers: &[u8], k: usize) -> u32
     requires { ⌜ k * answer-bytes + answer-bytes ≤ length (now answers) ⌝ }
     ensures { λ r. ⌜ r ≡ decode-answer (drop (k * answer-bytes) (now (answers .entry))) .code ⌝ }
 {
-    wide(answers[k * ANSWER_BYTES + 6]) + 256 * wide(answers[k * ANSWER_BYTES + 7])
+    Term::number(answers, k * ANSWER_BYTES + CODE_AT)
 }
 
 // 1 where the code is of the class, else 0.
@@ -76,7 +71,7 @@ fn count_class(answers: &[u8], count: usize, class: u32) -> u64
 }
 
 // c and n more, or the largest number where that is above it.
-fn up(c: u64, n: u64) -> u64
+pub fn up(c: u64, n: u64) -> u64
     ensures { λ r. ⌜ r ≡ held-up c n ⌝ }
 {
     if n <= LARGEST - c { c + n } else { LARGEST }
@@ -95,19 +90,9 @@ fn whole_count(size: usize, count: u32) -> usize
 }
 
 // A field counted up by the answers of one class.
-fn count_up(c: u64, answers: &[u8], count: u32, class: u32) -> u64
+pub fn count_up(c: u64, answers: &[u8], count: u32, class: u32) -> u64
     ensures { λ r. ⌜ r ≡ held-up c (how-many (in-class class) (answers-in count (now (answers .entry)))) ⌝ }
 {
     let whole = whole_count(answers.len(), count);
     up(c, count_class(answers, whole, class))
-}
-
-// One more job, with its first `count` answers by their codes; where the memory is shorter, the answers that it has whole.
-pub fn tally_answers(tally: &mut Tally, answers: &[u8], count: u32)
-    ensures { λ _. ⌜ as-tally (now (tally .exit)) ≡ tally-after (as-tally (now (tally .entry))) (answers-in count (now (answers .entry))) ⌝ }
-{
-    tally.jobs = up(tally.jobs, 1);
-    tally.held = count_up(tally.held, answers, count, HELD);
-    tally.form_only = count_up(tally.form_only, answers, count, FORM_ONLY);
-    tally.refused = count_up(tally.refused, answers, count, REFUSED);
 }

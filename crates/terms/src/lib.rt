@@ -10,6 +10,9 @@ ghost use Rattle.terms.specs.Framing.{part, record-at, frame-of};
 ghost use Rattle.terms.specs.Decoded.{Inside, OperandsPlaced, Placed, Says, listed, item-of, operands-of, arguments-of};
 ghost use Rattle.terms.specs.Bodies.{Body, form-of, sized, made};
 
+// The bytes of an answer: its length, its kind, a rule, a code and a depth.
+pub const ANSWER_BYTES: usize = 5 * Term::NUMBER_BYTES;
+
 // An argument list: its place in the job's bytes, and how many numbers stand there.
 pub struct Args {
     pub at: usize,

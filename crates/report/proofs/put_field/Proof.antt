@@ -12,14 +12,14 @@ use Rattle.report.proofs.put_field.Tie as tie
 
 put-ended-requires : tie.Need-put-ended-requires
 put-ended-requires c κs =
-    let n = c .before .word-at .result in
-    let f = c .before .word-at .ensures .1 in
+    let n = c .before .number .result in
+    let f = c .before .number .ensures .1 in
     (omega arith, omega (arith, decimal-word n f))
 
 returns : tie.Need-returns
 returns c =
-    let n = c .before .before .before .before .word-at .result in
-    let g = c .before .before .before .before .word-at .ensures in
+    let n = c .before .before .before .before .number .result in
+    let g = c .before .before .before .before .number .ensures in
     let end = c .before .before .before .before .before .before .before .args .end in
     let w = c .before .before .put-ended .ensures .0 in
     (wrote-same w (ap (λ (m : ℕ). decimal m ++ (end ∷ [])) (g .0)), omega (arith, end-two (decimal n) (end ∷ []) w, decimal-word n (g .1)))

@@ -1,24 +1,13 @@
--- The two bytes read are those of the code.
+-- The number read is the code.
+use mathlib.Core.Path.{_∙_}
 use borrow.Author.Needs.{needs}
+use denote.Ref.{now}
 use Rattle.tally.proofs.Counting.{code-at}
 use Rattle.tally.proofs.answer_code.Statement.{statement}
 use Rattle.tally.proofs.answer_code.Tie as tie
 
 returns : tie.Need-returns
-returns c = cc (code-at _ _ (c .before .before .before .before .before .pre))
+returns c = let a = c .before .before .args in c .number .ensures .0 ∙ code-at (now (a .answers)) (a .k)
 
 pub answer-code-spec : {M : Type 1} → statement M
-answer-code-spec =
-    tie.close
-    (tie.spec
-    (λ c. search needs)
-    (λ c. search needs)
-    (λ c. search needs)
-    (λ c κs. search needs)
-    (λ c. search needs)
-    (λ c. search needs)
-    (λ c. search needs)
-    (λ c κs. search needs)
-    (λ c. search needs)
-    (λ c. search needs)
-    returns)
+answer-code-spec = tie.close (tie.spec (λ c. search needs) (λ c. search needs) (λ c κs. search needs) returns)

@@ -1,4 +1,4 @@
--- `tally::tally_answers` meets its contract: a walk of its MIR, by hand. The borrow is opened once; field by field, the number is
+-- `bb_tally` meets its contract: a walk of its MIR, by hand. The borrow is opened once; field by field, the number is
 -- loaded, `up` or `count_up` is called, and its result is stored; then the borrow is closed at the new record.
 -- All that the proof knows of the two functions is that they meet their contracts.
 use mathlib.Core.Path.{_≡_, refl, ap}
@@ -44,22 +44,22 @@ use denote.Triple.Table.{entered, cited}
 use denote.Triple.Walked.{says, Stays, stay-ref, stay-none, stay-none-slice, walkOf, AllGo, goes-none, goes-none-slice, goes-ref, Walks, ends-at, walked, walk-meets}
 use denote.Exit.{yes}
 use Rattle.theory.specs.Tally.{up, how-many, tally-after}
 use Rattle.tally.specs.Counted.{as-tally, in-class, answers-in}
 use Rattle.tally.specs.declared.Tally.{Tally}
 use Rattle.tally.proofs.Tally as T
 use Rattle.tally.proofs.Tally.Laws as T′
 use Rattle.tally.proofs.up as add
 use Rattle.tally.proofs.up.Symbol as add-def
 use Rattle.tally.proofs.up.Symbol.{name as #tally·up}
 use Rattle.tally.proofs.up.Met as add-thm
 use Rattle.tally.proofs.count_up as cnt
 use Rattle.tally.proofs.count_up.Symbol as cnt-def
 use Rattle.tally.proofs.count_up.Symbol.{name as #tally·count-up}
 use Rattle.tally.proofs.count_up.Met as cnt-thm
-use Rattle.tally.proofs.tally_answers.Key.{name as #tally·tally-answers}
-use Rattle.tally.proofs.tally_answers as f
-use Rattle.tally.proofs.tally_answers.Statement as stated
-use Rattle.tally.proofs.tally_answers.Code as code
+use Rattle.bitblast.proofs.totals.bb_tally.Key.{name as #bitblast·bb-tally}
+use Rattle.bitblast.proofs.totals.bb_tally as f
+use Rattle.bitblast.proofs.totals.bb_tally.Statement as stated
+use Rattle.bitblast.proofs.totals.bb_tally.Code as code
 
 -- how the three parameters stay
 abbrev stayed : Stays (f.ended .signature .params) (f.ended .kept)
@@ -227,11 +227,11 @@ meets 𝓤 H A W at-mem run 𝓣 known known-cnt =
     walk-meets 𝓤 H A f.ended stayed W (goes 𝓤 H A W at-mem run) (f.clauses 𝓤 H A at-mem run) (WpFn 𝓤 H (𝓣 .C) (𝓣 .Λ) code.function) (WpFn-mono 𝓤 H (W .laws) 𝓣 code.function)
     (walks 𝓤 H A W at-mem run (𝓣 .C) (𝓣 .Λ) (fmOf 𝓤 H (W .laws) 𝓣) known known-cnt)
 
-pub tally-answers-spec : {M : Type 1} → stated.statement M
+pub bb-tally-spec : {M : Type 1} → stated.statement M
 unfolding code.routine tablesOf
-tally-answers-spec 𝓤 H 𝓜 𝓖 𝓡 =
+bb-tally-spec 𝓤 H 𝓜 𝓖 𝓡 =
     entered 𝓤 H (tripleOf 𝓤 H (𝓖 .A) f.signature (f.spec 𝓤 H (𝓖 .A) (𝓜 .mem) (𝓡 .run)))
-    (tables 𝓤 H 𝓜 𝓡 code.env .C) (tables 𝓤 H 𝓜 𝓡 code.env .Λ) #tally·tally-answers code.function (code.unfolded 𝓤 H 𝓜 𝓡)
+    (tables 𝓤 H 𝓜 𝓡 code.env .C) (tables 𝓤 H 𝓜 𝓡 code.env .Λ) #bitblast·bb-tally code.function (code.unfolded 𝓤 H 𝓜 𝓡)
     (meets 𝓤 H (𝓖 .A) (givenOf 𝓤 H 𝓜 𝓖) (𝓜 .mem) (𝓡 .run) (tablesOf 𝓤 H 𝓜 (tables 𝓤 H 𝓜 𝓡 code.env))
     (cited 𝓤 H (Add 𝓤 H (𝓖 .A) (𝓜 .mem) (𝓡 .run)) 𝓜 𝓡 code.env #tally·up add-def.routine code.calls-tally·up (add-thm.met 𝓤 H 𝓜 𝓖 𝓡))
     (cited 𝓤 H (Cnt 𝓤 H (𝓖 .A) (𝓜 .mem) (𝓡 .run)) 𝓜 𝓡 code.env #tally·count-up cnt-def.routine code.calls-tally·count-up (cnt-thm.met 𝓤 H 𝓜 𝓖 𝓡)))
