@@ -1,0 +1,4 @@
+pub mod Copying
+pub mod Fitting
+pub mod Literals
+pub mod SliceLaws

@@ -1,0 +1,41 @@
+-- What the check of a rule may take for granted: the sorts of terms that fit.
+use mathlib.Core.Bool.{Bool, true, false, cond}
+use mathlib.Core.List.{List, map}
+use mathlib.Core.Option.{Option, none, some}
+use Prim.Native.Nat.{ℕ, _+_, _<_, _≤_}
+use lib.Dec.{T, eqb}
+use Rattle.theory.specs.Limit.{first-terms, max-width}
+use Rattle.theory.specs.Sort.{Sort, all-bv, sum-widths, sort-of}
+use Rattle.theory.specs.Record.{Bytes}
+use Rattle.terms.specs.declared.Args.{Args}
+use Rattle.terms.specs.declared.Operands.the-variants.{List as Listed}
+use Rattle.terms.specs.Decoded.{listed}
+use Rattle.store.specs.Numbers.{true-number, false-number}
+use Rattle.store.specs.Sorts.{Arguments}
+use Rattle.operand_rules.specs.Rules.{One, tree, width-in}
+
+-- bits j to i of x, and the claim
+pub record Extract (job work : Bytes) (n i j x claim : ℕ) : Type 0 where
+  pub one : One job work n x claim
+  pub order : j ≤ i
+  pub inside : i < width-in job work n x
+
+-- x with k copies of its top bit, and the claim
+pub record Extend (job work : Bytes) (n k x claim : ℕ) : Type 0 where
+  pub one : One job work n x claim
+  pub fits : width-in job work n x + k ≤ max-width
+
+-- the sorts of the terms at these places
+abbrev pub sorts-in : Bytes → Bytes → ℕ → List ℕ → List Sort
+sorts-in job work n ks = map sort-of (map (tree job work n) ks)
+
+-- a list of bit-vectors, their widths at most 64 together, and the claim
+pub record Concat (job work : Bytes) (n : ℕ) (list : Args) (claim : ℕ) : Type 0 where
+  pub arguments : Arguments job work n (Listed list)
+  pub bit-vectors : T (all-bv (sorts-in job work n (listed job list)))
+  pub fits : sum-widths (sorts-in job work n (listed job list)) ≤ max-width
+  pub claimed : claim < first-terms + n
+
+-- the bit that a term's number says literally
+abbrev pub literal-number : ℕ → Option Bool
+literal-number k = cond (eqb k true-number) (some true) (cond (eqb k false-number) (some false) none)
