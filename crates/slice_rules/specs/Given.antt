@@ -1,4 +1,4 @@
--- What the check of a rule may take for granted: the sorts of terms that fit.
+-- What the check of a rule may take for granted, from the sorts of terms that fit; and the bit that a number says.
 use mathlib.Core.Bool.{Bool, true, false, cond}
 use mathlib.Core.List.{List, map}
 use mathlib.Core.Option.{Option, none, some}
