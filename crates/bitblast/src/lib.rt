@@ -1,1 +1,61 @@
+// The checker of a job: its records one after the other, the terms kept in work memory, and an answer for each step.
+pub mod answers;
+pub mod records;
+pub mod steps;
 pub mod totals;
+pub mod walk;
+
+ghost use mathlib.Core.Path.{_≡_};
+ghost use lib.ListN.{length};
+ghost use Rattle.theory.specs.Answer.{decode-answers};
+ghost use Rattle.theory.specs.Job.{call};
+ghost use Rattle.theory.specs.Demand.{Demand3};
+ghost use Rattle.bitblast.specs.Walking.{told};
+use crate::walk::walk;
+
+// The longest job, in bytes.
+pub const MAX_JOB: usize = 16777216;
+
+// What a job comes to: the code that stopped it or 0, the records done, the answers written, and the terms kept at the end.
+#[repr(C)]
+pub struct Outcome {
+    pub stop: u32,
+    pub records: u32,
+    pub answers: u32,
+    pub terms: u32,
+}
+
+// The outcome of a job, and its answers; 2 where the job is too long. The work memory is left as the job used it.
+fn check_job(job: &[u8], work: &mut [u8], answers: &mut [u8]) -> Outcome
+    ensures result { λ r. ⌜ told r ≡ call (now (job .entry)) (now (work .entry)) (now (answers .entry)) .result ⌝ }
+    ensures answers { λ _. ⌜ now (answers .exit) ≡ call (now (job .entry)) (now (work .entry)) (now (answers .entry)) .answer-memory ⌝ }
+{
+    if MAX_JOB < job.len() {
+        return Outcome {
+            stop: 2,
+            records: 0,
+            answers: 0,
+            terms: 2,
+        };
+    }
+    let s = walk(job, work, answers);
+    Outcome {
+        stop: s.stop,
+        records: s.records as u32,
+        answers: s.answers as u32,
+        terms: (s.rows + rows::FIRST_PLACE) as u32,
+    }
+}
+
+// Checks a job, for a host. The answers stand at the start of their memory, and the work memory is all zero: nothing of the job stays in it.
+#[no_mangle]
+pub extern "C" fn bb_job(job: &[u8], work: &mut [u8], answers: &mut [u8]) -> Outcome
+    ensures result { λ r. ⌜ told r ≡ call (now (job .entry)) (now (work .entry)) (now (answers .entry)) .result ⌝ }
+    ensures answers { λ _. ⌜ now (answers .exit) ≡ call (now (job .entry)) (now (work .entry)) (now (answers .entry)) .answer-memory ⌝ }
+    ensures work { λ _. ⌜ now (work .exit) ≡ call (now (job .entry)) (now (work .entry)) (now (answers .entry)) .work-memory ⌝ }
+    ensures demand3 { λ r. ⌜ Demand3 (now (job .entry)) (length (now (work .entry))) (length (now (answers .entry))) (r .records) (decode-answers (r .answers) (now (answers .exit))) ⌝ }
+{
+    let outcome = check_job(job, work, answers);
+    rows::wipe(work);
+    outcome
+}

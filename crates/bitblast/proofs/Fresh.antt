@@ -1,0 +1,30 @@
+-- Nothing of one job reaches the next: a call depends on the job's bytes, the lengths of the two memories, and the bytes past the last answer.
+use mathlib.Core.Path.{_≡_, sym, ap, ap₂, _∙_}
+use mathlib.Core.List.{List, _++_}
+use Prim.Native.Nat.{ℕ, _*_}
+use lib.ListN.{length, drop, replicate}
+use Rattle.theory.specs.Limit.{answer-bytes}
+use Rattle.theory.specs.Record.{Bytes}
+use Rattle.theory.specs.Answer.{Answer, encode-answers}
+use Rattle.theory.specs.Job.{Outcome, run, Call, returned, answers-after, call}
+use Rattle.theory.proofs.Written.{bytes-length}
+
+-- the memory of the answers, by its bytes past the last answer
+same-after : (answers : List Answer) (old new : Bytes) → drop (answer-bytes * length answers) old ≡ drop (answer-bytes * length answers) new
+    → answers-after answers old ≡ answers-after answers new
+same-after answers old new e =
+    let bs = encode-answers answers in
+    ap (λ (n : ℕ). bs ++ drop n old) (bytes-length answers) ∙ ap (λ (l : Bytes). bs ++ l) e ∙ ap (λ (n : ℕ). bs ++ drop n new) (sym (bytes-length answers))
+
+-- what a call does, by the outcome, the length of the work memory and the answers' memory
+abbrev by-outcome : Outcome → ℕ → Bytes → Call
+by-outcome o work answers = record { result = returned o; work-memory = replicate work 0; answer-memory = answers }
+
+-- equal job bytes, lengths, and bytes past the last answer: the result and both memories are equal
+pub nothing-kept : (job work work₂ old old₂ : Bytes) → length work ≡ length work₂ → length old ≡ length old₂
+    → (let n = answer-bytes * length (run job (length work) (length old) .answers) in drop n old ≡ drop n old₂)
+    → call job work old ≡ call job work₂ old₂
+nothing-kept job work work₂ old old₂ w o e =
+    let r = run job (length work) (length old) in
+    ap (by-outcome r (length work)) (same-after (r .answers) old old₂ e)
+    ∙ ap₂ (λ (m n : ℕ). let s = run job m n in by-outcome s m (answers-after (s .answers) old₂)) w o

@@ -1,0 +1,4 @@
+-- What the contracts of `bitblast` cite.
+pub mod Answering
+pub mod Turning
+pub mod Walking

@@ -1,0 +1,52 @@
+-- Where a job stands between two records, what the next record does to it, and what the job comes to.
+use mathlib.Core.Path.{_≡_}
+use mathlib.Core.Bool.{true, false}
+use Prim.Native.Nat.{ℕ, _+_, _*_, _≤_}
+use lib.ListN.{length, drop}
+use Rattle.theory.specs.Limit.{first-terms, max-terms, max-job, answer-bytes}
+use Rattle.theory.specs.Record.{Bytes, extent, whole}
+use Rattle.theory.specs.Job.{Returned, returned, run, answers-after}
+use Rattle.terms.specs.Framing.{record-at}
+use Rattle.store.specs.Store.{Store}
+use Rattle.bitblast.specs.declared.Outcome.{Outcome}
+use Rattle.bitblast.specs.declared.records.Turn.{Turn}
+use Rattle.bitblast.specs.declared.walk.State.{State}
+use Rattle.bitblast.specs.Turning.{passed, Turned}
+
+-- what the host is told
+abbrev pub told : Outcome → Returned
+told o = record { stop = o .stop; records = o .records; answers = o .answers; terms = o .terms }
+
+-- a state by its parts
+abbrev pub state : ℕ → ℕ → ℕ → ℕ → ℕ → State
+state at stop records answers rows = record { at = at; stop = stop; records = records; answers = answers; rows = rows }
+
+-- what the host would be told if the job ended here
+abbrev pub reached : State → Returned
+reached s = record { stop = s .stop; records = s .records; answers = s .answers; terms = s .rows + first-terms }
+
+-- the terms are kept, no more records are done than bytes passed, and the answers have room
+pub record Standing (job work answers : Bytes) (s : State) : Type 0 where
+  pub store : Store job work (s .rows)
+  pub counted : s .records ≤ s .at
+  pub roomy : answer-bytes * s .answers ≤ length answers
+
+-- past a record of that size, or stopped at it: the record that stops the job is not counted
+abbrev pub moved : ℕ → State → Turn → State
+moved size s t =
+    passed (t .code) (state (s .at + size) 0 (s .records + 1) (t .answers) (t .rows)) (state (s .at) (t .code) (s .records) (t .answers) (t .rows))
+
+-- no whole record was there, so code 3 stops the job; or one was there, and it was taken
+pub data Next (job work answers : Bytes) (s : State) (work′ answers′ : Bytes) (s′ : State) : Type 0 where
+  broken : whole (drop (s .at) job) ≡ false → work′ ≡ work → answers′ ≡ answers → s′ ≡ state (s .at) 3 (s .records) (s .answers) (s .rows)
+      → Next job work answers s work′ answers′ s′
+  taken : whole (drop (s .at) job) ≡ true → (t : Turn) → Turned job work answers (s .rows) (s .answers) (record-at job (s .at)) work′ answers′ t
+      → s′ ≡ moved (extent (drop (s .at) job)) s t → Next job work answers s work′ answers′ s′
+
+-- what the host is to be told of the whole job, and the answers' memory then; the numbers fit into 32 bits
+pub record Walked (job : Bytes) (work : ℕ) (old answers : Bytes) (s : State) : Type 0 where
+  pub result-is : reached s ≡ returned (run job work (length old))
+  pub answers-are : answers ≡ answers-after (run job work (length old) .answers) old
+  pub few-records : s .records ≤ max-job
+  pub few-answers : s .answers ≤ max-job
+  pub few-terms : s .rows + first-terms ≤ max-terms

@@ -1,0 +1,73 @@
+// The records of a job, one after the other, up to its end or to the record that stops it.
+ghost use Prim.Native.Nat.{_≤_};
+ghost use lib.ListN.{length};
+ghost use Rattle.theory.specs.Limit.{max-job};
+ghost use Rattle.bitblast.specs.Walking.{Standing, Next, Walked};
+use crate::records::take_record;
+use terms::Frame;
+use terms::Term;
+
+// Where a job stands: the place of the next record, the code that stopped the job or 0, the records done, the answers written, the rows kept.
+pub struct State {
+    pub at: usize,
+    pub stop: u32,
+    pub records: usize,
+    pub answers: usize,
+    pub rows: usize,
+}
+
+// Takes the record where the job stands: 3 where no whole record is there.
+fn next(job: &[u8], work: &mut [u8], answers: &mut [u8], s: State) -> State
+    requires { ⌜ Standing (now job) (now work) (now answers) s ⌝ }
+    ensures { λ r. ⌜ Next (now (job .entry)) (now (work .entry)) (now (answers .entry)) s (now (work .exit)) (now (answers .exit)) r ⌝ }
+{
+    let at = s.at;
+    let Frame::Whole(size) = Term::frame(job, at) else {
+        return State {
+            at: at,
+            stop: 3,
+            records: s.records,
+            answers: s.answers,
+            rows: s.rows,
+        };
+    };
+    let t = take_record(job, work, answers, s.rows, s.answers, at);
+    if t.code != 0 {
+        return State {
+            at: at,
+            stop: t.code,
+            records: s.records,
+            answers: t.answers,
+            rows: t.rows,
+        };
+    }
+    State {
+        at: at + size,
+        stop: 0,
+        records: s.records + 1,
+        answers: t.answers,
+        rows: t.rows,
+    }
+}
+
+// Takes all records of a job.
+pub fn walk(job: &[u8], work: &mut [u8], answers: &mut [u8]) -> State
+    requires { ⌜ length (now job) ≤ max-job ⌝ }
+    ensures { λ r. ⌜ Walked (now (job .entry)) (length (now (work .entry))) (now (answers .entry)) (now (answers .exit)) r ⌝ }
+{
+    store::intern::start(job, work);
+    let mut s = State {
+        at: 0,
+        stop: 0,
+        records: 0,
+        answers: 0,
+        rows: 0,
+    };
+    while s.at < job.len() {
+        s = next(job, work, answers, s);
+        if s.stop != 0 {
+            return s;
+        }
+    }
+    s
+}
