@@ -39,7 +39,7 @@ abbrev pub reply : ℕ → ℕ → Reply
 reply code depth = record { code = code; depth = depth }
 
 -- ---- a verdict's code
--- it says whether the verdict accepts
+-- below 10 the verdict accepts
 pub accepts : (v : Verdict) → code-of v < 10 → accepted v ≡ true
 accepts W.held h = refl
 accepts W.form-only h = refl
@@ -52,6 +52,7 @@ accepts W.other-value h = absurd (omega arith)
 accepts W.terms-differ h = absurd (omega arith)
 accepts W.index-not-next h = absurd (omega arith)
 
+-- from 10 on it refuses
 pub refuses : (v : Verdict) → 10 ≤ code-of v → accepted v ≡ false
 refuses W.held h = absurd (omega arith)
 refuses W.form-only h = absurd (omega arith)
@@ -70,12 +71,14 @@ wrong-refused e a = let f : false ≡ true = ap accepted e ∙ a in let z : _≡
 
 -- ---- the reply with a verdict
 module _ {v : Verdict} {literal : Term} {code : ℕ} (e : code ≡ code-of v) where
+  -- it refuses: depth 0
   pub judged-no : 10 ≤ code → Judged v literal (reply code 0)
   judged-no h = record {
     code-is = e;
     depth-is = λ rule f. sym (ap (λ (b : Bool). cond b (right-depth literal) 0) (refuses v (omega arith)));
   }
 
+  -- it accepts: the right side's depth
   pub judged-yes : {d : ℕ} → code < 10 → ((rule : Rule) → accepted (verdict rule literal) ≡ true → d ≡ right-depth literal) → Judged v literal (reply code d)
   judged-yes h g =
       let a = accepts v (omega arith) in
@@ -99,26 +102,29 @@ not-one n rule [] h = refl
 not-one n rule (t ∷ []) h = absurd (h refl)
 not-one n rule (t ∷ u ∷ us) h = refl
 
+-- by the count of its literals in the job
 pub others-unjudged : (n : ℕ) (rule : Rule) (list : Plain) (job : Bytes) (a : Args) → (a .count ≡ 1 → ⊥)
     → given n (reply 10 0) ≡ answer-to n rule (map (tree-at list) (numbers job a))
 others-unjudged n rule list job a h =
     not-one n rule (map (tree-at list) (numbers job a)) (λ e. h (sym (words-length (a .count) _) ∙ sym (length-map (numbers job a) (tree-at list)) ∙ e))
 
--- the literal of a clause of one
+-- the literal of a clause of one is kept
 pub one-below : (b : ℕ) (ks : List ℕ) → length ks ≡ 1 → all-below b ks ≡ true → {x : ℕ} → x ≡ getD ks 0 0 → x < b
 one-below b [] l h e = absurd (omega arith)
 one-below b (k ∷ ks) l h e = let g = ltb-true k b (both (ltb k b) (all-below b ks) h .0) in omega arith
 
-one-answer : (n : ℕ) {v : Verdict} (rule : Rule) (list : Plain) (ks : List ℕ) → length ks ≡ 1 → {x : ℕ} → x ≡ getD ks 0 0 → v ≡ verdict rule (tree-at list x)
+-- the answer to a clause of one
+one-literal : (n : ℕ) {v : Verdict} (rule : Rule) (list : Plain) (ks : List ℕ) → length ks ≡ 1 → {x : ℕ} → x ≡ getD ks 0 0 → v ≡ verdict rule (tree-at list x)
     → {r : Reply} → Judged v (tree-at list x) r → given n r ≡ answer-to n rule (map (tree-at list) ks)
-one-answer n rule list [] l e f j = absurd (omega arith)
-one-answer n rule list (k ∷ j ∷ js) l e f g = absurd (omega arith)
-one-answer n {v} rule list (k ∷ []) l {x} e f {r} g =
+one-literal n rule list [] l e f j = absurd (omega arith)
+one-literal n rule list (k ∷ j ∷ js) l e f g = absurd (omega arith)
+one-literal n {v} rule list (k ∷ []) l {x} e f {r} g =
     given-by (g .code-is) (g .depth-is rule f) ∙ ap (λ (w : Verdict). judged n w (tree-at list x)) f ∙ ap (λ (i : ℕ). judged n (verdict rule (tree-at list i)) (tree-at list i)) e
   where
     given-by : {c d : ℕ} → r .code ≡ c → r .depth ≡ d → given n r ≡ record { rule = n; code = c; depth = d }
     given-by p q = rw (p, q)
 
+-- by its literals in the job
 pub one-judged : (n : ℕ) {v : Verdict} (rule : Rule) (list : Plain) (job : Bytes) (a : Args) → a .count ≡ 1 → {x : ℕ} → x ≡ getD (numbers job a) 0 0 → v ≡ verdict rule (tree-at list x)
     → {r : Reply} → Judged v (tree-at list x) r → given n r ≡ answer-to n rule (map (tree-at list) (numbers job a))
-one-judged n rule list job a c e f j = one-answer n rule list (numbers job a) (words-length (a .count) _ ∙ c) e f j
+one-judged n rule list job a c e f j = one-literal n rule list (numbers job a) (words-length (a .count) _ ∙ c) e f j

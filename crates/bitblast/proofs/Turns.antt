@@ -30,13 +30,9 @@ use Rattle.store.specs.declared.intern.Interned.the-variants as N
 use Rattle.bitblast.specs.declared.answers.Reply.{Reply}
 use Rattle.bitblast.specs.declared.records.Turn.{Turn}
 use Rattle.bitblast.specs.Answering.{given, with-answers, Literals}
-use Rattle.bitblast.specs.Turning.{passed, Reading, Turned, step-tests}
+use Rattle.bitblast.specs.Turning.{passed, turn, Reading, Turned, step-tests}
 use Rattle.operand_rules.proofs.Tests.{is-true}
 use Rattle.bitblast.proofs.Writing.{none-written}
-
--- a turn by its parts
-abbrev pub turn : ℕ → ℕ → ℕ → Turn
-turn code answers rows = record { code = code; answers = answers; rows = rows }
 
 -- a record that was read as an item
 pub reading : {job work : Bytes} {rows at : ℕ} {item k : Item} → Store job work rows → whole (drop at job) ≡ true → item-of job item ≡ read (record-at job at)
@@ -55,15 +51,17 @@ module _ {job work : Bytes} {rows at : ℕ} {item : Item} (g : Reading job work 
   abbrev code : ℕ
   code = first-fault (tests (length work) (length answers) list answered r (item-of job item))
 
-  -- it is the record's; and so are what the item does to the list, and its answers
+  -- it is the record's
   fault-is : code ≡ fault (length work) (length answers) list answered r
   unfolding fault
   fault-is = ap (λ (i : R.Item). first-fault (tests (length work) (length answers) list answered r i)) (g .says)
 
+  -- what the item does to the list, the record does
   feed-is : feed-item list r (item-of job item) ≡ feed list r
   unfolding feed
   feed-is = ap (feed-item list r) (g .says)
 
+  -- the item's answers are the record's
   answers-are : item-answers list (item-of job item) ≡ answers-to list r
   unfolding answers-to
   answers-are = ap (item-answers list) (g .says)
@@ -108,10 +106,10 @@ module _ {job work : Bytes} {rows at : ℕ} {t : Term} (g : Reading job work row
   not-below e = stopped g answers answered 6 (λ z. omega arith) (rw (first-test e))
 
   -- the term is offered to the store, and the store's answer says the rest
-  pub term-turned : {after : Bytes} {a b : Interned} → all-below (rows + first-terms) (arguments-of job t) ≡ true → Taken job work after rows at t a → a ≡ b
-      → Turned job work answers rows answered (record-at job at) after answers (turn (code-of b) answered (rows-after b rows))
+  pub term-turned : {after : Bytes} {a : Interned} → all-below (rows + first-terms) (arguments-of job t) ≡ true → Taken job work after rows at t a
+      → {u : Turn} → u ≡ turn (code-of a) answered (rows-after a rows) → Turned job work answers rows answered (record-at job at) after answers u
   term-turned {after} {a} e k d =
-      subst (λ (x : Interned). Turned job work answers rows answered (record-at job at) after answers (turn (code-of x) answered (rows-after x rows))) d
+      subst (Turned job work answers rows answered (record-at job at) after answers) (sym d)
       (unanswered g answers answered (k .code-is ∙ rw (first-test e)) (k .store) (k .listed-is ∙ by-code a) (no-answers a))
     where
       by-code : (x : Interned) → list-after x (listed job work rows) (record-at job at) ≡ passed (code-of x) (feed (listed job work rows) (record-at job at)) (listed job work rows)

@@ -1,13 +1,15 @@
 -- The walk over the records: what holds between two of them, and where the job stops.
 use mathlib.Core.Path.{_≡_, refl, sym, ap, ap₂, subst, _∙_}
 use mathlib.Core.Bool.{Bool, true, false}
+use mathlib.Core.Logic.{_⊎_, inl, inr, ⊎-elim}
 use mathlib.Core.List.{List, [], _∷_, _++_, append-nil}
 use Prim.Native.Nat.{ℕ, zero, suc, _+_, _-_, _*_, _<_, _≤_}
 use native.Mathlib.Omega.{arith}
 use native.Mathlib.Numerals.{add-one}
+use lib.Dec.{leb}
 use lib.ListN.{length, drop, length-drop, length-append}
 use lib.Seq.{drop-drop, length-take-le}
-use borrow.Author.Tests.{le-leb}
+use borrow.Author.Tests.{le-leb, lt-leb}
 use Rattle.theory.specs.Limit.{first-terms, max-job, answer-bytes}
 use Rattle.theory.specs.Record.{Bytes, extent, whole, records-of, total-length, ending}
 use Rattle.theory.specs.Plain.{Plain, start, feed}
@@ -27,28 +29,40 @@ use Rattle.bitblast.proofs.Writing.{after-more, written-fits, one-answe
 use Rattle.bitblast.proofs.Positions.{records-whole, records-broken, none-left, ends-whole, ends-broken}
 
 -- ---- the run, record by record
-module _ (work space end done : ℕ) (list : Plain) (answers : List Answer) (r : Bytes) (rs : List Bytes) where
-  pub run-on : fault work space list (length answers) r ≡ 0
-      → run-from work space end done list answers (r ∷ rs) ≡ run-from work space end (suc done) (feed list r) (answers ++ answers-to list r) rs
+module _ (work space end done : ℕ) (list : Plain) (answers : List Answer) where
+  -- what it comes to with one more record, by the record's code
+  abbrev by-code : Bytes → List Bytes → ℕ → Outcome
+  by-code r rs f =
+      elim f as (λ z. Outcome) [
+        | zero ↦ run-from work space end (suc done) (feed list r) (answers ++ answers-to list r) rs
+        | suc code ↦ outcome (suc code) done answers list
+      ]
+
+  -- one more record
+  run-record : (r : Bytes) (rs : List Bytes) {f : ℕ} → fault work space list (length answers) r ≡ f
+      → run-from work space end done list answers (r ∷ rs) ≡ by-code r rs f
   unfolding run-from
-  run-on e =
-      ap (λ (g : ℕ). elim g as (λ z. Outcome) [ zero ↦ run-from work space end (suc done) (feed list r) (answers ++ answers-to list r) rs | suc d ↦ outcome (suc d) done answers list ]) e
+  run-record r rs e = ap (by-code r rs) e
 
-  pub run-stops : (c : ℕ) → fault work space list (length answers) r ≡ suc c → run-from work space end done list answers (r ∷ rs) ≡ outcome (suc c) done answers list
+  -- no record is left
+  run-ends : {rs : List Bytes} → rs ≡ [] → run-from work space end done list answers rs ≡ outcome end done answers list
   unfolding run-from
-  run-stops c e =
-      ap (λ (g : ℕ). elim g as (λ z. Outcome) [ zero ↦ run-from work space end (suc done) (feed list r) (answers ++ answers-to list r) rs | suc d ↦ outcome (suc d) done answers list ]) e
+  run-ends e = ap (run-from work space end done list answers) e
 
-pub run-ends : (work space end done : ℕ) (list : Plain) (answers : List Answer) {rs : List Bytes} → rs ≡ []
-    → run-from work space end done list answers rs ≡ outcome end done answers list
-unfolding run-from
-run-ends work space end done list answers e = ap (run-from work space end done list answers) e
+-- the run, by the test of the job's length
+module _ (job : Bytes) (work space : ℕ) where
+  by-length : {b : Bool} → leb (length job) max-job ≡ b
+      → run job work space ≡ elim b as (λ z. Outcome) [ true ↦ run-from work space (ending job) 0 start [] (records-of job) | false ↦ outcome 2 0 [] start ]
+  unfolding run
+  by-length e = ap (λ (b : Bool). elim b as (λ z. Outcome) [ true ↦ run-from work space (ending job) 0 start [] (records-of job) | false ↦ outcome 2 0 [] start ]) e
 
-pub run-short : (job : Bytes) (work space : ℕ) → length job ≤ max-job → run job work space ≡ run-from work space (ending job) 0 start [] (records-of job)
-unfolding run
-run-short job work space h =
-    ap (λ (b : Bool). elim b as (λ z. Outcome) [ true ↦ run-from work space (ending job) 0 start [] (records-of job) | false ↦ outcome 2 0 [] start ])
-    (le-leb (length job) max-job h)
+  -- a job that is not too long
+  run-short : length job ≤ max-job → run job work space ≡ run-from work space (ending job) 0 start [] (records-of job)
+  run-short h = by-length (le-leb (length job) max-job h)
+
+  -- a job that is too long
+  pub run-long : max-job < length job → run job work space ≡ outcome 2 0 [] start
+  run-long h = by-length (lt-leb (length job) max-job h)
 
 -- ---- what holds between two records
 -- of the job, the length of its work memory and the old bytes of its answers' memory: the answers given, what both memories hold, and the counts
@@ -105,6 +119,13 @@ standing b =
     let r = h .roomy in
     record { store = h .store; counted = h .few; roomy = omega arith }
 
+-- no record is left: the run ends with the ending's code
+last : {job old work answers : Bytes} {size : ℕ} {s : State} (b : Between job size old work answers s) → records-of (drop (s .at) job) ≡ [] → {c : ℕ} → ending job ≡ c
+    → run job size (length old) ≡ outcome c (s .records) (b .given) (listed job work (s .rows))
+last {job} {old} {work} {answers} {size} {s} b none e =
+    b .leads ∙ run-ends size (length old) (ending job) (s .records) (listed job work (s .rows)) (b .given) none
+    ∙ ap (λ (x : ℕ). outcome x (s .records) (b .given) (listed job work (s .rows))) e
+
 -- the job ends where nothing is left
 pub ends : {job old work answers : Bytes} {size : ℕ} {s : State} → Between job size old work answers s → s .stop ≡ 0 → length job ≤ s .at → Stopped job size old work answers s
 ends {job} {old} {work} {answers} {size} {s} b z h =
@@ -112,12 +133,7 @@ ends {job} {old} {work} {answers} {size} {s} b z h =
     let l = length-drop (s .at) job in
     let none : records-of (drop (s .at) job) ≡ [] = records-broken (drop (s .at) job) (none-left (drop (s .at) job) (omega arith)) in
     let total : total-length (records-of job) ≡ length job = b .before ∙ ap (λ (rs : List Bytes). s .at + total-length rs) none ∙ omega arith in
-    record {
-      given = b .given;
-      holding = b .holding;
-      ended = b .leads ∙ run-ends size (length old) (ending job) (s .records) (listed job work (s .rows)) (b .given) none
-          ∙ ap (λ (c : ℕ). outcome c (s .records) (b .given) (listed job work (s .rows))) (ends-whole job total ∙ sym z);
-    }
+    record { given = b .given; holding = b .holding; ended = last b none (ends-whole job total ∙ sym z) }
 
 -- what the host is told of a job that stopped
 pub walked : {job old work answers : Bytes} {size : ℕ} {s : State} → length job ≤ max-job → Stopped job size old work answers s → {given-size : ℕ} → size ≡ given-size → Walked job given-size old answers s
@@ -142,12 +158,13 @@ walked {job} {old} {work} {answers} {size} {s} short t {given-size} same =
     told-of : ℕ → ℕ → Returned
     told-of x y = record { stop = s .stop; records = s .records; answers = x; terms = y }
 
--- ---- one record
--- the state after it, by the code
+-- ---- one record: the state after it, by the code
 module _ (size : ℕ) (s : State) (t : Turn) where
+  -- past the record
   pub moved-on : t .code ≡ 0 → {m : ℕ} → m ≡ size → state (s .at + m) 0 (s .records + 1) (t .answers) (t .rows) ≡ moved size s t
   moved-on e {m} f = rw (f, e)
 
+  -- stopped at it
   pub moved-not : (t .code ≡ 0 → ⊥) → state (s .at) (t .code) (s .records) (t .answers) (t .rows) ≡ moved size s t
   moved-not h = go (t .code) h
     where
@@ -179,8 +196,7 @@ module _ {job old work answers : Bytes} {size : ℕ} {s : State} (b : Between jo
           few = h .few;
           fewer = h .fewer;
         };
-        ended = b .leads ∙ run-ends size (length old) (ending job) (s .records) (listed job work (s .rows)) (b .given) none
-            ∙ ap (λ (c : ℕ). outcome c (s .records) (b .given) (listed job work (s .rows))) (ends-broken job (omega arith));
+        ended = last b none (ends-broken job (omega arith));
       }))
 
   -- the parts of the record that stands here
@@ -197,10 +213,11 @@ module _ {job old work answers : Bytes} {size : ℕ} {s : State} (b : Between jo
   left = records-of (drop n (drop (s .at) job))
 
   module _ (w : whole (drop (s .at) job) ≡ true) (t : Turn) (turned : Turned job work answers (s .rows) (s .answers) r work′ answers′ t) where
-    -- the run's next record, and its test
+    -- it is the run's next record
     here : run job size (length old) ≡ run-from size (length old) (ending job) (s .records) list (b .given) (r ∷ left)
     here = b .leads ∙ ap (run-from size (length old) (ending job) (s .records) list (b .given)) (records-whole (drop (s .at) job) w)
 
+    -- its code
     test : fault size (length old) list (length (b .given)) r ≡ t .code
     test =
         let h = b .holding in
@@ -209,21 +226,26 @@ module _ {job old work answers : Bytes} {size : ℕ} {s : State} (b : Between jo
 
     -- the answers after it, where the code is c
     module _ (c : ℕ) (e : t .code ≡ c) where
+      -- those that it adds
       abbrev new : List Answer
       new = passed c (answers-to list r) []
 
+      -- they are what was written
       same-new : passed (t .code) (answers-to list r) [] ≡ new
       same-new = ap (λ (x : ℕ). passed x (answers-to list r) []) e
 
+      -- the memory holds them all
       wrote : answers′ ≡ answers-after (b .given ++ new) old
       wrote =
           let h = b .holding in
           turned .written-is ∙ ap (with-answers answers (s .answers)) same-new ∙ ap (λ (x : Bytes). with-answers x (s .answers) new) (h .written)
           ∙ after-more old (b .given) new (h .counted)
 
+      -- how many they are
       count : t .answers ≡ s .answers + length new
       count = turned .answers-is ∙ ap (λ (xs : List Answer). s .answers + length xs) same-new
 
+      -- they have room
       fits : answer-bytes * t .answers ≤ length old
       fits =
           let h = b .holding in
@@ -233,6 +255,7 @@ module _ {job old work answers : Bytes} {size : ℕ} {s : State} (b : Between jo
           let k = count in
           omega arith
 
+      -- at most one is new
       few-new : length new ≤ 1
       few-new = go c
         where
@@ -240,6 +263,7 @@ module _ {job old work answers : Bytes} {size : ℕ} {s : State} (b : Between jo
           go zero = one-answer list r
           go (suc d) = omega arith
 
+      -- what holds at a state after it
       held : (at records : ℕ) (stop : ℕ) → at ≤ length job → records ≤ at → t .answers ≤ records
           → Holding job size old work′ answers′ (state at stop records (t .answers) (t .rows)) (b .given ++ new)
       held at records stop p q o =
@@ -274,7 +298,7 @@ module _ {job old work answers : Bytes} {size : ℕ} {s : State} (b : Between jo
           holding = held 0 e (s .at + n) (s .records + 1) 0 (omega arith) (omega arith) (omega arith);
           before = b .before ∙ ap (λ (rs : List Bytes). s .at + total-length rs) (records-whole (drop (s .at) job) w)
               ∙ ap (λ (m : ℕ). s .at + (m + total-length left)) len ∙ ap (λ (bs : Bytes). s .at + (n + total-length (records-of bs))) d ∙ omega arith;
-          leads = here ∙ run-on size (length old) (ending job) (s .records) list (b .given) r left (test ∙ e)
+          leads = here ∙ run-record size (length old) (ending job) (s .records) list (b .given) r left (test ∙ e)
               ∙ ap (λ (l : Plain). run-from size (length old) (ending job) (suc (s .records)) l (b .given ++ answers-to list r) left)
               (sym (turned .listed-is ∙ ap (λ (x : ℕ). passed x (feed list r) list) e))
               ∙ ap₂ (λ (m : ℕ) (bs : Bytes). run-from size (length old) (ending job) m (listed job work′ (t .rows)) (b .given ++ answers-to list r) (records-of bs))
@@ -290,26 +314,28 @@ module _ {job old work answers : Bytes} {size : ℕ} {s : State} (b : Between jo
         record {
           given = b .given ++ [];
           holding = held (suc c) e (s .at) (s .records) (suc c) (h .within) (h .few) (omega arith);
-          ended = here ∙ run-stops size (length old) (ending job) (s .records) list (b .given) r left c (test ∙ e)
+          ended = here ∙ run-record size (length old) (ending job) (s .records) list (b .given) r left (test ∙ e)
               ∙ ap₂ (outcome (suc c) (s .records)) (sym (append-nil (b .given))) (sym (turned .listed-is ∙ ap (λ (x : ℕ). passed x (feed list r) list) e));
         }
 
-  -- where the next state has no code, it stands further on, between two records
-  pub goes : {s′ : State} → Next job work answers s work′ answers′ s′ → s′ .stop ≡ 0 → Between job size old work′ answers′ s′ × (s .at < s′ .at)
-  goes {s′} (broken w p q e) z = absurd (let y = ap (λ (x : State). x .stop) e in omega arith)
-  goes {s′} (taken w t turned e) z = go (t .code) refl e
-    where
-      go : (c : ℕ) → t .code ≡ c → s′ ≡ passed c (state (s .at + n) 0 (s .records + 1) (t .answers) (t .rows)) (state (s .at) c (s .records) (t .answers) (t .rows))
-          → Between job size old work′ answers′ s′ × (s .at < s′ .at)
-      go zero f g = (subst (Between job size old work′ answers′) (sym g) (took w t turned f), let y = ap (λ (x : State). x .at) g in omega arith)
-      go (suc c) f g = absurd (let y = ap (λ (x : State). x .stop) g in omega arith)
+  -- the next state: it has no code and stands further on, between two records, or it has one and the run ends there
+  abbrev After : State → Type 0
+  After s′ = ((s′ .stop ≡ 0) × (Between job size old work′ answers′ s′ × (s .at < s′ .at))) ⊎ ((s′ .stop ≡ 0 → ⊥) × Stopped job size old work′ answers′ s′)
 
-  -- where it has one, the run ends there
-  pub stops : {s′ : State} → Next job work answers s work′ answers′ s′ → (s′ .stop ≡ 0 → ⊥) → Stopped job size old work′ answers′ s′
-  stops {s′} (broken w p q e) z = subst (Stopped job size old work′ answers′) (sym e) (broke w p q)
-  stops {s′} (taken w t turned e) z = go (t .code) refl e
+  -- each way that a record can take
+  after : {s′ : State} → Next job work answers s work′ answers′ s′ → After s′
+  after (broken w p q e) = subst After (sym e) (inr (λ z. omega arith, broke w p q))
+  after (taken w t turned e) = subst After (sym e) (go (t .code) refl)
     where
-      go : (c : ℕ) → t .code ≡ c → s′ ≡ passed c (state (s .at + n) 0 (s .records + 1) (t .answers) (t .rows)) (state (s .at) c (s .records) (t .answers) (t .rows))
-          → Stopped job size old work′ answers′ s′
-      go zero f g = absurd (z (ap (λ (x : State). x .stop) g))
-      go (suc c) f g = subst (Stopped job size old work′ answers′) (sym g) (halted w t turned c f)
+      go : (c : ℕ) → t .code ≡ c
+          → After (passed c (state (s .at + n) 0 (s .records + 1) (t .answers) (t .rows)) (state (s .at) c (s .records) (t .answers) (t .rows)))
+      go zero f = inl (refl, (took w t turned f, omega arith))
+      go (suc c) f = inr (λ z. omega arith, halted w t turned c f)
+
+  -- the loop goes on
+  pub goes : {s′ : State} → Next job work answers s work′ answers′ s′ → s′ .stop ≡ 0 → Between job size old work′ answers′ s′ × (s .at < s′ .at)
+  goes x z = ⊎-elim (λ p. p .1) (λ p. absurd (p .0 z)) (after x)
+
+  -- the loop stops
+  pub stops : {s′ : State} → Next job work answers s work′ answers′ s′ → (s′ .stop ≡ 0 → ⊥) → Stopped job size old work′ answers′ s′
+  stops x f = ⊎-elim (λ p. absurd (f (p .0))) (λ p. p .1) (after x)

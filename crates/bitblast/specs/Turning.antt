@@ -24,6 +24,10 @@ abbrev pub passed : {A : Type 0} → ℕ → A → A → A
 passed zero x y = x
 passed (suc code) x y = y
 
+-- a turn by its parts
+abbrev pub turn : ℕ → ℕ → ℕ → Turn
+turn code answers rows = record { code = code; answers = answers; rows = rows }
+
 -- a whole record stands at `at`, and was read as this item
 pub record Reading (job work : Bytes) (rows at : ℕ) (item : Item) : Type 0 where
   pub store : Store job work rows

@@ -1,9 +1,9 @@
 // The checker of a job: its records one after the other, the terms kept in work memory, and an answer for each step.
-pub mod answers;
-pub mod records;
-pub mod steps;
+mod answers;
+mod records;
+mod steps;
 pub mod totals;
-pub mod walk;
+mod walk;
 
 ghost use mathlib.Core.Path.{_≡_};
 ghost use lib.ListN.{length};

@@ -10,7 +10,8 @@ ghost use Rattle.terms.specs.Framing.{record-at};
 ghost use Rattle.terms.specs.declared.Item.the-variants as I;
 ghost use Rattle.terms.specs.Decoded.{Inside, listed as numbers};
 ghost use Rattle.store.specs.Store.{Store};
-ghost use Rattle.bitblast.specs.Turning.{Reading, Turned, step-tests};
+ghost use Rattle.store.specs.Interning.{code-of, rows-after};
+ghost use Rattle.bitblast.specs.Turning.{turn, Reading, Turned, step-tests};
 use crate::answers::put_answer;
 use crate::steps::answer;
 use rows::FIRST_PLACE;
@@ -32,26 +33,10 @@ pub struct Turn {
     pub rows: usize,
 }
 
-// A term: 6 where an argument is not kept, 7 where it has no sort, 8 where there is no room for it.
-fn term_record(
-    job: &[u8],
-    work: &mut [u8],
-    rows: usize,
-    answered: usize,
-    at: usize,
-    term: Term,
-) -> Turn
-    requires { ⌜ Reading (now job) (now work) rows at (I.Term term) ⌝ }
-    ensures { λ r. ⌜ ((answers : Bytes) → Turned (now (job .entry)) (now (work .entry)) answers rows answered (record-at (now (job .entry)) at) (now (work .exit)) answers r) ⌝ }
+// What became of a term that the store was offered: 7 where it has no sort, 8 where there is no room for it.
+fn kept_turn(kept: Interned, answered: usize, rows: usize) -> Turn
+    ensures { λ r. ⌜ r ≡ turn (code-of kept) answered (rows-after kept rows) ⌝ }
 {
-    if !term.below(job, (rows + FIRST_PLACE) as u32) {
-        return Turn {
-            code: 6,
-            answers: answered,
-            rows: rows,
-        };
-    }
-    let kept = intern(job, work, rows, at, term);
     match kept {
         Interned::Unsorted => Turn {
             code: 7,
@@ -74,6 +59,29 @@ fn term_record(
             rows: n,
         },
     }
+}
+
+// A term: 6 where an argument is not kept; else the store is offered it.
+fn term_record(
+    job: &[u8],
+    work: &mut [u8],
+    rows: usize,
+    answered: usize,
+    at: usize,
+    term: Term,
+) -> Turn
+    requires { ⌜ Reading (now job) (now work) rows at (I.Term term) ⌝ }
+    ensures { λ r. ⌜ ((answers : Bytes) → Turned (now (job .entry)) (now (work .entry)) answers rows answered (record-at (now (job .entry)) at) (now (work .exit)) answers r) ⌝ }
+{
+    if !term.below(job, (rows + FIRST_PLACE) as u32) {
+        return Turn {
+            code: 6,
+            answers: answered,
+            rows: rows,
+        };
+    }
+    let kept = intern(job, work, rows, at, term);
+    kept_turn(kept, answered, rows)
 }
 
 // The code that stops the job at a step, or 0: 6 where a literal is not kept, 9 where there is no such rule, 19 where there is no room for its answer.

@@ -4,7 +4,7 @@ use mathlib.Core.Path.{sym, ap}
 use lib.ListN.{length}
 use denote.Ref.{now}
 use Rattle.theory.specs.Job.{Outcome, returned, answers-after}
-use Rattle.bitblast.proofs.Calls.{run-long}
+use Rattle.bitblast.proofs.Walks.{run-long}
 use Rattle.bitblast.proofs.check_job.Statement.{statement}
 use Rattle.bitblast.proofs.check_job.Tie as tie
 

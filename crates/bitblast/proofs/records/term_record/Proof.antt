@@ -2,7 +2,7 @@
 use borrow.Author.Needs.{needs}
 use mathlib.Core.Path.{sym, _∙_}
 use borrow.Author.Tests.{not-true, not-false}
-use Rattle.bitblast.proofs.Turns.{not-below, offered, term-turned}
+use Rattle.bitblast.proofs.Turns.{offered, not-below, term-turned}
 use Rattle.bitblast.proofs.records.term_record.Statement.{statement}
 use Rattle.bitblast.proofs.records.term_record.Tie as tie
 
@@ -14,36 +14,14 @@ returns c =
 intern-requires : tie.Need-intern-requires
 intern-requires c κs =
     let b = c .before .before in
-    let s = b .before .before .before in
-    offered (s .pre) (sym (b .below .ensures) ∙ not-false _ (c .before .if1 .left))
+    offered (b .before .before .before .pre) (sym (b .below .ensures) ∙ not-false _ (c .before .if1 .left))
 
 returns-2 : tie.Need-returns-2
 returns-2 c =
-    let i = c .before .before .before .before in
+    let i = c .before .before .before in
     let b = i .before .before .before in
     let s = b .before .before .before in
-    λ answers. term-turned (s .pre) answers (s .args .answered) (sym (b .below .ensures) ∙ not-false _ (i .before .before .if1 .left)) (i .intern .ensures) (c .enum-told .given .1)
-
-returns-3 : tie.Need-returns-3
-returns-3 c =
-    let i = c .before .before .before .before in
-    let b = i .before .before .before in
-    let s = b .before .before .before in
-    λ answers. term-turned (s .pre) answers (s .args .answered) (sym (b .below .ensures) ∙ not-false _ (i .before .before .if1 .left)) (i .intern .ensures) (c .enum-told2 .given .1)
-
-returns-4 : tie.Need-returns-4
-returns-4 c =
-    let i = c .before .before .before .before .before in
-    let b = i .before .before .before in
-    let s = b .before .before .before in
-    λ answers. term-turned (s .pre) answers (s .args .answered) (sym (b .below .ensures) ∙ not-false _ (i .before .before .if1 .left)) (i .intern .ensures) (c .before .kept .given .1)
-
-returns-5 : tie.Need-returns-5
-returns-5 c =
-    let i = c .before .before .before .before .before in
-    let b = i .before .before .before in
-    let s = b .before .before .before in
-    λ answers. term-turned (s .pre) answers (s .args .answered) (sym (b .below .ensures) ∙ not-false _ (i .before .before .if1 .left)) (i .intern .ensures) (c .before .kept2 .given .1)
+    λ answers. term-turned (s .pre) answers (s .args .answered) (sym (b .below .ensures) ∙ not-false _ (i .before .before .if1 .left)) (i .intern .ensures) (c .kept-turn .ensures)
 
 pub term-record-spec : {M : Type 1} → statement M
 term-record-spec =
@@ -54,15 +32,6 @@ term-record-spec =
     (λ c κs. search needs)
     returns
     intern-requires
+    (λ c κs. search needs)
     (λ c. search needs)
-    (λ c. search needs)
-    (λ c. search needs)
-    (λ c. search needs)
-    (λ c. search needs)
-    returns-2
-    (λ c. search needs)
-    returns-3
-    (λ c. search needs)
-    returns-4
-    (λ c. search needs)
-    returns-5)
+    returns-2)

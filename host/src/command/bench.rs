@@ -1,0 +1,157 @@
+//! `bbhost bench`: how long jobs take.
+use super::{Failure, Status, about, grouped, number, progress::Progress, unknown, value};
+use bitblast_host::{Answers, jobs, run_job};
+use std::{
+    env,
+    ffi::OsString,
+    fs,
+    hint::black_box,
+    io::Write,
+    path::{Path, PathBuf},
+    process::{self, Command},
+    time::{Duration, Instant},
+};
+
+/// The memory lent: work unless an option says otherwise, and answers.
+const WORK: usize = 1 << 20;
+const ANSWERS: usize = 1 << 16;
+
+/// Each job is run for this long, and at least so often.
+const TIME: Duration = Duration::from_millis(200);
+const LEAST_RUNS: u32 = 5;
+const MOST_RUNS: u32 = 20_000;
+
+/// The jobs that are measured, by name.
+fn jobs() -> Vec<(String, Vec<u8>)> {
+    let mut list = vec![("specimen".to_owned(), jobs::specimen())];
+    for (rule, name) in [(10, "add"), (8, "ult"), (18, "shl"), (11, "mult"), (21, "udiv")] {
+        for width in [8, 16, 32, 64] {
+            list.push((format!("{name}{width}"), jobs::right_claim(rule, width)));
+        }
+    }
+    list.push(("mixed".to_owned(), jobs::mixed(50_000)));
+    list.push(("terms60000".to_owned(), jobs::many_terms(60_000)));
+    list.push(("backs20000".to_owned(), jobs::many_backs(20_000)));
+    list
+}
+
+pub fn run(words: &[OsString], out: &mut impl Write) -> Result<Status, Failure> {
+    let (mut work, mut against, mut write) = (WORK, None, None);
+    let mut rest = words.iter();
+    while let Some(word) = rest.next() {
+        match word.to_str() {
+            Some("--work") => work = number("--work", &mut rest)?,
+            Some("--against") => against = Some(value("--against", &mut rest)?.to_string_lossy()),
+            Some("--write") => write = Some(PathBuf::from(value("--write", &mut rest)?)),
+            _ => return Err(unknown(word)),
+        }
+    }
+    if let Some(folder) = write {
+        write_jobs(&folder)?;
+        writeln!(out, "wrote {} jobs to {}", jobs().len(), folder.display())?;
+        return Ok(Status::Fine);
+    }
+
+    let mut memory = (vec![0; work], vec![0; ANSWERS]);
+    let folder = env::temp_dir().join(format!("bbhost-bench-{}", process::id()));
+    writeln!(
+        out,
+        "lent: {} bytes of work, {} of answers. Nothing but the library clears memory: it wipes all of the work memory in\n\
+         each job. Times are those of the fastest run.",
+        grouped(work as u64),
+        grouped(ANSWERS as u64)
+    )?;
+    write!(out, "{:<12}{:>9}{:>9}{:>14}{:>12}", "job", "bytes", "records", "us per job", "ns/record")?;
+    if against.is_some() {
+        write_jobs(&folder)?;
+        write!(out, "{:>16}{:>10}", "original us", "ratio")?;
+    }
+    writeln!(out)?;
+    let done = measure_all(&mut memory, against.as_deref(), &folder, out);
+    if against.is_some() {
+        fs::remove_dir_all(&folder).map_err(|error| about(folder.display(), error))?;
+    }
+    done
+}
+
+fn write_jobs(folder: &Path) -> Result<(), Failure> {
+    fs::create_dir_all(folder).map_err(|error| about(folder.display(), error))?;
+    for (name, job) in jobs() {
+        let file = folder.join(format!("{name}.job"));
+        fs::write(&file, job).map_err(|error| about(file.display(), error))?;
+    }
+    Ok(())
+}
+
+fn measure_all(
+    memory: &mut (Vec<u8>, Vec<u8>),
+    against: Option<&str>,
+    folder: &Path,
+    out: &mut impl Write,
+) -> Result<Status, Failure> {
+    let mut status = Status::Fine;
+    let mut progress = Progress::new();
+    for (name, job) in jobs() {
+        progress.show(|| name.clone());
+        let outcome = run_job(&job, &mut memory.0, &mut memory.1);
+        let accepted = Answers::new(&memory.1, outcome.answers).all(|answer| answer.code <= 1);
+        if outcome.stop != 0 || !accepted {
+            writeln!(out, "{name:<12} NOT MEASURED, the job is not accepted: {outcome:?}")?;
+            status = Status::Failed;
+            continue;
+        }
+        let (best, runs) = measure(&job, memory);
+        write!(
+            out,
+            "{name:<12}{:>9}{:>9}{:>14.2}{:>12.1}",
+            job.len(),
+            outcome.records,
+            best * 1e6,
+            best * 1e9 / f64::from(outcome.records.max(1))
+        )?;
+        if let Some(command) = against {
+            match ask(command, &folder.join(format!("{name}.job")), runs.clamp(3, 300)) {
+                Ok(theirs) => write!(out, "{:>16.2}{:>9.2}x", theirs * 1e6, theirs / best)?,
+                Err(why) => {
+                    write!(out, "  {why}")?;
+                    status = Status::Failed;
+                }
+            }
+        }
+        writeln!(out)?;
+        out.flush()?;
+    }
+    Ok(status)
+}
+
+/// The seconds of the fastest run, and the number of runs.
+fn measure(job: &[u8], memory: &mut (Vec<u8>, Vec<u8>)) -> (f64, u32) {
+    let begun = Instant::now();
+    let mut best = f64::MAX;
+    let mut runs = 0;
+    while runs < LEAST_RUNS || (begun.elapsed() < TIME && runs < MOST_RUNS) {
+        let one = Instant::now();
+        black_box(run_job(black_box(job), black_box(&mut memory.0), black_box(&mut memory.1)));
+        best = best.min(one.elapsed().as_secs_f64());
+        runs += 1;
+    }
+    (best, runs)
+}
+
+/// The seconds of the fastest run as another program prints them: `.. best MILLISECONDS ms ..`.
+fn ask(command: &str, file: &Path, runs: u32) -> Result<f64, String> {
+    let mut words = command.split_whitespace();
+    let program = words.next().ok_or("--against names no program")?;
+    let done = Command::new(program)
+        .args(words)
+        .arg(file)
+        .arg(runs.to_string())
+        .output()
+        .map_err(|error| format!("cannot run {program}: {error}"))?;
+    let text = String::from_utf8_lossy(&done.stdout);
+    let best = text.split("best ").nth(1).and_then(|rest| rest.split(' ').next()).and_then(|n| n.parse::<f64>().ok());
+    match best {
+        Some(milliseconds) if done.status.success() => Ok(milliseconds / 1e3),
+        _ => Err(format!("{command} gave no time ({}): {}", done.status, String::from_utf8_lossy(&done.stderr).trim())),
+    }
+}

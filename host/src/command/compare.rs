@@ -1,0 +1,237 @@
+//! `bbhost compare`: jobs with what the original answers, against the library.
+use super::{Failure, Status, about, grouped, progress::Progress, unknown, value};
+use bitblast_host::{ANSWER_BYTES, Answers, Outcome, lent::Lent, run_job, words};
+use std::{
+    collections::BTreeMap,
+    ffi::OsString,
+    fs,
+    io::Write,
+    path::{Path, PathBuf},
+};
+
+/// The differences that are printed one by one.
+const SHOWN: usize = 20;
+
+pub fn run(words: &[OsString], out: &mut impl Write) -> Result<Status, Failure> {
+    let (mut folder, mut counts_file) = (None, None);
+    let mut rest = words.iter();
+    while let Some(word) = rest.next() {
+        match word.to_str() {
+            Some("--counts") => counts_file = Some(Path::new(value("--counts", &mut rest)?)),
+            _ if folder.is_none() => folder = Some(Path::new(word)),
+            _ => return Err(unknown(word)),
+        }
+    }
+    let Some(folder) = folder else {
+        return Err(Failure::Usage("compare needs a folder".to_owned()));
+    };
+    let mut counts = Counts::default();
+    if let Some(file) = counts_file.filter(|file| file.exists()) {
+        let text = fs::read_to_string(file).map_err(|error| about(file.display(), error))?;
+        counts = Counts::parse(&text).ok_or_else(|| Failure::Usage(format!("{} holds no counts", file.display())))?;
+    }
+
+    let cases = cases(folder)?;
+    if cases.is_empty() {
+        return Err(Failure::Usage(format!("{} holds no .job file", folder.display())));
+    }
+    let mut differing = 0;
+    let mut progress = Progress::new();
+    for (k, path) in cases.iter().enumerate() {
+        progress.show(|| format!("case {} of {}", k + 1, cases.len()));
+        if let Some(difference) = compare(path, k as u64, &mut counts)? {
+            differing += 1;
+            if differing <= SHOWN {
+                writeln!(out, "DIFFERS {}: {difference}", path.display())?;
+            }
+        }
+    }
+    drop(progress);
+    counts.differences += differing as u64;
+    if let Some(file) = counts_file {
+        fs::write(file, counts.text()).map_err(|error| about(file.display(), error))?;
+    }
+    counts.print(out)?;
+    writeln!(out, "{} jobs in this folder, {differing} differ", grouped(cases.len() as u64))?;
+    Ok(if differing == 0 { Status::Fine } else { Status::Failed })
+}
+
+fn cases(folder: &Path) -> Result<Vec<PathBuf>, Failure> {
+    let mut cases = Vec::new();
+    for entry in fs::read_dir(folder).map_err(|error| about(folder.display(), error))? {
+        let path = entry?.path();
+        if path.extension().is_some_and(|end| end == "job") {
+            cases.push(path);
+        }
+    }
+    cases.sort();
+    Ok(cases)
+}
+
+/// What the original answers: the memory lent, the outcome and the answers' bytes.
+struct Expected {
+    work: usize,
+    room: usize,
+    outcome: Outcome,
+    answers: Vec<u8>,
+}
+
+impl Expected {
+    fn parse(text: &str) -> Option<Self> {
+        let field =
+            |name: &str| text.lines().find_map(|line| line.strip_prefix(name)).and_then(|rest| rest.strip_prefix(' '));
+        let number = |name: &str| field(name)?.trim().parse::<u32>().ok();
+        let hex = field("bytes")?.trim().as_bytes();
+        let digit = |c: u8| (c as char).to_digit(16);
+        let answers = hex.chunks(2).map(|pair| match pair {
+            &[high, low] => Some((digit(high)? * 16 + digit(low)?) as u8),
+            _ => None,
+        });
+        Some(Expected {
+            work: number("work")? as usize,
+            room: number("room")? as usize,
+            outcome: Outcome {
+                stop: number("stop")?,
+                records: number("records")?,
+                answers: number("answers")?,
+                terms: number("terms")?,
+            },
+            answers: answers.collect::<Option<_>>()?,
+        })
+    }
+}
+
+/// Runs a case; the first difference, if there is one.
+fn compare(path: &Path, seed: u64, counts: &mut Counts) -> Result<Option<String>, Failure> {
+    let job = fs::read(path).map_err(|error| about(path.display(), error))?;
+    let file = path.with_extension("expect");
+    let text = fs::read_to_string(&file).map_err(|error| about(file.display(), error))?;
+    let expected = Expected::parse(&text)
+        .ok_or_else(|| Failure::Usage(format!("{} is not as `oracle gen` writes it", file.display())))?;
+    let (mut work, mut answers) = (Lent::new(expected.work), Lent::new(expected.room));
+    let outcome = run_job(&job, work.ready(expected.work, seed), answers.ready(expected.room, seed.wrapping_mul(7)));
+    counts.add(outcome, answers.bytes());
+    let written = ANSWER_BYTES * outcome.answers as usize;
+    Ok(if outcome != expected.outcome {
+        Some(format!("expected {:?}, found {outcome:?}", expected.outcome))
+    } else if answers.bytes().get(..written) != Some(&expected.answers[..]) {
+        let pairs =
+            Answers::new(&expected.answers, outcome.answers).zip(Answers::new(answers.bytes(), outcome.answers));
+        let first = pairs.into_iter().find(|(a, b)| a != b);
+        Some(format!("answers differ, the first (expected, found): {first:?}"))
+    } else if !answers.untouched_from(written) {
+        Some("answer bytes past the last answer are not as they were".to_owned())
+    } else if !work.is_zero() {
+        Some("work memory is not zero".to_owned())
+    } else if !work.fences_stand() || !answers.fences_stand() {
+        Some("memory that was not lent was written".to_owned())
+    } else {
+        None
+    })
+}
+
+/// How often each answer and each stop was seen.
+#[derive(Default)]
+struct Counts {
+    jobs: u64,
+    differences: u64,
+    answers: BTreeMap<(u16, u16), u64>,
+    stops: BTreeMap<u32, u64>,
+}
+
+impl Counts {
+    fn add(&mut self, outcome: Outcome, answers: &[u8]) {
+        self.jobs += 1;
+        *self.stops.entry(outcome.stop).or_default() += 1;
+        for answer in Answers::new(answers, outcome.answers) {
+            *self.answers.entry((answer.rule, answer.code)).or_default() += 1;
+        }
+    }
+
+    fn text(&self) -> String {
+        let mut text = format!("jobs {}\ndifferences {}\n", self.jobs, self.differences);
+        for (stop, n) in &self.stops {
+            text.push_str(&format!("stop {stop} {n}\n"));
+        }
+        for ((rule, code), n) in &self.answers {
+            text.push_str(&format!("answer {rule} {code} {n}\n"));
+        }
+        text
+    }
+
+    fn parse(text: &str) -> Option<Self> {
+        let mut counts = Counts::default();
+        for line in text.lines() {
+            match line.split(' ').collect::<Vec<_>>()[..] {
+                ["jobs", n] => counts.jobs = n.parse().ok()?,
+                ["differences", n] => counts.differences = n.parse().ok()?,
+                ["stop", stop, n] => drop(counts.stops.insert(stop.parse().ok()?, n.parse().ok()?)),
+                ["answer", rule, code, n] => {
+                    counts.answers.insert((rule.parse().ok()?, code.parse().ok()?), n.parse().ok()?);
+                }
+                _ => return None,
+            }
+        }
+        Some(counts)
+    }
+
+    fn print(&self, out: &mut impl Write) -> std::io::Result<()> {
+        write!(out, "answers by rule and code\n                  ")?;
+        for (code, _) in words::ANSWERS {
+            write!(out, "{code:>9}")?;
+        }
+        writeln!(out)?;
+        for (rule, name) in (1..).zip(words::RULES) {
+            write!(out, "{rule:>2} {name:<15}")?;
+            for (code, _) in words::ANSWERS {
+                let n = self.answers.get(&(rule, code)).copied().unwrap_or(0);
+                match (n, reachable(rule, code)) {
+                    (0, true) => write!(out, "     none")?,
+                    (0, false) => write!(out, "        .")?,
+                    _ => write!(out, "{:>9}", grouped(n))?,
+                }
+            }
+            writeln!(out)?;
+        }
+        let stops: Vec<String> = self.stops.iter().map(|(stop, n)| format!("{stop}: {}", grouped(*n))).collect();
+        writeln!(out, "jobs by stop code: {}", stops.join(", "))?;
+        let missed: Vec<String> = self.missed();
+        if missed.is_empty() {
+            writeln!(out, "every answer that a rule of the original can give was reached, and every stop code")?;
+        } else {
+            writeln!(out, "not reached: {}", missed.join(", "))?;
+        }
+        writeln!(out, "in all {} jobs, {} differences", grouped(self.jobs), self.differences)
+    }
+
+    fn missed(&self) -> Vec<String> {
+        let mut missed = Vec::new();
+        for rule in 1..=words::RULES.len() as u16 {
+            for (code, _) in words::ANSWERS {
+                if reachable(rule, code) && !self.answers.contains_key(&(rule, code)) {
+                    missed.push(format!("rule {rule} ({}) with code {code}", words::rule_name(rule)));
+                }
+            }
+        }
+        for (stop, _) in words::STOPS {
+            if !self.stops.contains_key(&stop) {
+                missed.push(format!("stop {stop}"));
+            }
+        }
+        missed
+    }
+}
+
+/// Whether the original's function of a rule can end so.
+fn reachable(rule: u16, code: u16) -> bool {
+    match code {
+        0 => !matches!(rule, 20..=22),
+        1 => matches!(rule, 20..=22),
+        10 | 11 => true,
+        12 => matches!(rule, 2 | 13),
+        13..=15 => rule == 1,
+        16 => rule != 1,
+        17 => rule == 23,
+        _ => false,
+    }
+}

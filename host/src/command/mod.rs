@@ -1,0 +1,68 @@
+//! The commands, and what they share.
+pub mod bench;
+pub mod check;
+pub mod compare;
+mod json;
+mod progress;
+pub mod soak;
+
+use std::{ffi::OsString, io, slice::Iter, str::FromStr};
+
+/// The exit statuses.
+#[derive(Clone, Copy, PartialEq, Eq)]
+pub enum Status {
+    Fine = 0,
+    Failed = 1,
+    Trouble = 2,
+}
+
+/// Why a command could not do its work; both end in [`Status::Trouble`].
+pub enum Failure {
+    Usage(String),
+    Io(io::Error),
+}
+
+impl From<io::Error> for Failure {
+    fn from(error: io::Error) -> Self {
+        Failure::Io(error)
+    }
+}
+
+/// An input or output error with the file that it is about.
+fn about(what: impl std::fmt::Display, error: io::Error) -> Failure {
+    Failure::Io(io::Error::new(error.kind(), format!("{what}: {error}")))
+}
+
+fn unknown(word: &OsString) -> Failure {
+    Failure::Usage(format!("cannot make sense of {}", word.display()))
+}
+
+/// The word after an option.
+fn value<'a>(option: &str, words: &mut Iter<'a, OsString>) -> Result<&'a OsString, Failure> {
+    words.next().ok_or_else(|| Failure::Usage(format!("{option} needs a value")))
+}
+
+/// The number after an option.
+fn number<T: FromStr>(option: &str, words: &mut Iter<OsString>) -> Result<T, Failure> {
+    let word = value(option, words)?;
+    let number = word.to_str().and_then(|text| text.parse().ok());
+    number.ok_or_else(|| Failure::Usage(format!("{option} needs a number, not {}", word.display())))
+}
+
+/// A number with commas between its thousands.
+fn grouped(number: u64) -> String {
+    let digits = number.to_string();
+    let mut text = String::new();
+    for (k, digit) in digits.chars().enumerate() {
+        if k > 0 && (digits.len() - k).is_multiple_of(3) {
+            text.push(',');
+        }
+        text.push(digit);
+    }
+    text
+}
+
+/// A number of things, with an s where there is not just one.
+fn counted(number: u64, thing: &str) -> String {
+    format!("{} {thing}{}", grouped(number), if number == 1 { "" } else { "s" })
+}

@@ -1,0 +1,38 @@
+//! A line on a terminal that says how far long work is.
+use std::{
+    io::{IsTerminal, Write, stderr},
+    time::{Duration, Instant},
+};
+
+const FIRST: Duration = Duration::from_millis(800);
+const EVERY: Duration = Duration::from_millis(200);
+
+/// Shows nothing where the error output is no terminal.
+pub struct Progress {
+    terminal: bool,
+    next: Instant,
+    shown: bool,
+}
+
+impl Progress {
+    pub fn new() -> Self {
+        Progress { terminal: stderr().is_terminal(), next: Instant::now() + FIRST, shown: false }
+    }
+
+    /// Shows a line, if it is time for one.
+    pub fn show(&mut self, text: impl FnOnce() -> String) {
+        if self.terminal && Instant::now() >= self.next {
+            let _ = write!(stderr(), "\r\x1b[K{}", text());
+            self.next = Instant::now() + EVERY;
+            self.shown = true;
+        }
+    }
+}
+
+impl Drop for Progress {
+    fn drop(&mut self) {
+        if self.shown {
+            let _ = write!(stderr(), "\r\x1b[K");
+        }
+    }
+}

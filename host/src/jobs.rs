@@ -1,0 +1,370 @@
+//! Writes jobs. Equal terms are one term, and a term's record is written when a step first needs it, its arguments before it.
+use crate::{MAX_TERMS, rng::Rng};
+use std::{collections::HashMap, rc::Rc};
+
+/// A term of a writer.
+#[derive(Clone, Copy, Debug, PartialEq, Eq, Hash)]
+pub struct Term(u32);
+
+pub const TRUE: Term = Term(0);
+pub const FALSE: Term = Term(1);
+
+/// The kinds of terms, by their numbers in a record.
+#[derive(Clone, Copy, Debug, PartialEq, Eq, Hash)]
+#[repr(u16)]
+pub enum Kind {
+    BoolVar = 10,
+    BvVar = 11,
+    Constant = 12,
+    Not = 20,
+    And = 21,
+    Or = 22,
+    Xor = 23,
+    Equals = 24,
+    Ite = 25,
+    BvBitOf = 30,
+    BvBbTerm = 31,
+    BvNot = 40,
+    BvNeg = 41,
+    BvAnd = 42,
+    BvOr = 43,
+    BvXor = 44,
+    BvAdd = 45,
+    BvMul = 46,
+    BvXNor = 47,
+    BvComp = 48,
+    BvULt = 49,
+    BvSLt = 50,
+    BvShl = 51,
+    BvLShr = 52,
+    BvAShr = 53,
+    BvUDiv = 54,
+    BvURem = 55,
+    BvConcat = 56,
+    BvExtract = 57,
+    SignExtend = 58,
+}
+
+const STEP: u16 = 100;
+const BACK: u16 = 101;
+
+/// A term's record before its arguments have numbers.
+#[derive(Debug, PartialEq, Eq, Hash)]
+pub struct Node {
+    pub kind: Kind,
+    /// The body's numbers that are no arguments: names, widths, indices, the value in four parts.
+    pub numbers: Vec<u16>,
+    pub arguments: Vec<Term>,
+    /// The width, 0 for a Bool.
+    pub width: u16,
+}
+
+/// A job that is being written.
+pub struct JobWriter {
+    nodes: Vec<Option<Rc<Node>>>,
+    terms: HashMap<Rc<Node>, Term>,
+    /// The numbers of the terms that are kept, and these terms in the order of their numbers.
+    numbers: HashMap<Term, u16>,
+    kept: Vec<Term>,
+    bytes: Vec<u8>,
+}
+
+impl Default for JobWriter {
+    fn default() -> Self {
+        Self::new()
+    }
+}
+
+impl JobWriter {
+    pub fn new() -> Self {
+        JobWriter {
+            nodes: vec![None, None],
+            terms: HashMap::new(),
+            numbers: HashMap::from([(TRUE, 0), (FALSE, 1)]),
+            kept: vec![TRUE, FALSE],
+            bytes: Vec::new(),
+        }
+    }
+
+    /// The bytes written so far.
+    pub fn bytes(&self) -> &[u8] {
+        &self.bytes
+    }
+
+    /// The number of terms kept.
+    pub fn count(&self) -> usize {
+        self.kept.len()
+    }
+
+    pub fn finish(self) -> Vec<u8> {
+        self.bytes
+    }
+
+    // Terms
+
+    fn add(&mut self, kind: Kind, numbers: Vec<u16>, arguments: Vec<Term>, width: u16) -> Term {
+        let node = Node { kind, numbers, arguments, width };
+        if let Some(&term) = self.terms.get(&node) {
+            return term;
+        }
+        let term = Term(self.nodes.len() as u32);
+        let node = Rc::new(node);
+        self.nodes.push(Some(node.clone()));
+        self.terms.insert(node, term);
+        term
+    }
+
+    /// The node of a term, none for `true` and `false`.
+    pub fn node(&self, term: Term) -> Option<Rc<Node>> {
+        self.nodes[term.0 as usize].clone()
+    }
+
+    /// The width of a term, 0 for a Bool.
+    pub fn width(&self, term: Term) -> usize {
+        self.nodes[term.0 as usize].as_ref().map_or(0, |node| usize::from(node.width))
+    }
+
+    pub fn literal(&self, value: bool) -> Term {
+        if value { TRUE } else { FALSE }
+    }
+
+    pub fn bool_var(&mut self, name: u16) -> Term {
+        self.add(Kind::BoolVar, vec![name], vec![], 0)
+    }
+
+    pub fn bv_var(&mut self, width: usize, name: u16) -> Term {
+        self.add(Kind::BvVar, vec![width as u16, name], vec![], width as u16)
+    }
+
+    /// The value's low `width` bits as a constant.
+    pub fn constant(&mut self, width: usize, value: u64) -> Term {
+        let value = if width < 64 { value & ((1 << width) - 1) } else { value };
+        let parts = (0..4).map(|k| (value >> (16 * k)) as u16);
+        let numbers = std::iter::once(width as u16).chain(parts).collect();
+        self.add(Kind::Constant, numbers, vec![], width as u16)
+    }
+
+    /// A term whose body holds nothing but arguments.
+    pub fn term(&mut self, kind: Kind, arguments: &[Term]) -> Term {
+        use Kind::*;
+        let width = match kind {
+            Not | And | Or | Xor | Equals | Ite | BvULt | BvSLt => 0,
+            BvBbTerm => arguments.len(),
+            BvComp => 1,
+            BvConcat => arguments.iter().map(|&a| self.width(a)).sum(),
+            _ => self.width(arguments[0]),
+        };
+        self.add(kind, vec![], arguments.to_vec(), width as u16)
+    }
+
+    pub fn bit(&mut self, index: usize, term: Term) -> Term {
+        self.add(Kind::BvBitOf, vec![index as u16], vec![term], 0)
+    }
+
+    /// Bits `low` to `high` of a term.
+    pub fn extract(&mut self, high: usize, low: usize, term: Term) -> Term {
+        self.add(Kind::BvExtract, vec![high as u16, low as u16], vec![term], (high - low + 1) as u16)
+    }
+
+    pub fn sign_extend(&mut self, more: usize, term: Term) -> Term {
+        let width = self.width(term) + more;
+        self.add(Kind::SignExtend, vec![more as u16], vec![term], width as u16)
+    }
+
+    // Records
+
+    fn record(&mut self, kind: u16, words: impl Iterator<Item = u16>) {
+        let start = self.bytes.len();
+        self.bytes.extend([0, 0]);
+        self.bytes.extend(kind.to_le_bytes());
+        for word in words {
+            self.bytes.extend(word.to_le_bytes());
+        }
+        let length = (self.bytes.len() - start - 2) as u16;
+        self.bytes[start..start + 2].copy_from_slice(&length.to_le_bytes());
+    }
+
+    /// Writes the records that a term still needs, and gives its number.
+    pub fn number(&mut self, root: Term) -> u16 {
+        let mut open = vec![root];
+        while let Some(&term) = open.last() {
+            let Some(node) = self.node(term).filter(|_| !self.numbers.contains_key(&term)) else {
+                open.pop();
+                continue;
+            };
+            let waiting = open.len();
+            open.extend(node.arguments.iter().rev().filter(|a| !self.numbers.contains_key(a)));
+            if open.len() == waiting {
+                assert!(self.kept.len() < MAX_TERMS, "a job keeps at most {MAX_TERMS} terms");
+                let arguments: Vec<u16> = node.arguments.iter().map(|a| self.numbers[a]).collect();
+                self.record(node.kind as u16, node.numbers.iter().copied().chain(arguments));
+                self.numbers.insert(term, self.kept.len() as u16);
+                self.kept.push(term);
+                open.pop();
+            }
+        }
+        self.numbers[&root]
+    }
+
+    /// Writes a step.
+    pub fn step(&mut self, rule: u16, literals: &[Term]) {
+        let literals: Vec<u16> = literals.iter().map(|&l| self.number(l)).collect();
+        self.record(STEP, std::iter::once(rule).chain(literals));
+    }
+
+    /// Writes a step whose literal is `left = right`.
+    pub fn claim(&mut self, rule: u16, left: Term, right: Term) {
+        let literal = self.term(Kind::Equals, &[left, right]);
+        self.step(rule, &[literal]);
+    }
+
+    /// Writes a back: only the first `count` terms stay.
+    pub fn back(&mut self, count: usize) {
+        self.record(BACK, std::iter::once(count as u16));
+        for term in self.kept.drain(count.max(2).min(self.kept.len())..) {
+            self.numbers.remove(&term);
+        }
+    }
+}
+
+// Jobs
+
+/// The job of document 01's specimen: bvslt at width 1, one step, held, depth 2.
+pub fn specimen() -> Vec<u8> {
+    let mut job = JobWriter::new();
+    let (x, y) = (job.bv_var(1, 0), job.bv_var(1, 1));
+    job.number(x);
+    job.number(y);
+    let (x0, y0) = (job.bit(0, x), job.bit(0, y));
+    job.number(x0);
+    job.number(y0);
+    let not_y0 = job.term(Kind::Not, &[y0]);
+    let right = job.term(Kind::And, &[x0, not_y0]);
+    job.number(right);
+    let left = job.term(Kind::BvSLt, &[x, y]);
+    job.claim(9, left, right);
+    job.finish()
+}
+
+/// The one answer of [`specimen`].
+pub const SPECIMEN_ANSWER: [u8; 10] = [8, 0, 200, 0, 9, 0, 0, 0, 2, 0];
+
+/// One right claim over variables.
+pub fn right_claim(rule: u16, width: usize) -> Vec<u8> {
+    let mut job = JobWriter::new();
+    let left = job.left_side(rule, width);
+    let right = job.circuit(rule, left);
+    job.claim(rule, left, right);
+    job.finish()
+}
+
+/// Right claims of all rules in turn, at widths 1 to 16, with a back where 1,500 terms are kept; `size` bytes or a little more.
+pub fn mixed(size: usize) -> Vec<u8> {
+    let mut job = JobWriter::new();
+    for k in 0.. {
+        let (rule, width) = ((k % 23 + 1) as u16, k * 7 % 16 + 1);
+        let narrow = matches!(rule, 11 | 21 | 22);
+        let left = job.left_side(rule, if narrow { width.min(5) } else { width });
+        let right = job.circuit(rule, left);
+        job.claim(rule, left, right);
+        if job.count() > 1_500 {
+            job.back(2);
+        }
+        if job.bytes().len() >= size {
+            break;
+        }
+    }
+    job.finish()
+}
+
+/// A run of Nots, each of the one before, and no step.
+pub fn many_terms(count: usize) -> Vec<u8> {
+    let mut job = JobWriter::new();
+    let mut last = TRUE;
+    for _ in 0..count {
+        last = job.term(Kind::Not, &[last]);
+        job.number(last);
+    }
+    job.finish()
+}
+
+/// A variable, a gate over it, and a back to before both, again and again.
+pub fn many_backs(count: usize) -> Vec<u8> {
+    let mut job = JobWriter::new();
+    for k in 0..count {
+        let x = job.bool_var(k as u16);
+        let gate = job.term(Kind::And, &[x, TRUE]);
+        job.number(gate);
+        job.back(2);
+    }
+    job.finish()
+}
+
+/// A random job in which every step is accepted, and the code that each step gets.
+pub fn random_right(rng: &mut Rng) -> (Vec<u8>, Vec<u16>) {
+    let mut job = JobWriter::new();
+    let mut codes = Vec::new();
+    for _ in 0..rng.range(1, 6) {
+        let rule = rng.range(1, 23) as u16;
+        let widest = match rule {
+            11 | 21 | 22 => 5,
+            _ if rng.chance(20) => 64,
+            _ => 10,
+        };
+        let width = rng.range(1, widest);
+        let left = job.random_left_side(rule, width, rng);
+        let right = job.circuit(rule, left);
+        job.claim(rule, left, right);
+        codes.push(u16::from(matches!(rule, 20..=22)));
+        if rng.chance(25) {
+            let count = rng.range(2, job.count());
+            job.back(count);
+        }
+    }
+    (job.finish(), codes)
+}
+
+/// Changes, cuts or adds a few bytes, or changes a number in a record's body.
+pub fn damage(job: &mut Vec<u8>, rng: &mut Rng) {
+    if job.is_empty() {
+        return job.push(rng.number() as u8);
+    }
+    let at = rng.below(job.len());
+    match rng.below(8) {
+        0 => job.truncate(at),
+        1 => job.insert(at, rng.number() as u8),
+        2 => drop(job.remove(at)),
+        3 => job[at] ^= 1 << rng.below(8),
+        4 => job[at] = rng.number() as u8,
+        _ => change_number(job, rng),
+    }
+}
+
+/// Makes a number in the body of some record a little smaller or larger.
+fn change_number(job: &mut [u8], rng: &mut Rng) {
+    let mut starts = Vec::new();
+    let mut at = 0;
+    while let Some(&[low, high]) = job.get(at..at + 2) {
+        starts.push(at);
+        at += 2 + usize::from(u16::from_le_bytes([low, high]));
+    }
+    let start = starts[rng.below(starts.len())];
+    let length = usize::from(u16::from_le_bytes([job[start], job[start + 1]]));
+    let place = start + 4 + 2 * rng.below(length / 2);
+    if let Some(number) = job.get_mut(place..place + 2) {
+        let changed = u16::from_le_bytes([number[0], number[1]]).wrapping_add(rng.range(1, 6) as u16).wrapping_sub(3);
+        number.copy_from_slice(&changed.to_le_bytes());
+    }
+}
+
+/// Random bytes, small numbers and zeros more often than others.
+pub fn random_bytes(job: &mut Vec<u8>, rng: &mut Rng) {
+    job.clear();
+    for _ in 0..rng.below(200) {
+        job.push(match rng.below(3) {
+            0 => 0,
+            1 => rng.below(12) as u8,
+            _ => rng.number() as u8,
+        });
+    }
+}

@@ -1,0 +1,145 @@
+//! A service: memory of its own, a tally, and reports in words.
+use crate::{ANSWER_BYTES, MAX_JOB_BYTES, Outcome, SHORTEST_RECORD, Tally, run_job, tally_answers, words};
+
+/// No job needs more work memory: this is twice what the most terms cost.
+pub const MAX_WORK_BYTES: usize = 1 << 20;
+
+/// No job writes more: the answers of a longest job of steps only.
+pub const MAX_ANSWER_BYTES: usize = MAX_JOB_BYTES / SHORTEST_RECORD * ANSWER_BYTES;
+
+/// Checks jobs one after the other on the same memory, and counts what they came to.
+pub struct Service {
+    work: Vec<u8>,
+    answers: Vec<u8>,
+    tally: Tally,
+}
+
+impl Service {
+    /// A service with that much memory to lend; more than [`MAX_WORK_BYTES`] or [`MAX_ANSWER_BYTES`] is cut to these.
+    pub fn new(work_bytes: usize, answer_bytes: usize) -> Self {
+        Service {
+            work: vec![0; work_bytes.min(MAX_WORK_BYTES)],
+            answers: vec![0; answer_bytes.min(MAX_ANSWER_BYTES)],
+            tally: Tally::default(),
+        }
+    }
+
+    /// Checks a job and adds it to the tally.
+    pub fn check(&mut self, job: &[u8]) -> Report<'_> {
+        let outcome = run_job(job, &mut self.work, &mut self.answers);
+        tally_answers(&mut self.tally, &self.answers, outcome.answers);
+        Report { outcome, answers: &self.answers, tally: self.tally }
+    }
+
+    /// What all jobs so far came to.
+    pub fn tally(&self) -> Tally {
+        self.tally
+    }
+}
+
+/// What a service says about one job.
+#[derive(Clone, Copy)]
+pub struct Report<'a> {
+    outcome: Outcome,
+    answers: &'a [u8],
+    tally: Tally,
+}
+
+impl<'a> Report<'a> {
+    pub fn outcome(&self) -> Outcome {
+        self.outcome
+    }
+
+    /// The answers, in the order of the job's steps.
+    pub fn answers(&self) -> Answers<'a> {
+        Answers::new(self.answers, self.outcome.answers)
+    }
+
+    /// The stop code in words.
+    pub fn stop_meaning(&self) -> &'static str {
+        words::stop_meaning(self.outcome.stop)
+    }
+
+    /// The service's tally after this job.
+    pub fn tally(&self) -> Tally {
+        self.tally
+    }
+
+    /// Whether the job ran to its end and each of its steps is held.
+    pub fn all_held(&self) -> bool {
+        self.outcome.stop == 0 && self.answers().all(|answer| answer.verdict() == Verdict::Held)
+    }
+}
+
+/// The three classes of answers that a tally counts.
+#[derive(Clone, Copy, Debug, PartialEq, Eq)]
+pub enum Verdict {
+    /// Both sides of the equation are equal under every assignment.
+    Held,
+    /// The circuit is the rule's, but the rule's circuit is not the standard's operation.
+    FormOnly,
+    Refused,
+}
+
+impl Verdict {
+    pub fn of(code: u16) -> Self {
+        match code {
+            0 => Verdict::Held,
+            1 => Verdict::FormOnly,
+            _ => Verdict::Refused,
+        }
+    }
+}
+
+/// The answer to a step.
+#[derive(Clone, Copy, Debug, PartialEq, Eq)]
+pub struct Answer {
+    /// The step's place among the steps of the job, from 1.
+    pub step: u32,
+    pub rule: u16,
+    pub code: u16,
+    /// The depth of the accepted right side, 0 where the step is refused.
+    pub depth: u16,
+}
+
+impl Answer {
+    pub fn rule_name(&self) -> &'static str {
+        words::rule_name(self.rule)
+    }
+
+    /// The code in words.
+    pub fn meaning(&self) -> &'static str {
+        words::answer_meaning(self.code)
+    }
+
+    pub fn verdict(&self) -> Verdict {
+        Verdict::of(self.code)
+    }
+}
+
+/// The answers in a run of bytes.
+#[derive(Clone)]
+pub struct Answers<'a> {
+    rest: std::slice::ChunksExact<'a, u8>,
+    left: u32,
+    step: u32,
+}
+
+impl<'a> Answers<'a> {
+    /// The first `count` answers; where `bytes` is shorter, those that it has whole.
+    pub fn new(bytes: &'a [u8], count: u32) -> Self {
+        Answers { rest: bytes.chunks_exact(ANSWER_BYTES), left: count, step: 0 }
+    }
+}
+
+impl Iterator for Answers<'_> {
+    type Item = Answer;
+
+    fn next(&mut self) -> Option<Answer> {
+        self.left = self.left.checked_sub(1)?;
+        let bytes = self.rest.next()?;
+        self.step += 1;
+        let word = |at: usize| u16::from_le_bytes([bytes[at], bytes[at + 1]]);
+        Some(Answer { step: self.step, rule: word(4), code: word(6), depth: word(8) })
+    }
+}

@@ -1,0 +1,72 @@
+//! Rules and codes in words.
+
+/// The rules in the order of their numbers, from 1.
+pub const RULES: [&str; 23] = [
+    "value",
+    "var",
+    "and",
+    "or",
+    "xor",
+    "xnor",
+    "not",
+    "ult",
+    "slt",
+    "add",
+    "mult",
+    "neg",
+    "equality",
+    "comp",
+    "extract",
+    "concat",
+    "sign_extend",
+    "shl",
+    "lshr",
+    "ashr",
+    "udiv",
+    "urem",
+    "bitwise_slicing",
+];
+
+/// The codes that stop a job.
+pub const STOPS: [(u32, &str); 11] = [
+    (0, "the job ran to its end"),
+    (2, "the job is longer than 16,777,216 bytes"),
+    (3, "the record is cut: just one byte is left, or its length is below 2 or beyond the job's end"),
+    (4, "the record's kind is unknown"),
+    (5, "the record's length is not its kind's"),
+    (6, "an argument or literal is not the number of a kept term"),
+    (7, "a sort, width, index or value does not fit"),
+    (8, "no room for a new term: the work memory or the term numbers are spent"),
+    (9, "the step's rule is not one of 1 to 23"),
+    (18, "a back to below 2 or above the number of terms"),
+    (19, "fewer than 10 bytes are left for the step's answer"),
+];
+
+/// The codes of answers.
+pub const ANSWERS: [(u16, &str); 10] = [
+    (0, "held"),
+    (1, "form only: the circuit is the rule's, which is not the standard's operation"),
+    (10, "the clause has not exactly one literal"),
+    (11, "the literal is not of the rule's form"),
+    (12, "the left side, or what it compares, is not a bit-vector"),
+    (13, "the left side is not a constant"),
+    (14, "a bit of the right side is neither true nor false"),
+    (15, "the right side is another value"),
+    (16, "the right side is not the expected term"),
+    (17, "a slice does not begin just below the one before"),
+];
+
+/// The rule's name, `unknown` where there is no such rule.
+pub fn rule_name(rule: u16) -> &'static str {
+    usize::from(rule).checked_sub(1).and_then(|k| RULES.get(k)).copied().unwrap_or("unknown")
+}
+
+/// A stop code in words.
+pub fn stop_meaning(code: u32) -> &'static str {
+    STOPS.iter().find(|(c, _)| *c == code).map_or("unknown code", |(_, words)| words)
+}
+
+/// An answer's code in words.
+pub fn answer_meaning(code: u16) -> &'static str {
+    ANSWERS.iter().find(|(c, _)| *c == code).map_or("unknown code", |(_, words)| words)
+}

@@ -1,0 +1,172 @@
+//! The safe interface: every code, words, limits, and that nothing panics.
+use bitblast_host::{
+    MAX_JOB_BYTES, Outcome, Service, Tally, Verdict,
+    jobs::{self, JobWriter, Kind, TRUE},
+    rng::Rng,
+    run_job, tally_answers, words,
+};
+
+fn hex(text: &str) -> Vec<u8> {
+    text.split(' ').map(|byte| u8::from_str_radix(byte, 16).unwrap()).collect()
+}
+
+fn check(job: &[u8]) -> (Outcome, Vec<(u16, u16, u16)>) {
+    let mut service = Service::new(1 << 16, 1 << 16);
+    let report = service.check(job);
+    (report.outcome(), report.answers().map(|a| (a.rule, a.code, a.depth)).collect())
+}
+
+#[test]
+fn the_specimen() {
+    let mut service = Service::new(64, 10);
+    let report = service.check(&jobs::specimen());
+    assert_eq!(report.outcome(), Outcome { stop: 0, records: 9, answers: 1, terms: 10 });
+    assert_eq!(report.stop_meaning(), "the job ran to its end");
+    assert!(report.all_held());
+    let answers: Vec<_> = report.answers().collect();
+    assert_eq!(answers.len(), 1);
+    let answer = answers[0];
+    assert_eq!((answer.step, answer.rule, answer.code, answer.depth), (1, 9, 0, 2));
+    assert_eq!((answer.rule_name(), answer.meaning(), answer.verdict()), ("slt", "held", Verdict::Held));
+    assert_eq!(report.tally(), Tally { jobs: 1, held: 1, form_only: 0, refused: 0 });
+    service.check(&jobs::specimen());
+    assert_eq!(service.tally(), Tally { jobs: 2, held: 2, form_only: 0, refused: 0 });
+}
+
+#[test]
+fn codes_that_stop_a_job() {
+    let stop = |text: &str| check(&hex(text)).0.stop;
+    let too_long = vec![0; MAX_JOB_BYTES + 1];
+    assert_eq!(check(&too_long).0, Outcome { stop: 2, records: 0, answers: 0, terms: 2 });
+    assert_eq!(check(&too_long[1..]).0.stop, 3);
+    assert_eq!(stop("06 00 0B"), 3);
+    assert_eq!(stop("02 00 63 00"), 4);
+    assert_eq!(stop("06 00 14 00 00 00 01 00"), 5);
+    assert_eq!(stop("04 00 14 00 02 00"), 6);
+    assert_eq!(stop("06 00 0B 00 41 00 00 00"), 7);
+    assert_eq!(stop("04 00 64 00 18 00"), 9);
+    assert_eq!(stop("04 00 65 00 01 00"), 18);
+    let variable = hex("06 00 0B 00 01 00 00 00");
+    assert_eq!(run_job(&variable, &mut [0; 7], &mut []).stop, 8);
+    assert_eq!(run_job(&variable, &mut [0; 8], &mut []).stop, 0);
+    let step = hex("06 00 64 00 01 00 00 00");
+    assert_eq!(run_job(&step, &mut [], &mut [0; 9]).stop, 19);
+    assert_eq!(run_job(&step, &mut [], &mut [0; 10]).stop, 0);
+}
+
+/// One answer for the claim that `make` builds.
+fn code(rule: u16, make: impl FnOnce(&mut JobWriter) -> (jobs::Term, jobs::Term)) -> u16 {
+    let mut job = JobWriter::new();
+    let (left, right) = make(&mut job);
+    job.claim(rule, left, right);
+    let (outcome, answers) = check(&job.finish());
+    assert_eq!((outcome.stop, answers.len(), answers[0].0), (0, 1, rule));
+    answers[0].1
+}
+
+#[test]
+fn codes_of_answers() {
+    assert_eq!(check(&hex("04 00 64 00 01 00")).1, [(1, 10, 0)]);
+    assert_eq!(check(&hex("06 00 64 00 01 00 00 00")).1, [(1, 11, 0)]);
+    assert_eq!(code(2, |_| (TRUE, TRUE)), 12);
+    let bit = |j: &mut JobWriter, value| j.term(Kind::BvBbTerm, &[if value { TRUE } else { jobs::FALSE }]);
+    assert_eq!(code(1, |j| (j.bv_var(1, 0), bit(j, false))), 13);
+    assert_eq!(
+        code(1, |j| {
+            let b = j.bool_var(0);
+            (j.constant(1, 0), j.term(Kind::BvBbTerm, &[b]))
+        }),
+        14
+    );
+    assert_eq!(code(1, |j| (j.constant(1, 0), bit(j, true))), 15);
+    assert_eq!(code(1, |j| (j.constant(1, 0), bit(j, false))), 0);
+    assert_eq!(
+        code(9, |j| {
+            let (x, y) = (j.bv_var(1, 0), j.bv_var(1, 1));
+            let (x0, y0) = (j.bit(0, x), j.bit(0, y));
+            let not = j.term(Kind::Not, &[y0]);
+            (j.term(Kind::BvSLt, &[x, y]), j.term(Kind::And, &[not, x0]))
+        }),
+        16
+    );
+    assert_eq!(
+        code(23, |j| {
+            let left = j.left_side(23, 2);
+            let right = j.circuit(23, left);
+            let mut slices = j.node(right).unwrap().arguments.clone();
+            slices.reverse();
+            (left, j.term(Kind::BvConcat, &slices))
+        }),
+        17
+    );
+    assert_eq!(
+        code(20, |j| {
+            let left = j.left_side(20, 3);
+            (left, j.circuit(20, left))
+        }),
+        1
+    );
+}
+
+#[test]
+fn every_code_has_words() {
+    for code in [0, 2, 3, 4, 5, 6, 7, 8, 9, 18, 19] {
+        assert_ne!(words::stop_meaning(code), "unknown code");
+    }
+    for code in [0, 1, 10, 11, 12, 13, 14, 15, 16, 17] {
+        assert_ne!(words::answer_meaning(code), "unknown code");
+    }
+    assert_eq!(words::stop_meaning(1), "unknown code");
+    assert_eq!(words::answer_meaning(65_535), "unknown code");
+    assert_eq!(
+        (words::rule_name(0), words::rule_name(1), words::rule_name(23)),
+        ("unknown", "value", "bitwise_slicing")
+    );
+    assert_eq!(words::rule_name(24), "unknown");
+}
+
+#[test]
+fn the_tally_holds_at_its_largest() {
+    let answers = |codes: &[u8]| -> Vec<u8> { codes.iter().flat_map(|&c| [8, 0, 200, 0, 1, 0, c, 0, 0, 0]).collect() };
+    let bytes = answers(&[0, 1, 10, 0, 17, 1, 16]);
+    let mut tally = Tally { jobs: u64::MAX, held: u64::MAX - 1, form_only: u64::MAX - 2, refused: 0 };
+    tally_answers(&mut tally, &bytes, 7);
+    assert_eq!(tally, Tally { jobs: u64::MAX, held: u64::MAX, form_only: u64::MAX, refused: 3 });
+    let mut tally = Tally::default();
+    tally_answers(&mut tally, &bytes, 2);
+    assert_eq!(tally, Tally { jobs: 1, held: 1, form_only: 1, refused: 0 });
+    // More answers named than there are.
+    tally_answers(&mut tally, &bytes[..19], u32::MAX);
+    assert_eq!(tally, Tally { jobs: 2, held: 2, form_only: 1, refused: 0 });
+}
+
+#[test]
+fn services_of_any_size() {
+    for (work, answers) in [(0, 0), (7, 9), (8, 10), (usize::MAX, usize::MAX)] {
+        let mut service = Service::new(work, answers);
+        let report = service.check(&jobs::specimen());
+        let stop = report.outcome().stop;
+        assert_eq!(stop, if work < 64 { 8 } else { 0 });
+        assert_eq!(report.answers().count() as u32, report.outcome().answers);
+    }
+}
+
+#[test]
+fn no_input_makes_it_panic() {
+    let mut rng = Rng::new(11);
+    let mut service = Service::new(4096, 100);
+    let mut job = Vec::new();
+    for k in 0..20_000 {
+        if k % 2 == 0 {
+            jobs::random_bytes(&mut job, &mut rng);
+        } else {
+            job = jobs::specimen();
+            jobs::damage(&mut job, &mut rng);
+        }
+        let report = service.check(&job);
+        assert!(report.answers().count() <= 10);
+        assert_ne!(report.stop_meaning(), "unknown code");
+        assert!(report.answers().all(|a| a.meaning() != "unknown code" && a.rule_name() != "unknown"));
+    }
+    assert_eq!(service.tally().jobs, 20_000);
+}

@@ -1,0 +1,99 @@
+/* Calls the library from C: layout, the specimen at every length of lent memory, a stopped job, a tally. */
+#include "bitblast.h"
+#include <stdio.h>
+#include <string.h>
+
+#define FENCE 32
+#define POST 0xA5
+#define OLD 0x5C
+
+static int failures;
+
+static void expect(int fact, const char *what) {
+    if (!fact) {
+        printf("failed: %s\n", what);
+        failures++;
+    }
+}
+
+static int all(const uint8_t *bytes, size_t from, size_t to, uint8_t value) {
+    for (size_t k = from; k < to; k++) {
+        if (bytes[k] != value) {
+            return 0;
+        }
+    }
+    return 1;
+}
+
+static const uint8_t specimen[] = {
+    0x06, 0, 0x0B, 0, 1, 0, 0, 0, 0x06, 0, 0x0B, 0, 1, 0, 1, 0, 0x06, 0, 0x1E, 0, 0, 0, 2, 0,
+    0x06, 0, 0x1E, 0, 0, 0, 3, 0, 0x04, 0, 0x14, 0, 5, 0, 0x06, 0, 0x15, 0, 4, 0, 6, 0,
+    0x06, 0, 0x32, 0, 2, 0, 3, 0, 0x06, 0, 0x18, 0, 8, 0, 7, 0, 0x06, 0, 0x64, 0, 9, 0, 9, 0};
+
+static const uint8_t answer[BB_ANSWER_BYTES] = {8, 0, 200, 0, 9, 0, 0, 0, 2, 0};
+
+static void every_length(void) {
+    for (size_t work_len = 0; work_len <= 80; work_len++) {
+        for (size_t room = 0; room <= 30; room++) {
+            uint8_t work[FENCE + 80 + FENCE], answers[FENCE + 30 + FENCE];
+            memset(work, POST, sizeof work);
+            memset(answers, POST, sizeof answers);
+            memset(work + FENCE, OLD, work_len);
+            memset(answers + FENCE, OLD, room);
+            BbOutcome o = bb_job(specimen, sizeof specimen, work + FENCE, work_len, answers + FENCE, room);
+            uint32_t stop = work_len < 64 ? 8 : room < 10 ? 19 : 0;
+            expect(o.stop == stop, "stop code");
+            expect(o.answers == (stop == 0), "number of answers");
+            expect(stop == 8 || (o.terms == 10 && o.records == 8 + o.answers), "terms and records");
+            expect(all(work, FENCE, FENCE + work_len, 0), "work memory is zero");
+            expect(all(work, 0, FENCE, POST) && all(work, FENCE + work_len, sizeof work, POST), "fences of the work memory");
+            size_t written = BB_ANSWER_BYTES * o.answers;
+            expect(memcmp(answers + FENCE, answer, written) == 0, "the answer");
+            expect(all(answers, FENCE + written, FENCE + room, OLD), "untouched answers");
+            expect(all(answers, 0, FENCE, POST) && all(answers, FENCE + room, sizeof answers, POST), "fences of the answers");
+        }
+    }
+}
+
+static void stopped(void) {
+    static const uint8_t cut[] = {0x06, 0, 0x0B};
+    uint8_t work[8], answers[10];
+    BbOutcome o = bb_job(cut, sizeof cut, work, sizeof work, answers, sizeof answers);
+    expect(o.stop == 3 && o.records == 0 && o.answers == 0 && o.terms == 2, "a cut record");
+    o = bb_job(cut, 0, work, 0, answers, 0);
+    expect(o.stop == 0 && o.records == 0 && o.answers == 0 && o.terms == 2, "an empty job");
+}
+
+static void tally(void) {
+    struct {
+        uint64_t before;
+        BbTally tally;
+        uint64_t behind;
+    } t = {7, {0, 0, UINT64_MAX, 0}, 7};
+    uint8_t answers[3 * BB_ANSWER_BYTES];
+    for (int k = 0; k < 3; k++) {
+        memcpy(answers + k * BB_ANSWER_BYTES, answer, BB_ANSWER_BYTES);
+    }
+    answers[16] = 1;
+    answers[26] = 16;
+    bb_tally(&t.tally, answers, sizeof answers, 3);
+    bb_tally(&t.tally, answers, sizeof answers, 1);
+    expect(t.tally.jobs == 2 && t.tally.held == 2 && t.tally.form_only == UINT64_MAX && t.tally.refused == 1, "the tally");
+    expect(t.before == 7 && t.behind == 7, "fences of the tally");
+}
+
+int main(void) {
+    expect(sizeof(BbOutcome) == 16 && offsetof(BbOutcome, records) == 4 && offsetof(BbOutcome, answers) == 8 &&
+               offsetof(BbOutcome, terms) == 12,
+           "layout of BbOutcome");
+    expect(sizeof(BbTally) == 32 && offsetof(BbTally, held) == 8 && offsetof(BbTally, form_only) == 16 &&
+               offsetof(BbTally, refused) == 24,
+           "layout of BbTally");
+    every_length();
+    stopped();
+    tally();
+    if (failures == 0) {
+        printf("ok\n");
+    }
+    return failures != 0;
+}

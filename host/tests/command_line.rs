@@ -1,0 +1,228 @@
+//! The command line: exit statuses, what it prints, and JSON that a reader of JSON takes.
+use bitblast_host::jobs;
+use std::{
+    fs,
+    io::Write,
+    path::{Path, PathBuf},
+    process::{Command, Output, Stdio},
+};
+
+fn folder(name: &str) -> PathBuf {
+    let folder = Path::new(env!("CARGO_TARGET_TMPDIR")).join(name);
+    let _ = fs::remove_dir_all(&folder);
+    fs::create_dir_all(&folder).unwrap();
+    folder
+}
+
+fn bbhost(arguments: &[&str], input: &[u8]) -> Output {
+    let mut child = Command::new(env!("CARGO_BIN_EXE_bbhost"))
+        .args(arguments)
+        .stdin(Stdio::piped())
+        .stdout(Stdio::piped())
+        .stderr(Stdio::piped())
+        .spawn()
+        .unwrap();
+    // A command that reads no input may end before this is written.
+    let _ = child.stdin.take().unwrap().write_all(input);
+    child.wait_with_output().unwrap()
+}
+
+fn status(arguments: &[&str], input: &[u8]) -> i32 {
+    bbhost(arguments, input).status.code().unwrap()
+}
+
+fn text(bytes: &[u8]) -> &str {
+    std::str::from_utf8(bytes).unwrap()
+}
+
+/// Reads one JSON value and gives what stands after it; panics where the text is no JSON.
+fn json(text: &str) -> &str {
+    let list = |text: &str, close: char, member: fn(&str) -> &str| -> usize {
+        let mut rest = text.trim_start();
+        if let Some(after) = rest.strip_prefix(close) {
+            return after.len();
+        }
+        loop {
+            rest = member(rest).trim_start();
+            match rest.strip_prefix(',') {
+                Some(after) => rest = after,
+                None => return rest.strip_prefix(close).expect("a comma or an end").len(),
+            }
+        }
+    };
+    fn member(text: &str) -> &str {
+        let text = text.trim_start();
+        assert!(text.starts_with('"'), "a name at {text:.40}");
+        json(json(text).trim_start().strip_prefix(':').expect("a colon"))
+    }
+    let text = text.trim_start();
+    let mut chars = text.char_indices();
+    let rest = match chars.next().expect("a value").1 {
+        '{' => text.len() - list(&text[1..], '}', member),
+        '[' => text.len() - list(&text[1..], ']', json),
+        '"' => loop {
+            match chars.next().expect("the string's end") {
+                (at, '"') => break at + 1,
+                (_, '\\') => match chars.next().unwrap().1 {
+                    'u' => (0..4).for_each(|_| assert!(chars.next().unwrap().1.is_ascii_hexdigit())),
+                    c => assert!("\"\\/bfnrt".contains(c)),
+                },
+                (_, c) => assert!(c >= ' ', "a control character in a string"),
+            }
+        },
+        _ => {
+            let end = text.find(|c: char| !c.is_ascii_alphanumeric()).unwrap_or(text.len());
+            let word = &text[..end];
+            let number = word == "0" || (!word.starts_with('0') && word.parse::<u64>().is_ok());
+            assert!(number || matches!(word, "true" | "false" | "null"), "a value at {text:.40}");
+            end
+        }
+    };
+    &text[rest..]
+}
+
+fn is_json(text: &str) -> bool {
+    json(text).trim().is_empty()
+}
+
+#[test]
+fn exit_statuses_of_check() {
+    let folder = folder("check");
+    let write = |name: &str, job: &[u8]| {
+        let file = folder.join(name);
+        fs::write(&file, job).unwrap();
+        file.to_str().unwrap().to_owned()
+    };
+    let held = write("held.job", &jobs::specimen());
+    let form_only = write("form-only.job", &jobs::right_claim(21, 3));
+    let mut wrong = jobs::specimen();
+    let rule = wrong.len() - 4;
+    wrong[rule] = 8;
+    let refused = write("refused.job", &wrong);
+    let cut = write("cut \"quoted\".job", &jobs::specimen()[..69]);
+    let missing = folder.join("missing.job").to_str().unwrap().to_owned();
+
+    assert_eq!(status(&["check", &held], b""), 0);
+    assert_eq!(status(&["check", &held, &held], b""), 0);
+    assert_eq!(status(&["check", "-q", &form_only], b""), 1);
+    assert_eq!(status(&["check", &held, &refused], b""), 1);
+    assert_eq!(status(&["check", &cut], b""), 1);
+    assert_eq!(status(&["check", &missing, &held], b""), 2);
+    assert_eq!(status(&["check", "-"], &jobs::specimen()), 0);
+    assert_eq!(status(&["check", "-"], &wrong), 1);
+    assert_eq!(status(&["check", "-"], b""), 0);
+    assert_eq!(status(&["check", "--work", "63", &held], b""), 1);
+    assert_eq!(status(&["check", "--answers", "9", &held], b""), 1);
+
+    let table = bbhost(&["check", &held, &refused, &cut], b"");
+    let table = text(&table.stdout);
+    assert!(table.contains("9 slt                 0      2  held"), "{table}");
+    assert!(table.contains("8 ult                11      0  the literal is not of the rule's form"), "{table}");
+    assert!(table.contains("STOPPED at record 9 (code 3): the record is cut"), "{table}");
+    assert!(table.contains("3 jobs: 1 held, 0 form only, 1 refused"), "{table}");
+    assert!(bbhost(&["check", "-q", &held, &refused], b"").stdout.is_empty());
+
+    let all = bbhost(&["check", "--json", &held, &missing, &form_only, &refused, &cut], b"");
+    assert_eq!(all.status.code(), Some(2));
+    let all = text(&all.stdout);
+    assert!(is_json(all), "{all}");
+    assert!(all.contains("cut \\\"quoted\\\".job") && all.contains("\"error\":"), "{all}");
+    assert!(
+        all.contains("\"tally\":{\"jobs\":4,\"held\":1,\"form_only\":1,\"refused\":1},\"all_held\":false"),
+        "{all}"
+    );
+    let one = bbhost(&["check", "--json", "-"], &jobs::specimen());
+    assert_eq!(one.status.code(), Some(0));
+    assert_eq!(
+        text(&one.stdout),
+        "{\"files\":[{\"file\":\"-\",\"bytes\":70,\"stop\":0,\"stop_meaning\":\"the job ran to its end\",\"records\":9,\"terms\":10,\
+         \"all_held\":true,\"steps\":[\n{\"step\":1,\"rule\":9,\"name\":\"slt\",\"verdict\":\"held\",\"code\":0,\"meaning\":\"held\",\
+         \"depth\":2}]}],\"tally\":{\"jobs\":1,\"held\":1,\"form_only\":0,\"refused\":0},\"all_held\":true}\n"
+    );
+    assert!(is_json(text(&one.stdout)));
+}
+
+#[test]
+fn long_jobs() {
+    let longest = vec![0; 16_777_216];
+    let output = bbhost(&["check", "-"], &longest);
+    assert_eq!(output.status.code(), Some(1));
+    assert!(text(&output.stdout).contains("STOPPED at record 1 (code 3)"));
+    let output = bbhost(&["check", "-"], &[&longest[..], &[0, 0, 0]].concat());
+    assert_eq!(output.status.code(), Some(1));
+    assert!(text(&output.stdout).contains("NOT READ (code 2)"));
+}
+
+#[test]
+fn usage() {
+    for arguments in [
+        &[][..],
+        &["chek"],
+        &["check"],
+        &["check", "--jason", "file"],
+        &["check", "--work"],
+        &["check", "--work", "many", "-"],
+        &["soak"],
+        &["soak", "soon"],
+        &["soak", "-1"],
+        &["soak", "1", "2"],
+        &["bench", "fast"],
+        &["bench", "--write"],
+        &["compare"],
+        &["compare", "a", "b"],
+        &["compare", "no-such-folder"],
+    ] {
+        let output = bbhost(arguments, b"");
+        assert_eq!(output.status.code(), Some(2), "{arguments:?}");
+        assert!(text(&output.stderr).starts_with("bbhost: ") && output.stdout.is_empty(), "{arguments:?}");
+    }
+    for word in ["--help", "-h", "help"] {
+        let output = bbhost(&[word], b"");
+        assert_eq!(output.status.code(), Some(0));
+        assert!(text(&output.stdout).contains("usage:"));
+    }
+}
+
+#[test]
+fn soak_of_two_seconds() {
+    let output = bbhost(&["soak", "2", "--seed", "5"], b"");
+    let text = text(&output.stdout);
+    assert_eq!(output.status.code(), Some(0), "{text}");
+    assert!(text.ends_with("no deviation\n"), "{text}");
+}
+
+#[test]
+fn bench_writes_jobs_that_are_held() {
+    let folder = folder("bench");
+    assert_eq!(status(&["bench", "--write", folder.to_str().unwrap()], b""), 0);
+    let name = |file: &str| folder.join(format!("{file}.job")).to_str().unwrap().to_owned();
+    assert_eq!(fs::read_dir(&folder).unwrap().count(), 24);
+    let (add, mult) = (name("add64"), name("mult32"));
+    assert_eq!(status(&["check", "-q", &add, &mult, &name("terms60000"), &name("backs20000")], b""), 0);
+    assert_eq!(status(&["check", "-q", &name("udiv16")], b""), 1);
+}
+
+#[test]
+fn compare_finds_differences() {
+    let folder = folder("compare");
+    let counts = folder.join("counts");
+    let arguments = ["compare", folder.to_str().unwrap(), "--counts", counts.to_str().unwrap()];
+    let expect = |text: &str| fs::write(folder.join("00000.expect"), text).unwrap();
+    fs::write(folder.join("00000.job"), jobs::specimen()).unwrap();
+    let right = "work 64\nroom 10\nstop 0\nrecords 9\nanswers 1\nterms 10\nbytes 0800c800090000000200\n";
+    expect(right);
+    let output = bbhost(&arguments, b"");
+    assert_eq!(output.status.code(), Some(0), "{}", text(&output.stdout));
+    assert!(text(&output.stdout).contains("in all 1 jobs, 0 differences"));
+    for (from, to) in [("terms 10", "terms 11"), ("0200\n", "0300\n"), ("work 64", "work 63"), ("room 10", "room 9")] {
+        expect(&right.replace(from, to));
+        let output = bbhost(&arguments, b"");
+        assert_eq!(output.status.code(), Some(1), "{from}");
+        assert!(text(&output.stdout).contains("DIFFERS"), "{from}");
+    }
+    assert!(fs::read_to_string(&counts).unwrap().starts_with("jobs 5\ndifferences 4\n"));
+    expect("work many\n");
+    assert_eq!(status(&arguments, b""), 2);
+    fs::remove_file(folder.join("00000.expect")).unwrap();
+    assert_eq!(status(&arguments, b""), 2);
+}

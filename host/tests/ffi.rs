@@ -1,0 +1,130 @@
+//! What can be tested of declarations that nothing checks: the text of the Rattle source, the layout of the structs, and the
+//! bytes around each lent slice.
+use bitblast_host::{
+    Outcome, Tally,
+    jobs::{self, SPECIMEN_ANSWER},
+    lent::Lent,
+    run_job, tally_answers,
+};
+use std::{
+    fs,
+    mem::{align_of, offset_of, size_of},
+    path::Path,
+};
+
+#[test]
+fn layout() {
+    assert_eq!((size_of::<Outcome>(), align_of::<Outcome>()), (16, 4));
+    assert_eq!(
+        [
+            offset_of!(Outcome, stop),
+            offset_of!(Outcome, records),
+            offset_of!(Outcome, answers),
+            offset_of!(Outcome, terms)
+        ],
+        [0, 4, 8, 12]
+    );
+    assert_eq!((size_of::<Tally>(), align_of::<Tally>()), (32, 8));
+    assert_eq!(
+        [offset_of!(Tally, jobs), offset_of!(Tally, held), offset_of!(Tally, form_only), offset_of!(Tally, refused)],
+        [0, 8, 16, 24]
+    );
+}
+
+/// All Rattle source of the repository in one line, without comments and with single spaces.
+fn source(folder: &Path, text: &mut String) {
+    for entry in fs::read_dir(folder).unwrap().map(|entry| entry.unwrap().path()) {
+        if entry.is_dir() {
+            source(&entry, text);
+        } else if entry.extension().is_some_and(|end| end == "rt") {
+            for line in fs::read_to_string(entry).unwrap().lines() {
+                let code = line.split("//").next().unwrap();
+                text.extend(code.split_whitespace().flat_map(|word| [word, " "]));
+            }
+        }
+    }
+}
+
+#[test]
+fn the_source_says_the_same() {
+    let mut text = String::new();
+    source(&Path::new(env!("CARGO_MANIFEST_DIR")).join("../crates"), &mut text);
+    for declared in [
+        "#[no_mangle] pub extern \"C\" fn bb_job(job: &[u8], work: &mut [u8], answers: &mut [u8]) -> Outcome ",
+        "#[no_mangle] pub extern \"C\" fn bb_tally(tally: &mut Tally, answers: &[u8], count: u32) ",
+        "#[repr(C)] pub struct Outcome { pub stop: u32, pub records: u32, pub answers: u32, pub terms: u32, }",
+        "#[repr(C)] pub struct Tally { pub jobs: u64, pub held: u64, pub form_only: u64, pub refused: u64, }",
+    ] {
+        assert!(text.contains(declared), "crates/ has no `{declared}`: does src/ffi.rs still fit?");
+    }
+    assert_eq!(text.matches("pub extern \"C\" fn").count(), 2, "src/ffi.rs declares two functions");
+}
+
+/// The specimen with every length of work memory and answers around what it needs: 64 and 10 bytes.
+#[test]
+fn fences_around_every_length() {
+    let job = jobs::specimen();
+    let (mut work, mut answers) = (Lent::new(80), Lent::new(40));
+    for work_size in 0..=80 {
+        for room in 0..=40 {
+            let outcome = run_job(&job, work.ready(work_size, room as u64), answers.ready(room, work_size as u64));
+            let expected = match (work_size / 8, room) {
+                (rows @ 0..=7, _) => Outcome { stop: 8, records: rows as u32, answers: 0, terms: 2 + rows as u32 },
+                (_, 0..=9) => Outcome { stop: 19, records: 8, answers: 0, terms: 10 },
+                _ => Outcome { stop: 0, records: 9, answers: 1, terms: 10 },
+            };
+            assert_eq!(outcome, expected, "work {work_size}, answers {room}");
+            assert!(work.is_zero() && work.fences_stand(), "work {work_size}, answers {room}");
+            let written = 10 * outcome.answers as usize;
+            assert_eq!(answers.bytes()[..written], SPECIMEN_ANSWER[..written]);
+            assert!(answers.untouched_from(written) && answers.fences_stand(), "work {work_size}, answers {room}");
+        }
+    }
+}
+
+/// Slices that begin at odd addresses, and a job with other bytes right behind it.
+#[test]
+fn slices_at_any_address() {
+    let specimen = jobs::specimen();
+    for shift in 0..8 {
+        let mut job = vec![0xFF; shift];
+        job.extend(&specimen);
+        job.extend([0xFF; 16]);
+        let before = job.clone();
+        let (mut work, mut answers) = (vec![0xEE; 200], vec![0xDD; 60]);
+        let outcome = run_job(
+            &job[shift..shift + specimen.len()],
+            &mut work[shift + 1..shift + 101],
+            &mut answers[shift + 3..shift + 33],
+        );
+        assert_eq!(outcome, Outcome { stop: 0, records: 9, answers: 1, terms: 10 });
+        assert_eq!(job, before);
+        for (k, byte) in work.iter().enumerate() {
+            assert_eq!(*byte, if (shift + 1..shift + 101).contains(&k) { 0 } else { 0xEE });
+        }
+        for (k, byte) in answers.iter().enumerate() {
+            let at = k.wrapping_sub(shift + 3);
+            assert_eq!(*byte, if at < 10 { SPECIMEN_ANSWER[at] } else { 0xDD });
+        }
+    }
+}
+
+#[test]
+fn fences_around_a_tally() {
+    #[repr(C)]
+    struct Fenced {
+        before: [u64; 8],
+        tally: Tally,
+        behind: [u64; 8],
+    }
+    let mut fenced = Fenced { before: [7; 8], tally: Tally::default(), behind: [7; 8] };
+    let mut answers = Lent::new(10);
+    answers.ready(10, 0).copy_from_slice(&SPECIMEN_ANSWER);
+    for count in [0, 1, 2, u32::MAX] {
+        tally_answers(&mut fenced.tally, answers.bytes(), count);
+    }
+    assert_eq!(fenced.tally, Tally { jobs: 4, held: 3, form_only: 0, refused: 0 });
+    assert_eq!((fenced.before, fenced.behind), ([7; 8], [7; 8]));
+    assert_eq!(answers.bytes(), SPECIMEN_ANSWER);
+    assert!(answers.fences_stand());
+}

@@ -1,0 +1,57 @@
+/* The verified checker of bit-blasting steps, for C.
+ *
+ * Link target/staticlib/libbitblast.a, which `rt staticlib bitblast` writes.
+ *
+ * Pointers are not NULL, also where their length is 0, and the lent memories do not overlap. The library has no memory of its
+ * own: calls on different memories may run at the same time.
+ */
+#ifndef BITBLAST_H
+#define BITBLAST_H
+
+#include <stddef.h>
+#include <stdint.h>
+
+#ifdef __cplusplus
+extern "C" {
+#endif
+
+/* The longest job, in bytes. */
+#define BB_MAX_JOB 16777216
+
+/* The bytes of work memory that a kept term costs; no job keeps more than 65,535 terms, two of them free. */
+#define BB_TERM_BYTES 8
+
+/* The bytes of an answer: five numbers of two bytes, low byte first: 8, 200, rule, code, depth.
+ * Code 0 is held, 1 form only, 10 to 17 refused. */
+#define BB_ANSWER_BYTES 10
+
+/* What a job came to. */
+typedef struct BbOutcome {
+    uint32_t stop;    /* 0 where the job ran to its end, else the code that stopped it */
+    uint32_t records; /* records done, the stopping one not counted */
+    uint32_t answers; /* answers written */
+    uint32_t terms;   /* terms kept at the end, `true` and `false` among them */
+} BbOutcome;
+
+/* What the jobs of a service came to. Each number holds at its largest value. */
+typedef struct BbTally {
+    uint64_t jobs;
+    uint64_t held;
+    uint64_t form_only;
+    uint64_t refused;
+} BbTally;
+
+/* Checks a job. Both lent memories may be of any length and content; afterwards all of `work` is zero, the answers stand at
+ * the start of `answers`, and the bytes past the last answer are as they were. */
+BbOutcome bb_job(const uint8_t *job, size_t job_len,
+                 uint8_t *work, size_t work_len,
+                 uint8_t *answers, size_t answers_len);
+
+/* Adds one job and its first `count` answers to a tally; where `answers` is shorter, those that it has whole. */
+void bb_tally(BbTally *tally, const uint8_t *answers, size_t answers_len, uint32_t count);
+
+#ifdef __cplusplus
+}
+#endif
+
+#endif
