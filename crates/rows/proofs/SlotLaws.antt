@@ -20,7 +20,7 @@ use Rattle.rows.proofs.RowLaws.{place-end, place-found, place-next, sam
 use Rattle.theory.specs.Term.{same-numbers}
 use Rattle.rows.specs.declared.slots.Seek.{Seek}
 
-pub hash-end : (h i : ℕ) (s : Bytes) → length s ≤ i → hash-from h (drop i s) ≡ h / 256
+pub hash-end : (h i : ℕ) (s : Bytes) → length s ≤ i → hash-from h (drop i s) ≡ h * 1664525 % 4294967296 / 256
 unfolding hash-from
 hash-end h i s l = rw (drop-of-length-le s l)
 

@@ -27,7 +27,7 @@ slot-at work j = number-at work (j * term-bytes + slot-byte)
 
 -- a number made of all bytes of a record
 unfoldable pub hash-from : ℕ → Bytes → ℕ
-hash-from h [] = h / 256
+hash-from h [] = h * 1664525 % 4294967296 / 256
 hash-from h (b ∷ bs) = hash-from ((h * 1664525 + b) % 4294967296) bs
 
 -- the first slot for a record, of c slots

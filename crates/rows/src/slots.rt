@@ -57,7 +57,7 @@ pub fn hash(s: &[u8]) -> usize
         h = (h * 1664525 + wide(s[i])) % 4294967296;
         i += 1;
     }
-    h / 256
+    h * 1664525 % 4294967296 / 256
 }
 
 // The first slot for a record, of c slots.
