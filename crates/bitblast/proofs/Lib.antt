@@ -6,3 +6,4 @@ pub mod Positions
 pub mod Walks
 pub mod Calls
 pub mod Fresh
+pub mod Enough

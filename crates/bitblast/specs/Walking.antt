@@ -1,7 +1,7 @@
 -- Where a job stands between two records, what the next record does to it, and what the job comes to.
 use mathlib.Core.Path.{_≡_}
 use mathlib.Core.Bool.{true, false}
-use Prim.Native.Nat.{ℕ, _+_, _*_, _≤_}
+use Prim.Native.Nat.{ℕ, _+_, _*_, _≤_, _<_}
 use lib.ListN.{length, drop}
 use Rattle.theory.specs.Limit.{first-terms, max-terms, max-job, answer-bytes}
 use Rattle.theory.specs.Record.{Bytes, extent, whole}
@@ -42,6 +42,11 @@ pub data Next (job work answers : Bytes) (s : State) (work′ answers′ : Bytes
       → Next job work answers s work′ answers′ s′
   taken : whole (drop (s .at) job) ≡ true → (t : Turn) → Turned job work answers (s .rows) (s .answers) (record-at job (s .at)) work′ answers′ t
       → s′ ≡ moved (extent (drop (s .at) job)) s t → Next job work answers s work′ answers′ s′
+
+-- so many bytes of work memory are used of a job: all, or four for each byte of the job, which is more than its records can fill
+pub record Enough (job work used : ℕ) : Type 0 where
+  pub within : used ≤ work
+  pub enough : used < work → 4 * job ≤ used
 
 -- what the host is to be told of the whole job, and the answers' memory then; the numbers fit into 32 bits
 pub record Walked (job : Bytes) (work : ℕ) (old answers : Bytes) (s : State) : Type 0 where

@@ -10,7 +10,7 @@ ghost use lib.ListN.{length};
 ghost use Rattle.theory.specs.Answer.{decode-answers};
 ghost use Rattle.theory.specs.Job.{call};
 ghost use Rattle.theory.specs.Demand.{Demand3};
-ghost use Rattle.bitblast.specs.Walking.{told};
+ghost use Rattle.bitblast.specs.Walking.{told, Enough};
 use crate::walk::walk;
 
 // The longest job, in bytes.
@@ -47,6 +47,14 @@ fn check_job(job: &[u8], work: &mut [u8], answers: &mut [u8]) -> Outcome
     }
 }
 
+// The bytes of work memory that a job of `size` bytes is given of those lent: four for each of its own, which leaves room in the table over
+// its terms. A short job is not spread over a long memory.
+fn used(size: usize, lent: usize) -> usize
+    ensures { λ r. ⌜ Enough size lent r ⌝ }
+{
+    if size < lent / 4 { 4 * size } else { lent }
+}
+
 // Checks a job, for a host. The answers stand at the start of their memory, and the work memory is all zero: nothing of the job stays in it.
 #[no_mangle]
 pub extern "C" fn bb_job(job: &[u8], work: &mut [u8], answers: &mut [u8]) -> Outcome
@@ -55,7 +63,8 @@ pub extern "C" fn bb_job(job: &[u8], work: &mut [u8], answers: &mut [u8]) -> Out
     ensures work { λ _. ⌜ now (work .exit) ≡ call (now (job .entry)) (now (work .entry)) (now (answers .entry)) .work-memory ⌝ }
     ensures demand3 { λ r. ⌜ Demand3 (now (job .entry)) (length (now (work .entry))) (length (now (answers .entry))) (r .records) (decode-answers (r .answers) (now (answers .exit))) ⌝ }
 {
-    let outcome = check_job(job, work, answers);
+    let n = used(job.len(), work.len());
+    let outcome = check_job(job, &mut work[..n], answers);
     rows::wipe(work);
     outcome
 }

@@ -1,21 +1,40 @@
--- `bb_job`: the work memory is wiped at the end, and demand 3 follows from what is returned and written.
+-- `bb_job`: the job is given as much work memory as it can need, all of it is wiped at the end, and demand 3 follows from what is returned
+-- and written.
 use borrow.Author.Needs.{needs}
-use mathlib.Core.Path.{ap, _∙_}
-use Prim.Native.Nat.{ℕ}
-use lib.ListN.{replicate}
+use mathlib.Core.Path.{_≡_, sym, ap, _∙_}
+use native.Mathlib.Omega.{arith}
+use lib.ListN.{length}
+use lib.Seq.{length-take-le}
 use denote.Ref.{now}
 use Rattle.store.proofs.Taking.{all-bytes}
-use Rattle.bitblast.proofs.Calls.{called}
+use Rattle.theory.specs.Job.{Outcome, returned, answers-after}
+use Rattle.bitblast.proofs.Calls.{zeros, called}
+use Rattle.bitblast.proofs.Enough.{run-enough}
 use Rattle.bitblast.proofs.bb_job.Statement.{statement}
 use Rattle.bitblast.proofs.bb_job.Tie as tie
+
+slice-aggregate-check-job : tie.Need-slice-aggregate-check-job
+slice-aggregate-check-job c = sym (length-take-le _ _ (omega arith))
 
 returns : tie.Need-returns
 returns c =
     let j = c .before .before .before .before .before .before .before .before in
-    let a = j .before .before .before .before .before .before .args in
-    called (now (a .job)) (now (a .work)) (now (a .answers)) (all-bytes (now (a .job)) (λ i. j .before .before .before .before .before .shared-slice-known .given i)) (j .check-job .result)
-    (j .check-job .ensures .0) (j .check-job .ensures .1) (c .before .before .wipe .ensures .all-zero ∙ ap (λ (n : ℕ). replicate n 0) (j .check-job .kept .1 .0))
+    let s = j .before .before .before .before .before .before in
+    let a = s .before .args in
+    let e = run-enough (now (a .job)) (now (a .work)) (j .before .before .before .used .result) (length (now (a .answers))) (j .before .before .before .used .ensures) in
+    called (now (a .job)) (now (a .work)) (now (a .answers)) (all-bytes (now (a .job)) (λ i. s .shared-slice-known .given i)) (j .check-job .result)
+    (j .check-job .ensures .0 ∙ ap returned e) (j .check-job .ensures .1 ∙ ap (λ (o : Outcome). answers-after (o .answers) (now (a .answers))) e)
+    (zeros (now (a .work)) (c .before .before .wipe .ensures) (let l : length (c .before .before .wipe .last .0) ≡ length (now (a .work)) = search needs in l))
 
 pub bb-job-spec : {M : Type 1} → statement M
 bb-job-spec =
-    tie.close (tie.spec (λ c κs. search needs) (λ c κs. search needs) (λ c. search needs) (λ c. search needs) returns)
+    tie.close
+    (tie.spec
+    (λ c κs. search needs)
+    (λ c. search needs)
+    slice-aggregate-check-job
+    (λ c κs. search needs)
+    (λ c κs. search needs)
+    (λ c. search needs)
+    (λ c. search needs)
+    returns)

@@ -1,0 +1,108 @@
+-- Work memory beyond what a job's records can fill makes no difference to its run.
+use mathlib.Core.Path.{_≡_, refl, sym, ap, _∙_}
+use mathlib.Core.Bool.{Bool, true, false, _&&_, _||_, cond}
+use mathlib.Core.List.{List, [], _∷_, _++_}
+use mathlib.Core.Option.{Option, none, some}
+use Prim.Native.Nat.{ℕ, zero, suc, _+_, _*_, _-_, _≤_, _<_}
+use native.Mathlib.Omega.{arith}
+use native.Mathlib.Decide.{decLt}
+use lib.Dec.{leb, ltb}
+use lib.ListN.{length, take, drop, length-drop, length-take, length-append}
+use lib.Seq.{length-take-le}
+use borrow.Author.Tests.{le-leb}
+use Rattle.theory.specs.Limit.{max-job, max-terms, first-terms, term-bytes}
+use Rattle.theory.specs.Term.{Term}
+use Rattle.theory.specs.Record.{Bytes, extent, whole, cut, records-of, ending, Item, term, step, back, unknown, misfit, read}
+use Rattle.theory.specs.Plain.{Plain, entry, start, term-of, has, put, feed-item, feed}
+use Rattle.theory.specs.Codes.{first-fault, all-below, well-sorted, room, tests, fault}
+use Rattle.theory.specs.Answer.{Answer}
+use Rattle.theory.specs.Job.{Outcome, outcome, answers-to, run-from, run}
+use Rattle.terms.proofs.Parts.{Whole, whole-parts}
+use Rattle.bitblast.specs.Walking.{Enough}
+
+-- ---- a record has at least four bytes
+next-few : (b : Bool) (n : ℕ) (r : Bytes) (rs : List Bytes) (len : ℕ) → (b ≡ true → (4 ≤ n) × (n ≤ len)) → 4 * length rs ≤ len - n
+    → 4 * length {A = Bytes} (elim b as (λ w. List Bytes) [ true ↦ r ∷ rs | false ↦ [] ]) ≤ len
+next-few true n r rs len h k = let g = h refl in omega (arith, g .0, g .1)
+next-few false n r rs len h k = omega arith
+
+few-cut : (fuel : ℕ) (bs : Bytes) → 4 * length (cut fuel bs) ≤ length bs
+unfolding cut
+few-cut zero bs = omega arith
+few-cut (suc fuel) bs =
+    let n = extent bs in
+    let l : length (drop n bs) ≡ length bs - n = length-drop n bs in
+    let k = few-cut fuel (drop n bs) in
+    next-few (whole bs) n (take n bs) (cut fuel (drop n bs)) (length bs) (λ w. let p = whole-parts bs w in (let a = p .low in omega arith, p .fit)) (omega arith)
+
+-- ---- one record
+room-same : (more less : ℕ) (list : Plain) → term-bytes * (suc (length list) - first-terms) ≤ less → less ≤ more → room less list ≡ room more list
+room-same more less list h k =
+    ap (λ (b : Bool). b && ltb (length list) max-terms) (le-leb (term-bytes * (suc (length list) - first-terms)) less h ∙ sym (le-leb (term-bytes * (suc (length list) - first-terms)) more (omega arith)))
+
+fault-same : (more less space : ℕ) (list : Plain) (n : ℕ) (r : Bytes) → room less list ≡ room more list → fault less space list n r ≡ fault more space list n r
+unfolding fault
+fault-same more less space list n r e = go (read r)
+  where
+    go : (i : Item) → first-fault (tests less space list n r i) ≡ first-fault (tests more space list n r i)
+    go unknown = refl
+    go misfit = refl
+    go (term o ks) = ap (λ (b : Bool). first-fault ((all-below (length list) ks, 6) ∷ (well-sorted (term-of list o ks), 7) ∷ (has list r || b, 8) ∷ [])) e
+    go (step m ks) = refl
+    go (back m) = refl
+
+put-short : (list : Plain) (r : Bytes) (t : Term) (b : Bool) → length (cond b list (list ++ (entry t r ∷ []))) ≤ suc (length list)
+put-short list r t true = omega arith
+put-short list r t false = let l = length-append list (entry t r ∷ []) in omega arith
+
+feed-short : (list : Plain) (r : Bytes) → length (feed list r) ≤ suc (length list)
+unfolding feed
+feed-short list r = go (read r)
+  where
+    of-term : (q : Option Term) → length (put list r q) ≤ suc (length list)
+    of-term none = omega arith
+    of-term (some t) = put-short list r t (has list r)
+
+    go : (i : Item) → length (feed-item list r i) ≤ suc (length list)
+    go unknown = omega arith
+    go misfit = omega arith
+    go (term o ks) = of-term (term-of list o ks)
+    go (step m ks) = omega arith
+    go (back m) = let l = length-take m list in omega arith
+
+-- ---- the run
+by-fault : (c : ℕ) {x y : Outcome} (f : ℕ → Outcome) → x ≡ y
+    → _≡_ {A = Outcome} (elim c as (λ w. Outcome) [ zero ↦ x | suc code ↦ f code ]) (elim c as (λ w. Outcome) [ zero ↦ y | suc code ↦ f code ])
+by-fault zero f e = e
+by-fault (suc code) f e = refl
+
+run-from-same : (more less space end : ℕ) → less ≤ more → (rs : List Bytes) (done : ℕ) (list : Plain) (given : List Answer)
+    → term-bytes * (length list + length rs - first-terms) ≤ less → run-from less space end done list given rs ≡ run-from more space end done list given rs
+unfolding run-from
+run-from-same more less space end k [] done list given h = refl
+run-from-same more less space end k (r ∷ rs) done list given h =
+    let s = feed-short list r in
+    let stop : ℕ → Outcome = λ code. outcome (suc code) done given list in
+    ap (λ (c : ℕ). elim c as (λ w. Outcome) [ zero ↦ run-from less space end (suc done) (feed list r) (given ++ answers-to list r) rs | suc code ↦ stop code ])
+    (fault-same more less space list (length given) r (room-same more less list (omega arith) k))
+    ∙ by-fault (fault more space list (length given) r) stop (run-from-same more less space end k rs (suc done) (feed list r) (given ++ answers-to list r) (omega arith))
+
+by-length : (b : Bool) {x y : Outcome} (z : Outcome) → x ≡ y
+    → _≡_ {A = Outcome} (elim b as (λ w. Outcome) [ true ↦ x | false ↦ z ]) (elim b as (λ w. Outcome) [ true ↦ y | false ↦ z ])
+by-length true z e = e
+by-length false z e = refl
+
+-- less is enough where it has four bytes for each of the job's
+run-same : (job : Bytes) (more less space : ℕ) → less ≤ more → 4 * length job ≤ less → run job less space ≡ run job more space
+unfolding run
+run-same job more less space k h =
+    let f = few-cut (length job) job in
+    by-length (leb (length job) max-job) (outcome 2 0 [] start) (run-from-same more less space (ending job) k (records-of job) 0 start [] (omega arith))
+
+-- the first bytes of a work memory, where they are enough
+pub run-enough : (job work : Bytes) (used space : ℕ) → Enough (length job) (length work) used → run job (length (take used work)) space ≡ run job (length work) space
+run-enough job work used space e = ap (λ (n : ℕ). run job n space) (length-take-le used work (e .within)) ∙ go (decLt used (length work))
+  where
+    go : Dec (used < length work) → run job used space ≡ run job (length work) space
+    go (yes h) = run-same job (length work) used space (e .within) (e .enough h)
+    go (no h) = let w = e .within in ap (λ (n : ℕ). run job n space) (let d : used ≡ length work = omega arith in d)
