@@ -5,14 +5,18 @@
     replay_jobs.py compare ORACLE    ask the original again about every job of the list
 
 ORACLE is a program that answers jobs by the original bitvectors.rs (see oracle/README.md). `write` has it make COUNT jobs from
-SEED, and takes those that are short, and of the longer ones those that show an answer (rule, code, width) not seen yet.
+SEED, and takes of each sort the first MOST that are short, and of the others those that show an answer (rule, code, width) or a stop
+code not seen yet.
 """
+import collections
 import os
+import re
 import subprocess
 import sys
 import tempfile
 
-SEED, COUNT = 11, 1500
+SEED, COUNT = 11, 3500
+MOST = 40                      # jobs of one sort
 SHORT, LONGEST = 600, 6000    # bytes of a job
 LENT = 65536                  # the most that replay lends
 ANSWER = 10
@@ -52,12 +56,14 @@ def cases(oracle, folder):
 def write(oracle):
     with tempfile.TemporaryDirectory() as folder:
         found = [(w, j, f) for w, j, f in cases(oracle, folder) if int(f["work"]) <= LENT and int(f["room"]) <= LENT]
-    seen, chosen = set(), []
+    seen, sorts, chosen = set(), collections.Counter(), []
     for what, job, fields in found:
-        width = what.split("width ")[1].split(",")[0] if "width " in what else what
+        sort = re.sub(r"[0-9]+", "N", what)
+        width = what.split("width ")[1].split(",")[0] if "width " in what else ""
         new = {(pair, width) for pair in answered(fields)} - seen
-        if len(job) <= SHORT or (new and not what.startswith("mixed")):
+        if new or (len(job) <= SHORT and sorts[sort] < MOST):
             chosen.append((job, fields))
+            sorts[sort] += 1
             seen |= new
     with open(JOBS, "w") as jobs, open(STDOUT, "w") as out:
         for job, fields in chosen:
