@@ -25,7 +25,7 @@ fn udiv_check(job: &[u8], work: &[u8], n: usize, x: u32, y: u32, claim: u32) -> 
     let w = width_at(job, work, n, x);
     let xs = get_term_bits(job, work, n, x, w);
     let ys = get_term_bits(job, work, n, y, w);
-    let bits = circuits::divider::udiv(job, work, n, xs, ys, w);
+    let bits = shift_circuits::divider::udiv(job, work, n, xs, ys, w);
     compare_bits_form(job, work, n, bits, w, claim)
 }
 
@@ -51,7 +51,7 @@ fn urem_check(job: &[u8], work: &[u8], n: usize, x: u32, y: u32, claim: u32) -> 
     let w = width_at(job, work, n, x);
     let xs = get_term_bits(job, work, n, x, w);
     let ys = get_term_bits(job, work, n, y, w);
-    let bits = circuits::divider::urem(job, work, n, xs, ys, w);
+    let bits = shift_circuits::divider::urem(job, work, n, xs, ys, w);
     compare_bits_form(job, work, n, bits, w, claim)
 }
 

@@ -42,7 +42,7 @@ fn shl_check(job: &[u8], work: &[u8], n: usize, x: u32, y: u32, claim: u32) -> V
     let xs = get_term_bits(job, work, n, x, w);
     let ys = get_term_bits(job, work, n, y, w);
     let size = width_bits(job, work, n, w);
-    let bits = circuits::shift::shl(job, work, n, size, xs, ys, w);
+    let bits = shift_circuits::shift::shl(job, work, n, size, xs, ys, w);
     compare_bits(job, work, n, bits, w, claim)
 }
 
@@ -69,7 +69,7 @@ fn lshr_check(job: &[u8], work: &[u8], n: usize, x: u32, y: u32, claim: u32) -> 
     let xs = get_term_bits(job, work, n, x, w);
     let ys = get_term_bits(job, work, n, y, w);
     let size = width_bits(job, work, n, w);
-    let bits = circuits::shift::lshr(job, work, n, size, xs, ys, w);
+    let bits = shift_circuits::shift::lshr(job, work, n, size, xs, ys, w);
     compare_bits(job, work, n, bits, w, claim)
 }
 
@@ -96,7 +96,7 @@ fn ashr_check(job: &[u8], work: &[u8], n: usize, x: u32, y: u32, claim: u32) -> 
     let xs = get_term_bits(job, work, n, x, w);
     let ys = get_term_bits(job, work, n, y, w);
     let size = width_bits(job, work, n, w);
-    let bits = circuits::shift::ashr(job, work, n, size, xs, ys, w);
+    let bits = shift_circuits::shift::ashr(job, work, n, size, xs, ys, w);
     compare_bits_form(job, work, n, bits, w, claim)
 }
 

@@ -1,0 +1,193 @@
+// Division, bit by bit.
+use circuits::adder::ripple_carry_adder;
+use circuits::bits::FALSE;
+use circuits::bits::TRUE;
+use circuits::bits::eqs;
+use circuits::bits::ites;
+use circuits::bits::nots;
+use store::gates::all_of;
+use store::gates::eq2;
+use store::gates::ite3;
+use store::gates::not1;
+ghost use mathlib.Core.Path.{_≡_};
+ghost use mathlib.Core.List.{_∷_, [], _++_};
+ghost use Prim.Native.Nat.{_≤_};
+ghost use lib.ListN.{take, drop, getD};
+ghost use Rattle.theory.specs.Circuit.{drop-top, all-false, next-remainder, no-carry, divide-step, bitblast-udiv-urem-rec, is-zero, udiv, urem};
+ghost use Rattle.rows.specs.Rows.{kept};
+ghost use Rattle.rows.specs.Slots.{Table};
+ghost use Rattle.store.specs.Numbers.{numbers, false-number, is-false-number};
+
+// Whether every bit of x is literally `false`, where bitblast_udiv_urem_rec stops. No gate is read.
+fn all_false(x: [u32; 64], w: usize) -> bool
+    requires { ⌜ w ≤ 64 ⌝ }
+    ensures { λ r. ⌜ r ≡ all-false (numbers []) is-false-number (take w x) ⌝ }
+{
+    let mut i = 0;
+    while i < w {
+        if x[i] != FALSE {
+            return false;
+        }
+        i += 1;
+    }
+    true
+}
+
+// shift_left, with a bit coming in below: the top bit falls out.
+fn shift_left(x: [u32; 64], w: usize, low: u32) -> [u32; 64]
+    requires { ⌜ (1 ≤ w) × (w ≤ 64) ⌝ }
+    ensures { λ r. ⌜ take w r ≡ low ∷ drop-top (take w x) ⌝ }
+{
+    let mut out = [low; 64];
+    let mut i = 1;
+    while i < w {
+        out[i] = x[i - 1];
+        i += 1;
+    }
+    out
+}
+
+// shift_right, `false` coming in above: bit 0 falls out.
+fn shift_right(x: [u32; 64], w: usize) -> [u32; 64]
+    requires { ⌜ (1 ≤ w) × (w ≤ 64) ⌝ }
+    ensures { λ r. ⌜ take w r ≡ drop 1 (take w x) ++ (false-number ∷ []) ⌝ }
+{
+    let mut out = [FALSE; 64];
+    let mut i = 0;
+    while i < w - 1 {
+        out[i] = x[i + 1];
+        i += 1;
+    }
+    out[i] = FALSE;
+    out
+}
+
+// bitblast_udiv_urem_rec: the remainder shifted left, with bit 0 of the dividend added.
+fn next_remainder(job: &[u8], work: &[u8], n: usize, low: u32, r: [u32; 64], w: usize) -> [u32; 64]
+    requires { ⌜ Table (now job) (now work) n ⌝ }
+    requires { ⌜ (1 ≤ w) × (w ≤ 64) ⌝ }
+    ensures { λ s. ⌜ take w s ≡ next-remainder (numbers (kept (now (job .entry)) (now (work .entry)) n)) low (take w r) ⌝ }
+{
+    let one_if_odd = ite3(job, work, n, eq2(job, work, n, low, TRUE), TRUE, FALSE);
+    let shifted = shift_left(r, w, FALSE);
+    let falses = [FALSE; 64];
+    let sum = ripple_carry_adder(job, work, n, shifted, falses, w, one_if_odd);
+    sum.bits
+}
+
+// bitblast_udiv_urem_rec: whether x is below y, which Rust takes from the carry into the top bit of x - y: there is none.
+fn no_carry(job: &[u8], work: &[u8], n: usize, x: [u32; 64], y: [u32; 64], w: usize) -> u32
+    requires { ⌜ Table (now job) (now work) n ⌝ }
+    requires { ⌜ (1 ≤ w) × (w ≤ 64) ⌝ }
+    ensures { λ r. ⌜ r ≡ no-carry (numbers (kept (now (job .entry)) (now (work .entry)) n)) (take w x) (take w y) ⌝ }
+{
+    let not_y = nots(job, work, n, y, w);
+    let sum = ripple_carry_adder(job, work, n, x, not_y, w, TRUE);
+    not1(job, work, n, sum.carry)
+}
+
+// A quotient and a remainder.
+pub struct Division {
+    pub quot: [u32; 64],
+    pub rem: [u32; 64],
+}
+
+// bitblast_udiv_urem_rec, one step: from the quotient q and the remainder r of x shifted right. Where the remainder, shifted and with
+// bit 0 of x, is not below y, Rust does not subtract y: it makes every bit `true`.
+fn divide_step(
+    job: &[u8],
+    work: &[u8],
+    n: usize,
+    x: [u32; 64],
+    y: [u32; 64],
+    q: [u32; 64],
+    r: [u32; 64],
+    w: usize,
+) -> Division
+    requires { ⌜ Table (now job) (now work) n ⌝ }
+    requires { ⌜ (1 ≤ w) × (w ≤ 64) ⌝ }
+    ensures { λ d. ⌜ (take w (d .quot), take w (d .rem)) ≡ divide-step (numbers (kept (now (job .entry)) (now (work .entry)) n)) (getD x 0 0) (drop 1 (take w x)) (take w y) (take w q, take w r) ⌝ }
+{
+    let r1 = next_remainder(job, work, n, x[0], r, w);
+    let sign = no_carry(job, work, n, r1, y, w);
+    let low = ite3(job, work, n, sign, FALSE, TRUE);
+    let q1 = shift_left(q, w, low);
+    let trues = [TRUE; 64];
+    let r2 = ites(job, work, n, sign, r1, trues, w);
+    let below = no_carry(job, work, n, x, y, w);
+    let falses = [FALSE; 64];
+    let quot = ites(job, work, n, below, falses, q1, w);
+    let rem = ites(job, work, n, below, x, r2, w);
+    Division { quot, rem }
+}
+
+// bitblast_udiv_urem_rec: the quotient and the remainder of x by y; `left` bits of x are left to go down by.
+pub fn bitblast_udiv_urem_rec(
+    job: &[u8],
+    work: &[u8],
+    n: usize,
+    x: [u32; 64],
+    y: [u32; 64],
+    w: usize,
+    left: usize,
+) -> Division
+    requires { ⌜ Table (now job) (now work) n ⌝ }
+    requires { ⌜ (1 ≤ w) × (w ≤ 64) ⌝ }
+    ensures { λ d. ⌜ (take w (d .quot), take w (d .rem)) ≡ bitblast-udiv-urem-rec (numbers (kept (now (job .entry)) (now (work .entry)) n)) is-false-number left (take w x) (take w y) ⌝ }
+{
+    if left == 0 {
+        let zero = [FALSE; 64];
+        return Division {
+            quot: zero,
+            rem: zero,
+        };
+    }
+    if all_false(x, w) {
+        let zero = [FALSE; 64];
+        return Division {
+            quot: zero,
+            rem: zero,
+        };
+    }
+    let half = shift_right(x, w);
+    let d = bitblast_udiv_urem_rec(job, work, n, half, y, w, left - 1);
+    let q = d.quot;
+    let r = d.rem;
+    divide_step(job, work, n, x, y, q, r, w)
+}
+
+// bitblast_udiv_urem: that every bit of y is false, an And of any number, one too.
+fn is_zero(job: &[u8], work: &[u8], n: usize, y: [u32; 64], w: usize) -> u32
+    requires { ⌜ Table (now job) (now work) n ⌝ }
+    requires { ⌜ (1 ≤ w) × (w ≤ 64) ⌝ }
+    ensures { λ r. ⌜ r ≡ is-zero (numbers (kept (now (job .entry)) (now (work .entry)) n)) (take w y) ⌝ }
+{
+    let falses = [FALSE; 64];
+    let bits = eqs(job, work, n, y, falses, w);
+    all_of(job, work, n, &bits[..w])
+}
+
+// bitblast_udiv_urem, the quotient: all `true` where y is zero.
+pub fn udiv(job: &[u8], work: &[u8], n: usize, x: [u32; 64], y: [u32; 64], w: usize) -> [u32; 64]
+    requires { ⌜ Table (now job) (now work) n ⌝ }
+    requires { ⌜ (1 ≤ w) × (w ≤ 64) ⌝ }
+    ensures { λ r. ⌜ take w r ≡ udiv (numbers (kept (now (job .entry)) (now (work .entry)) n)) is-false-number (take w x) (take w y) ⌝ }
+{
+    let d = bitblast_udiv_urem_rec(job, work, n, x, y, w, w);
+    let zero = is_zero(job, work, n, y, w);
+    let quot = d.quot;
+    let trues = [TRUE; 64];
+    ites(job, work, n, zero, trues, quot, w)
+}
+
+// bitblast_udiv_urem, the remainder: x where y is zero.
+pub fn urem(job: &[u8], work: &[u8], n: usize, x: [u32; 64], y: [u32; 64], w: usize) -> [u32; 64]
+    requires { ⌜ Table (now job) (now work) n ⌝ }
+    requires { ⌜ (1 ≤ w) × (w ≤ 64) ⌝ }
+    ensures { λ r. ⌜ take w r ≡ urem (numbers (kept (now (job .entry)) (now (work .entry)) n)) is-false-number (take w x) (take w y) ⌝ }
+{
+    let d = bitblast_udiv_urem_rec(job, work, n, x, y, w, w);
+    let zero = is_zero(job, work, n, y, w);
+    let rem = d.rem;
+    ites(job, work, n, zero, x, rem, w)
+}
