@@ -8,7 +8,7 @@ use Rattle.theory.specs.Job.{Returned, call}
 use Rattle.theory.specs.Demand.{Demand3}
 use Rattle.theory.proofs.Bytes.{AllBytes}
 use Rattle.theory.proofs.Written.{demand-3-call}
-use Rattle.rows.specs.Promise.{Wiped}
+use Rattle.table.specs.Promise.{Wiped}
 use Rattle.bitblast.specs.declared.Outcome.{Outcome as Told}
 use Rattle.bitblast.specs.Walking.{told}
 

@@ -17,7 +17,7 @@ use Rattle.theory.specs.Plain.{Plain, entry, start, term-of, has, put, feed-ite
 use Rattle.theory.specs.Codes.{first-fault, all-below, well-sorted, room, tests, fault}
 use Rattle.theory.specs.Answer.{Answer}
 use Rattle.theory.specs.Job.{Outcome, outcome, answers-to, run-from, run}
-use Rattle.terms.proofs.Parts.{Whole, whole-parts}
+use Rattle.terms.proofs.Parts.{whole-parts}
 use Rattle.bitblast.specs.Walking.{Enough}
 
 -- ---- a record has at least four bytes

@@ -19,13 +19,13 @@ use Rattle.theory.specs.Job.{answers-to, Outcome, Returned, outcome, returned, 
 use Rattle.terms.specs.Framing.{record-at}
 use Rattle.terms.proofs.Reading.{stands}
 use Rattle.store.specs.Store.{Store, listed}
-use Rattle.store.specs.Interning.{Started}
-use Rattle.bitblast.specs.declared.records.Turn.{Turn}
+use Rattle.intern.specs.Interning.{Started}
+use Rattle.records.specs.declared.Turn.{Turn}
 use Rattle.bitblast.specs.declared.walk.State.{State}
-use Rattle.bitblast.specs.Answering.{with-answers}
-use Rattle.bitblast.specs.Turning.{passed, Turned}
+use Rattle.steps.specs.Answering.{with-answers}
+use Rattle.records.specs.Turning.{passed, Turned}
 use Rattle.bitblast.specs.Walking.{state, moved, Standing, Next, broken, taken, Walked}
-use Rattle.bitblast.proofs.Writing.{after-more, written-fits, one-answer}
+use Rattle.steps.proofs.Writing.{after-more, written-fits, one-answer}
 use Rattle.bitblast.proofs.Positions.{records-whole, records-broken, none-left, ends-whole, ends-broken}
 
 -- ---- the run, record by record

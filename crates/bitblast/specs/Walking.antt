@@ -9,9 +9,9 @@ use Rattle.theory.specs.Job.{Returned, returned, run, answers-after}
 use Rattle.terms.specs.Framing.{record-at}
 use Rattle.store.specs.Store.{Store}
 use Rattle.bitblast.specs.declared.Outcome.{Outcome}
-use Rattle.bitblast.specs.declared.records.Turn.{Turn}
+use Rattle.records.specs.declared.Turn.{Turn}
 use Rattle.bitblast.specs.declared.walk.State.{State}
-use Rattle.bitblast.specs.Turning.{passed, Turned}
+use Rattle.records.specs.Turning.{passed, Turned}
 
 -- what the host is told
 abbrev pub told : Outcome → Returned

@@ -1,7 +1,4 @@
 // The checker of a job: its records one after the other, the terms kept in work memory, and an answer for each step.
-mod answers;
-mod records;
-mod steps;
 pub mod totals;
 mod walk;
 
@@ -65,6 +62,6 @@ pub extern "C" fn bb_job(job: &[u8], work: &mut [u8], answers: &mut [u8]) -> Out
 {
     let n = used(job.len(), work.len());
     let outcome = check_job(job, &mut work[..n], answers);
-    rows::wipe(work);
+    table::wipe(work);
     outcome
 }

@@ -3,7 +3,7 @@ ghost use Prim.Native.Nat.{_≤_};
 ghost use lib.ListN.{length};
 ghost use Rattle.theory.specs.Limit.{max-job};
 ghost use Rattle.bitblast.specs.Walking.{Standing, Next, Walked};
-use crate::records::take_record;
+use records::take_record;
 use terms::Frame;
 use terms::Term;
 
@@ -55,7 +55,7 @@ pub fn walk(job: &[u8], work: &mut [u8], answers: &mut [u8]) -> State
     requires { ⌜ length (now job) ≤ max-job ⌝ }
     ensures { λ r. ⌜ Walked (now (job .entry)) (length (now (work .entry))) (now (answers .entry)) (now (answers .exit)) r ⌝ }
 {
-    store::intern::start(job, work);
+    intern::start(job, work);
     let mut s = State {
         at: 0,
         stop: 0,

@@ -10,7 +10,7 @@ ghost use Prim.Native.Nat.{_≤_};
 ghost use lib.ListN.{take};
 ghost use Rattle.theory.specs.Circuit.{sum-bit, next-carry, ripple-carry-adder, last-carry, negate};
 ghost use Rattle.rows.specs.Rows.{kept};
-ghost use Rattle.rows.specs.Slots.{Table};
+ghost use Rattle.table.specs.Slots.{Table};
 ghost use Rattle.store.specs.Numbers.{numbers};
 
 // ripple_carry_adder, one bit of the sum: x, y and the carry into it.

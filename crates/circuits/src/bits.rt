@@ -13,7 +13,7 @@ ghost use lib.ListN.{take};
 ghost use Rattle.theory.specs.Alethe.{bits};
 ghost use Rattle.theory.specs.Circuit.{zip-with, choose};
 ghost use Rattle.rows.specs.Rows.{kept};
-ghost use Rattle.rows.specs.Slots.{Table};
+ghost use Rattle.table.specs.Slots.{Table};
 ghost use Rattle.store.specs.Numbers.{numbers, bit-number};
 
 // The numbers of the terms `true` and `false`.

@@ -10,7 +10,7 @@ ghost use Prim.Native.Nat.{_≤_};
 ghost use lib.ListN.{take};
 ghost use Rattle.theory.specs.Circuit.{less-step, sign-step, bitblast-ult, slt, equality};
 ghost use Rattle.rows.specs.Rows.{kept};
-ghost use Rattle.rows.specs.Slots.{Table};
+ghost use Rattle.table.specs.Slots.{Table};
 ghost use Rattle.store.specs.Numbers.{numbers};
 
 // bitblast_ult, bit 0 alone: x is 0 and y is 1.

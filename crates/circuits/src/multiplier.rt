@@ -10,7 +10,7 @@ ghost use Prim.Native.Nat.{_≤_};
 ghost use lib.ListN.{take, drop};
 ghost use Rattle.theory.specs.Circuit.{ripple-carry-adder, partial-products, shift-add-multiplier};
 ghost use Rattle.rows.specs.Rows.{kept};
-ghost use Rattle.rows.specs.Slots.{Table};
+ghost use Rattle.table.specs.Slots.{Table};
 ghost use Rattle.store.specs.Numbers.{numbers, false-number};
 
 // One more row: added to the sum so far, from place j on. The places below j stay as they are.

@@ -29,7 +29,7 @@ use Rattle.terms.proofs.Lists.{listed-length}
 use Rattle.store.specs.Store.{Store}
 use Rattle.store.specs.Sorts.{Arguments}
 use Rattle.store.specs.Terms.{TermAt}
-use Rattle.store.proofs.Arguing.{operand-below}
+use Rattle.store.proofs.Arguments.{operand-below}
 use Rattle.operand_rules.specs.Rules.{tree}
 use Rattle.operand_rules.proofs.Forms.{good-guard, same-is, is-T, no-form, args-form, list-inside, below-of, fits, left-below, right-below, sides}
 use Rattle.operand_rules.proofs.Tests.{is-true}

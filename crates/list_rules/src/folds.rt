@@ -6,7 +6,7 @@ ghost use lib.ListN.{take};
 ghost use Rattle.theory.specs.Verdict.{held};
 ghost use Rattle.theory.specs.Rule.{compare};
 ghost use Rattle.rows.specs.Rows.{kept};
-ghost use Rattle.rows.specs.Slots.{Table};
+ghost use Rattle.table.specs.Slots.{Table};
 ghost use Rattle.store.specs.Numbers.{numbers};
 ghost use Rattle.operand_rules.specs.Rules.{number-in, tree, verdict-of};
 ghost use Rattle.list_rules.specs.Lists.{Alike, Many, circuit, least, folded-bits, expected, arguments};

@@ -15,7 +15,7 @@ ghost use Prim.Native.Nat.{_≤_};
 ghost use lib.ListN.{take, drop, getD};
 ghost use Rattle.theory.specs.Circuit.{drop-top, all-false, next-remainder, no-carry, divide-step, bitblast-udiv-urem-rec, is-zero, udiv, urem};
 ghost use Rattle.rows.specs.Rows.{kept};
-ghost use Rattle.rows.specs.Slots.{Table};
+ghost use Rattle.table.specs.Slots.{Table};
 ghost use Rattle.store.specs.Numbers.{numbers, false-number, is-false-number};
 
 // Whether every bit of x is literally `false`, where bitblast_udiv_urem_rec stops. No gate is read.

@@ -20,7 +20,7 @@ use Rattle.terms.specs.declared.Args.{Args}
 use Rattle.terms.specs.declared.Operands.the-variants.{List as Listed}
 use Rattle.terms.specs.Decoded.{listed as arguments}
 use Rattle.terms.proofs.Parts.{drop-take}
-use Rattle.store.proofs.Arguing.{count-length, operand-below}
+use Rattle.store.proofs.Arguments.{count-length, operand-below}
 use Rattle.shift_circuits.proofs.ShiftLaws.{top-bit}
 use Rattle.operand_rules.specs.Rules.{Operand, tree, number-in, width-in}
 use Rattle.slice_rules.specs.Given.{Concat, sorts-in}

@@ -25,7 +25,7 @@ use Rattle.terms.specs.Decoded.{op-of, operands-of, listed as arguments}
 use Rattle.terms.proofs.Term as E
 use Rattle.store.specs.Store.{Store}
 use Rattle.store.specs.Terms.{TermAt}
-use Rattle.store.proofs.Arguing.{count-length, operand-below}
+use Rattle.store.proofs.Arguments.{count-length, operand-below}
 use Rattle.operand_rules.specs.declared.Verdict as R
 use Rattle.operand_rules.specs.Rules.{tree, width-in, verdict-of}
 use Rattle.operand_rules.proofs.Forms.{others}

@@ -21,7 +21,7 @@ use Rattle.theory.proofs.Distinct.{Kept, tree-0, tree-1}
 use Rattle.theory.proofs.Distinct as T
 use Rattle.terms.specs.Framing.{record-at}
 use Rattle.rows.specs.Layout.{offset-at}
-use Rattle.rows.proofs.Face.{kept-at}
+use Rattle.table.proofs.Face.{kept-at}
 use Rattle.terms.specs.declared.Term.{Term as Decoded}
 use Rattle.terms.specs.declared.Term.the-variants as D
 use Rattle.terms.specs.declared.Item.{Item}

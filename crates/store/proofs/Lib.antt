@@ -1,9 +1,6 @@
 pub mod Reading
 pub mod Lookup
 pub mod Sorting
-pub mod Arguing
-pub mod Asking
+pub mod Arguments
 pub mod Keeping
-pub mod Growing
-pub mod Taking
 pub mod Claims

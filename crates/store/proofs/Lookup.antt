@@ -27,8 +27,8 @@ use Rattle.theory.proofs.Places.{tree-at}
 use Rattle.theory.proofs.Place.{item-is, agrees, find-from, find, lookup, place, item-says, says-item, found-from, constants-placed, place-tree, tree-place}
 use Rattle.rows.specs.Layout.{missing}
 use Rattle.rows.specs.Rows.{place-from, place-of}
-use Rattle.rows.specs.Keys.{record-of, all-places, place-list, place-constant}
-use Rattle.rows.specs.Keys.{numbers as number-bytes-of}
+use Rattle.table.specs.Keys.{record-of, all-places, place-list, place-constant}
+use Rattle.table.specs.Keys.{numbers as number-bytes-of}
 use Rattle.rows.proofs.RowLaws.{same-refl, same-sound}
 use Rattle.store.specs.Numbers.{number, numbers, bit-number, bb-number, constant-number}
 use Rattle.store.specs.Store.{records}

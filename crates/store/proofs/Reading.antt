@@ -14,7 +14,7 @@ use Rattle.theory.specs.Kind.{Op, Const, kind, Arity, exactly, arity, takes}
 use Rattle.theory.specs.Record.{Bytes, little-endian, word, words, bytes-of, kind-of, body-of, fits, arguments, Shape, plain, indexed, valued, shape-of, term, misfit, read-term, read-step, read-back, read}
 use Rattle.theory.proofs.Blast.{T-true}
 use Rattle.theory.proofs.Bytes.{AllBytes, Sound}
-use Rattle.rows.specs.Keys.{record-of, numbers, all-places}
+use Rattle.table.specs.Keys.{record-of, numbers, all-places}
 
 -- ---- numbers as bytes
 pub numbers-length : (xs : List ℕ) → length (numbers xs) ≡ 2 * length xs

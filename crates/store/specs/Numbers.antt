@@ -8,7 +8,7 @@ use Rattle.theory.specs.Kind.{Not, And, Or, Xor, Equals, Ite, BvBitOf, BvBbTerm
 use Rattle.theory.specs.Gates.{Gates}
 use Rattle.theory.specs.Record.{Bytes}
 use Rattle.rows.specs.Layout.{missing}
-use Rattle.rows.specs.Keys.{place-list, place-constant}
+use Rattle.table.specs.Keys.{place-list, place-constant}
 
 -- `true` is term 0, `false` is term 1
 abbrev pub true-number : ℕ

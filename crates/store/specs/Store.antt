@@ -13,7 +13,7 @@ use Rattle.theory.proofs.Run.{AllGood}
 use Rattle.theory.proofs.Distinct.{WellKept}
 use Rattle.rows.specs.Layout.{depth-at, width-at}
 use Rattle.rows.specs.Rows.{kept}
-use Rattle.rows.specs.Slots.{Table}
+use Rattle.table.specs.Slots.{Table}
 
 -- the plain list that these records build
 abbrev pub stored : List Bytes → Plain

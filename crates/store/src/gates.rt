@@ -4,7 +4,7 @@ ghost use Prim.Native.Nat.{_≤_};
 ghost use lib.ListN.{length};
 ghost use Rattle.theory.specs.Limit.{max-arguments};
 ghost use Rattle.rows.specs.Rows.{kept};
-ghost use Rattle.rows.specs.Slots.{Table};
+ghost use Rattle.table.specs.Slots.{Table};
 ghost use Rattle.store.specs.Numbers.{numbers, bit-number, bb-number, constant-number};
 
 // The numbers of the kinds that are looked up.
@@ -30,42 +30,42 @@ pub fn not1(job: &[u8], work: &[u8], n: usize, x: u32) -> u32
     requires { ⌜ Table (now job) (now work) n ⌝ }
     ensures { λ r. ⌜ r ≡ numbers (kept (now (job .entry)) (now (work .entry)) n) .not-gate x ⌝ }
 {
-    rows::find_one(job, work, n, NOT, x)
+    table::find_one(job, work, n, NOT, x)
 }
 
 pub fn and2(job: &[u8], work: &[u8], n: usize, x: u32, y: u32) -> u32
     requires { ⌜ Table (now job) (now work) n ⌝ }
     ensures { λ r. ⌜ r ≡ numbers (kept (now (job .entry)) (now (work .entry)) n) .and-gate x y ⌝ }
 {
-    rows::find_two(job, work, n, AND, x, y)
+    table::find_two(job, work, n, AND, x, y)
 }
 
 pub fn or2(job: &[u8], work: &[u8], n: usize, x: u32, y: u32) -> u32
     requires { ⌜ Table (now job) (now work) n ⌝ }
     ensures { λ r. ⌜ r ≡ numbers (kept (now (job .entry)) (now (work .entry)) n) .or-gate x y ⌝ }
 {
-    rows::find_two(job, work, n, OR, x, y)
+    table::find_two(job, work, n, OR, x, y)
 }
 
 pub fn xor2(job: &[u8], work: &[u8], n: usize, x: u32, y: u32) -> u32
     requires { ⌜ Table (now job) (now work) n ⌝ }
     ensures { λ r. ⌜ r ≡ numbers (kept (now (job .entry)) (now (work .entry)) n) .xor-gate x y ⌝ }
 {
-    rows::find_two(job, work, n, XOR, x, y)
+    table::find_two(job, work, n, XOR, x, y)
 }
 
 pub fn eq2(job: &[u8], work: &[u8], n: usize, x: u32, y: u32) -> u32
     requires { ⌜ Table (now job) (now work) n ⌝ }
     ensures { λ r. ⌜ r ≡ numbers (kept (now (job .entry)) (now (work .entry)) n) .eq-gate x y ⌝ }
 {
-    rows::find_two(job, work, n, EQUALS, x, y)
+    table::find_two(job, work, n, EQUALS, x, y)
 }
 
 pub fn ite3(job: &[u8], work: &[u8], n: usize, c: u32, x: u32, y: u32) -> u32
     requires { ⌜ Table (now job) (now work) n ⌝ }
     ensures { λ r. ⌜ r ≡ numbers (kept (now (job .entry)) (now (work .entry)) n) .ite-gate c x y ⌝ }
 {
-    rows::find_three(job, work, n, ITE, c, x, y)
+    table::find_three(job, work, n, ITE, c, x, y)
 }
 
 // An And of any number of arguments.
@@ -73,7 +73,7 @@ pub fn all_of(job: &[u8], work: &[u8], n: usize, xs: &[u32]) -> u32
     requires { ⌜ Table (now job) (now work) n × (length (now xs) ≤ max-arguments) ⌝ }
     ensures { λ r. ⌜ r ≡ numbers (kept (now (job .entry)) (now (work .entry)) n) .all-gate (now (xs .entry)) ⌝ }
 {
-    rows::find_list(job, work, n, AND, xs)
+    table::find_list(job, work, n, AND, xs)
 }
 
 // Bit i of term x.
@@ -81,7 +81,7 @@ pub fn bit_of(job: &[u8], work: &[u8], n: usize, i: u32, x: u32) -> u32
     requires { ⌜ Table (now job) (now work) n ⌝ }
     ensures { λ r. ⌜ r ≡ bit-number (kept (now (job .entry)) (now (work .entry)) n) i x ⌝ }
 {
-    rows::find_two(job, work, n, BV_BIT_OF, i, x)
+    table::find_two(job, work, n, BV_BIT_OF, i, x)
 }
 
 // The BvBbTerm of these bits.
@@ -89,7 +89,7 @@ pub fn bb_term(job: &[u8], work: &[u8], n: usize, xs: &[u32]) -> u32
     requires { ⌜ Table (now job) (now work) n × (length (now xs) ≤ max-arguments) ⌝ }
     ensures { λ r. ⌜ r ≡ bb-number (kept (now (job .entry)) (now (work .entry)) n) (now (xs .entry)) ⌝ }
 {
-    rows::find_list(job, work, n, BV_BB_TERM, xs)
+    table::find_list(job, work, n, BV_BB_TERM, xs)
 }
 
 // The constant of this width and value.
@@ -97,5 +97,5 @@ pub fn constant(job: &[u8], work: &[u8], n: usize, width: u32, value: u64) -> u3
     requires { ⌜ Table (now job) (now work) n ⌝ }
     ensures { λ r. ⌜ r ≡ constant-number (kept (now (job .entry)) (now (work .entry)) n) width value ⌝ }
 {
-    rows::find_constant(job, work, n, CONSTANT, width, value)
+    table::find_constant(job, work, n, CONSTANT, width, value)
 }

@@ -1,7 +1,4 @@
-// The terms of a job: gates looked up among the kept records, the sorts and depths of terms, and terms kept and dropped.
-pub mod arguments;
+// The kept terms of a job, read: gates looked up among their records, a term at a place, its sort and depth.
 pub mod gates;
-pub mod intern;
-pub mod kinds;
 pub mod sorts;
 pub mod terms_at;

@@ -1,12 +1,21 @@
--- Numbers in bytes: the loop that sums the bytes of a number from the highest down.
+-- Bytes, and numbers in bytes: the loop that sums the bytes of a number from the highest down.
 use mathlib.Core.Path.{_≡_, refl, sym, _∙_}
 use mathlib.Core.List.{[], _∷_}
 use Prim.Native.Nat.{ℕ, suc, _+_, _-_, _*_, _^_, _<_, _≤_}
 use native.Mathlib.Nat.{pow-succ', pow-le-pow-right}
 use native.Mathlib.Omega.{arith}
+use mir.Syntax.{w8}
+use mir.Val.{Fits}
 use lib.ListN.{length, take, drop, getD, length-drop, List·getD-eq-default}
 use lib.Seq.{take-nil, getD-drop, drop-drop}
 use Rattle.theory.specs.Record.{Bytes, little-endian}
+use Rattle.theory.proofs.Bytes.{AllBytes}
+
+-- ---- bytes
+-- every element of a slice of bytes is one
+pub all-bytes : (bs : Bytes) → ((i : ℕ) → Fits w8 (getD bs i 0)) → AllBytes bs
+all-bytes [] f = tt
+all-bytes (b ∷ bs) f = (f 0 .fits, all-bytes bs (λ i. f (suc i)))
 
 -- ---- a byte after a place, 0 past the end
 pub byte-past : (s : Bytes) (at i : ℕ) → length s - at ≤ i → 0 ≡ getD (drop at s) i 0

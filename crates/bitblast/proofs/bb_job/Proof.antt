@@ -6,7 +6,7 @@ use native.Mathlib.Omega.{arith}
 use lib.ListN.{length}
 use lib.Seq.{length-take-le}
 use denote.Ref.{now}
-use Rattle.store.proofs.Taking.{all-bytes}
+use Rattle.terms.proofs.Numbers.{all-bytes}
 use Rattle.theory.specs.Job.{Outcome, returned, answers-after}
 use Rattle.bitblast.proofs.Calls.{zeros, called}
 use Rattle.bitblast.proofs.Enough.{run-enough}

@@ -2,7 +2,7 @@
 use native.Mathlib.Omega.{arith}
 use borrow.Author.Needs.{needs}
 use denote.Ref.{now}
-use Rattle.store.proofs.Taking.{all-bytes}
+use Rattle.terms.proofs.Numbers.{all-bytes}
 use Rattle.console.proofs.Showing.{showed, none-shown, long-shown, job-shown}
 use Rattle.console.proofs.bbcheck_text.Statement.{statement}
 use Rattle.console.proofs.bbcheck_text.Tie as tie

@@ -5,7 +5,7 @@ use native.Mathlib.Omega.{arith}
 use denote.Ref.{now}
 use Rattle.terms.specs.declared.Operands.the-variants.{List as Listed}
 use Rattle.terms.specs.Decoded.{listed}
-use Rattle.store.proofs.Arguing.{count-length}
+use Rattle.store.proofs.Arguments.{count-length}
 use Rattle.slice_rules.proofs.Literals.{Summing, sum-start, sum-small, sum-turn, sum-lost, sum-same, sum-other}
 use Rattle.slice_rules.proofs.constants.value_check.Statement.{statement}
 use Rattle.slice_rules.proofs.constants.value_check.Tie as tie

@@ -9,7 +9,7 @@ use Rattle.theory.specs.Bits.{concat-bits}
 use Rattle.theory.specs.Verdict.{held}
 use Rattle.terms.specs.declared.Operands.the-variants.{List as Listed}
 use Rattle.terms.specs.Decoded.{listed}
-use Rattle.store.proofs.Arguing.{count-length}
+use Rattle.store.proofs.Arguments.{count-length}
 use Rattle.operand_rules.specs.Rules.{Operand, tree, width-in}
 use Rattle.operand_rules.proofs.Numbers.{operand-as, bits-end}
 use Rattle.slice_rules.proofs.Copying.{Joining, argument-operand, join-start, join-fits, join-turn, join-end, join-small}

@@ -7,7 +7,7 @@ use denote.Ref.{now}
 use Rattle.theory.specs.Sort.{sort-width}
 use Rattle.terms.specs.declared.Operands.the-variants.{List as Listed}
 use Rattle.terms.specs.Decoded.{listed}
-use Rattle.store.proofs.Arguing.{count-length, operand-below}
+use Rattle.store.proofs.Arguments.{count-length, operand-below}
 use Rattle.slice_rules.proofs.SliceLaws.{Slicing, slices-start, slices-turn, slices-refused, slices-end}
 use Rattle.slice_rules.proofs.slicing.slices_check.Statement.{statement}
 use Rattle.slice_rules.proofs.slicing.slices_check.Tie as tie

@@ -1,0 +1,5 @@
+pub mod Guarding
+pub mod Arguing
+pub mod Asking
+pub mod Growing
+pub mod Taking

@@ -1,0 +1,73 @@
+-- What callers are promised when the store starts, is cut back, and takes a term.
+use mathlib.Core.Path.{_≡_}
+use mathlib.Core.Bool.{Bool, true, _||_, cond}
+use mathlib.Core.List.{[], _∷_}
+use Prim.Native.Nat.{ℕ, _+_, _-_}
+use lib.ListN.{length, take, drop, replicate}
+use Rattle.theory.specs.Limit.{first-terms}
+use Rattle.theory.specs.Record.{Bytes, whole, read}
+use Rattle.theory.specs.Plain.{Plain, term-of, has, feed}
+use Rattle.theory.specs.Plain as P
+use Rattle.theory.specs.Codes.{first-fault, well-sorted, room}
+use Rattle.terms.specs.declared.Term.{Term}
+use Rattle.terms.specs.declared.Item.the-variants as I
+use Rattle.terms.specs.Framing.{record-at}
+use Rattle.terms.specs.Decoded.{op-of, operands-of, arguments-of, item-of}
+use Rattle.store.specs.Store.{Store, listed}
+use Rattle.store.specs.Sorts.{Arguments}
+use Rattle.intern.specs.declared.Interned.{Interned}
+use Rattle.intern.specs.declared.Interned.the-variants.{Unsorted, Spent, Found, New}
+
+-- the store is empty: `true` and `false` alone, and the work memory is all zero
+pub record Started (job work after : Bytes) : Type 0 where
+  pub store : Store job after 0
+  pub listed-is : listed job after 0 ≡ P.start
+  pub all-zero : after ≡ replicate (length work) 0
+
+-- of n rows those of the first `count` places are kept
+pub record CutBack (job work after : Bytes) (n count : ℕ) : Type 0 where
+  pub store : Store job after (count - first-terms)
+  pub listed-is : listed job after (count - first-terms) ≡ take count (listed job work n)
+
+-- ---- taking a term
+-- document 01's code of an answer
+abbrev pub code-of : Interned → ℕ
+code-of Unsorted = 7
+code-of Spent = 8
+code-of (Found m) = 0
+code-of (New m) = 0
+
+-- the rows after it
+abbrev pub rows-after : Interned → ℕ → ℕ
+rows-after Unsorted n = n
+rows-after Spent n = n
+rows-after (Found m) n = m
+rows-after (New m) n = m
+
+-- the list after it: fed the record where the code is 0
+abbrev pub list-after : Interned → Plain → Bytes → Plain
+list-after Unsorted list r = list
+list-after Spent list r = list
+list-after (Found m) list r = feed list r
+list-after (New m) list r = feed list r
+
+-- the answer where the term has a sort or not, its record is there or not, and there is room or not
+unfoldable pub answer-for : Bool → Bool → Bool → ℕ → Interned
+answer-for sorted there roomy n = cond sorted (cond there (Found n) (cond roomy (New (n + 1)) Spent)) Unsorted
+
+-- a whole record stands at `at` and says the term t, whose arguments are kept
+pub record Offered (job work : Bytes) (n at : ℕ) (t : Term) : Type 0 where
+  pub arguments : Arguments job work n (operands-of t)
+  pub stands : whole (drop at job) ≡ true
+  pub says : item-of job (I.Term t) ≡ read (record-at job at)
+
+-- the term was taken or not: the answer, its code by document 01's tests 7 and 8, and the store then
+pub record Taken (job work after : Bytes) (n at : ℕ) (t : Term) (answer : Interned) : Type 0 where
+  pub answer-is : answer
+      ≡ answer-for (well-sorted (term-of (listed job work n) (op-of t) (arguments-of job t))) (has (listed job work n) (record-at job at))
+      (room (length work) (listed job work n)) n
+  pub code-is : code-of answer
+      ≡ first-fault ((well-sorted (term-of (listed job work n) (op-of t) (arguments-of job t)), 7)
+      ∷ (has (listed job work n) (record-at job at) || room (length work) (listed job work n), 8) ∷ [])
+  pub store : Store job after (rows-after answer n)
+  pub listed-is : listed job after (rows-after answer n) ≡ list-after answer (listed job work n) (record-at job at)

@@ -1,0 +1,3 @@
+-- What the contracts of `intern` cite.
+pub mod Kinds
+pub mod Interning

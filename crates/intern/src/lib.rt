@@ -1,0 +1,60 @@
+// The store of terms: emptied at the start of a job, grown by a record's term, cut back to a count of terms.
+mod arguments;
+mod guards;
+mod kinds;
+
+ghost use Prim.Native.Nat.{_+_, _-_, _≤_};
+ghost use lib.ListN.{length};
+ghost use Rattle.theory.specs.Limit.{first-terms, max-job};
+ghost use Rattle.store.specs.Store.{Store};
+ghost use Rattle.intern.specs.Interning.{Started, CutBack, Offered, Taken};
+use crate::guards::same_sort;
+use crate::kinds::depth_of;
+use crate::kinds::sort_of;
+use store::sorts::Sort;
+use store::sorts::width_of;
+use table::Added;
+use terms::Term;
+
+// What became of a record's term: it has no sort, there is no room for it, or it is kept, and there are so many rows then.
+pub enum Interned {
+    Unsorted,
+    Spent,
+    Found(usize),
+    New(usize),
+}
+
+// Empties the work memory: `true` and `false` are the only terms.
+pub fn start(job: &[u8], work: &mut [u8])
+    requires { ⌜ length (now job) ≤ max-job ⌝ }
+    ensures { λ _. ⌜ Started (now (job .entry)) (now (work .entry)) (now (work .exit)) ⌝ }
+{
+    table::wipe(work);
+}
+
+// Drops the terms from place `count` on: the first `count` stay, `true` and `false` counted.
+pub fn back(job: &[u8], work: &mut [u8], n: usize, count: usize)
+    requires { ⌜ Store (now job) (now work) n × (first-terms ≤ count) × (count ≤ first-terms + n) ⌝ }
+    ensures { λ _. ⌜ CutBack (now (job .entry)) (now (work .entry)) (now (work .exit)) n count ⌝ }
+{
+    table::drop_rows(job, work, n, count - rows::FIRST_PLACE);
+}
+
+// Keeps the term that the record at `at` says, unless it is kept already, has no sort, or there is no room for it.
+pub fn intern(job: &[u8], work: &mut [u8], n: usize, at: usize, term: Term) -> Interned
+    requires { ⌜ Offered (now job) (now work) n at term ⌝ }
+    ensures { λ r. ⌜ Taken (now (job .entry)) (now (work .entry)) (now (work .exit)) n at term r ⌝ }
+{
+    let s = sort_of(job, work, n, term);
+    if same_sort(s, Sort::Bad) {
+        return Interned::Unsorted;
+    }
+    let depth = depth_of(job, work, n, term);
+    let width = width_of(s) as usize;
+    let added = table::add(job, work, n, at, depth, width);
+    match added {
+        Added::Found(_) => Interned::Found(n),
+        Added::New(_) => Interned::New(n + 1),
+        Added::Spent => Interned::Spent,
+    }
+}

@@ -1,0 +1,2 @@
+pub mod StepTests
+pub mod Turns

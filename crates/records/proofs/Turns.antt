@@ -1,0 +1,188 @@
+-- What became of a record, by what it was read as.
+use mathlib.Core.Path.{_≡_, refl, sym, ap, subst, _∙_}
+use mathlib.Core.Bool.{Bool, true, false}
+use mathlib.Core.List.{List, [], _∷_, map}
+use mathlib.Core.Option.{some}
+use Prim.Native.Nat.{ℕ, zero, suc, _+_, _-_, _<_, _≤_}
+use native.Mathlib.Omega.{arith}
+use lib.ListN.{length, drop}
+use borrow.Author.Tests.{le-leb, lt-leb}
+use Rattle.theory.specs.Limit.{first-terms}
+use Rattle.theory.specs.RuleTable.{Rule, rule-at}
+use Rattle.theory.specs.Record.{Bytes, whole, read}
+use Rattle.theory.specs.Record as R
+use Rattle.theory.specs.Plain.{Plain, feed, feed-item}
+use Rattle.theory.specs.Codes.{first-fault, all-below, step-tests, tests, fault}
+use Rattle.theory.specs.Answer.{Answer}
+use Rattle.theory.specs.Job.{answer-to, item-answers, answers-to}
+use Rattle.theory.proofs.Places.{tree-at}
+use Rattle.theory.proofs.Run.{StepPassed, step-passed, step-answer}
+use Rattle.terms.specs.declared.Args.{Args}
+use Rattle.terms.specs.declared.Item.{Item}
+use Rattle.terms.specs.declared.Item.the-variants as I
+use Rattle.terms.specs.declared.Term.{Term}
+use Rattle.terms.specs.Framing.{record-at}
+use Rattle.terms.specs.Decoded.{Placed, item-of, arguments-of, listed as numbers}
+use Rattle.store.specs.Store.{Store, listed}
+use Rattle.intern.specs.Interning.{CutBack, Offered, Taken, code-of, rows-after, list-after}
+use Rattle.intern.specs.declared.Interned.{Interned}
+use Rattle.intern.specs.declared.Interned.the-variants as N
+use Rattle.steps.specs.declared.answers.Reply.{Reply}
+use Rattle.records.specs.declared.Turn.{Turn}
+use Rattle.steps.specs.Answering.{given, with-answers, Literals}
+use Rattle.records.specs.Turning.{passed, turn, Reading, Turned}
+use Rattle.operand_rules.proofs.Tests.{is-true}
+use Rattle.steps.proofs.Writing.{none-written}
+
+-- a record that was read as an item
+pub reading : {job work : Bytes} {rows at : ℕ} {item k : Item} → Store job work rows → whole (drop at job) ≡ true → item-of job item ≡ read (record-at job at)
+    → Placed job item → item ≡ k → Reading job work rows at k
+reading {job} {work} {rows} {at} s w e p f = subst (Reading job work rows at) f (record { store = s; stands = w; says = e; placed = p })
+
+module _ {job work : Bytes} {rows at : ℕ} {item : Item} (g : Reading job work rows at item) (answers : Bytes) (answered : ℕ) where
+  -- the list before the record, and the record
+  abbrev list : Plain
+  list = listed job work rows
+
+  abbrev r : Bytes
+  r = record-at job at
+
+  -- the code of the item's tests
+  abbrev code : ℕ
+  code = first-fault (tests (length work) (length answers) list answered r (item-of job item))
+
+  -- it is the record's
+  fault-is : code ≡ fault (length work) (length answers) list answered r
+  unfolding fault
+  fault-is = ap (λ (i : R.Item). first-fault (tests (length work) (length answers) list answered r i)) (g .says)
+
+  -- what the item does to the list, the record does
+  feed-is : feed-item list r (item-of job item) ≡ feed list r
+  unfolding feed
+  feed-is = ap (feed-item list r) (g .says)
+
+  -- the item's answers are the record's
+  answers-are : item-answers list (item-of job item) ≡ answers-to list r
+  unfolding answers-to
+  answers-are = ap (item-answers list) (g .says)
+
+  -- a turn that writes no answer
+  unanswered : {after : Bytes} {c n : ℕ} → c ≡ code → Store job after n → listed job after n ≡ passed c (feed list r) list → passed c (answers-to list r) [] ≡ []
+      → Turned job work answers rows answered r after answers (turn c answered n)
+  unanswered e s l a = record {
+    code-is = e ∙ fault-is;
+    store = s;
+    listed-is = l;
+    answers-is = sym (ap (λ (xs : List Answer). answered + length xs) a ∙ omega arith);
+    written-is = sym (ap (with-answers answers answered) a ∙ none-written answers answered);
+  }
+
+  -- a code stops the job
+  pub stopped : (c : ℕ) → (c ≡ 0 → ⊥) → c ≡ code → Turned job work answers rows answered r work answers (turn c answered rows)
+  stopped zero h e = absurd (h refl)
+  stopped (suc c) h e = unanswered e (g .store) refl refl
+
+-- ---- a term
+-- what the store asks of a term that it is offered
+pub offered : {job work : Bytes} {rows at : ℕ} {t : Term} → Reading job work rows at (I.Term t) → all-below (rows + first-terms) (arguments-of job t) ≡ true → Offered job work rows at t
+offered {job} {work} {rows} {at} {t} g e =
+    let same : first-terms + rows ≡ rows + first-terms = omega arith in
+    record {
+      arguments = record { store = g .store; placed = g .placed; below = ap (λ (n : ℕ). all-below n (arguments-of job t)) same ∙ e };
+      stands = g .stands;
+      says = g .says;
+    }
+
+module _ {job work : Bytes} {rows at : ℕ} {t : Term} (g : Reading job work rows at (I.Term t)) (answers : Bytes) (answered : ℕ) where
+  -- as many terms are kept as the code counts
+  first-test : {b : Bool} → all-below (rows + first-terms) (arguments-of job t) ≡ b → all-below (length (listed job work rows)) (arguments-of job t) ≡ b
+  first-test e =
+      let c = g .store .count in
+      let same : length (listed job work rows) ≡ rows + first-terms = omega arith in
+      ap (λ (n : ℕ). all-below n (arguments-of job t)) same ∙ e
+
+  -- an argument is not kept
+  pub not-below : all-below (rows + first-terms) (arguments-of job t) ≡ false → Turned job work answers rows answered (record-at job at) work answers (turn 6 answered rows)
+  not-below e = stopped g answers answered 6 (λ z. omega arith) (rw (first-test e))
+
+  -- the term is offered to the store, and the store's answer says the rest
+  pub term-turned : {after : Bytes} {a : Interned} → all-below (rows + first-terms) (arguments-of job t) ≡ true → Taken job work after rows at t a
+      → {u : Turn} → u ≡ turn (code-of a) answered (rows-after a rows) → Turned job work answers rows answered (record-at job at) after answers u
+  term-turned {after} {a} e k d =
+      subst (Turned job work answers rows answered (record-at job at) after answers) (sym d)
+      (unanswered g answers answered (k .code-is ∙ rw (first-test e)) (k .store) (k .listed-is ∙ by-code a) (no-answers a))
+    where
+      by-code : (x : Interned) → list-after x (listed job work rows) (record-at job at) ≡ passed (code-of x) (feed (listed job work rows) (record-at job at)) (listed job work rows)
+      by-code N.Unsorted = refl
+      by-code N.Spent = refl
+      by-code (N.Found m) = refl
+      by-code (N.New m) = refl
+
+      no-answers : (x : Interned) → passed (code-of x) (answers-to (listed job work rows) (record-at job at)) [] ≡ []
+      no-answers N.Unsorted = refl
+      no-answers N.Spent = refl
+      no-answers (N.Found m) = sym (answers-are g answers answered)
+      no-answers (N.New m) = sym (answers-are g answers answered)
+
+-- ---- a back
+module _ {job work : Bytes} {rows at n : ℕ} (g : Reading job work rows at (I.Back n)) (answers : Bytes) (answered : ℕ) where
+  -- its count is too low
+  pub back-low : n < first-terms → Turned job work answers rows answered (record-at job at) work answers (turn 18 answered rows)
+  back-low h = stopped g answers answered 18 (λ z. omega arith) (rw (lt-leb first-terms n h))
+
+  -- its count is too high
+  pub back-high : first-terms ≤ n → rows + first-terms < n → Turned job work answers rows answered (record-at job at) work answers (turn 18 answered rows)
+  back-high h k =
+      let c = g .store .count in
+      stopped g answers answered 18 (λ z. omega arith) (rw (le-leb first-terms n h, lt-leb n (length (listed job work rows)) (omega arith)))
+
+  -- the list is cut back
+  pub back-turned : {after : Bytes} → first-terms ≤ n → n ≤ rows + first-terms → CutBack job work after rows n
+      → Turned job work answers rows answered (record-at job at) after answers (turn 0 answered (n - first-terms))
+  back-turned h k b =
+      let c = g .store .count in
+      unanswered g answers answered (rw (le-leb first-terms n h, le-leb n (length (listed job work rows)) (omega arith))) (b .store)
+      (b .listed-is ∙ feed-is g answers answered) (sym (answers-are g answers answered))
+
+-- ---- a step
+module _ {job work : Bytes} {rows at rule : ℕ} {literals : Args} (g : Reading job work rows at (I.Step rule literals)) (answers : Bytes) (answered : ℕ) {c : ℕ}
+    (f : c ≡ first-fault (step-tests (rows + first-terms) (length answers) answered rule (numbers job literals))) where
+  -- as many terms are kept as the code counts
+  same-code : c ≡ code g answers answered
+  same-code =
+      let n = g .store .count in
+      let e : rows + first-terms ≡ length (listed job work rows) = omega arith in
+      f ∙ ap (λ (k : ℕ). first-fault (step-tests k (length answers) answered rule (numbers job literals))) e
+
+  -- a test fails
+  pub step-stopped : (c ≡ 0 → ⊥) → Turned job work answers rows answered (record-at job at) work answers (turn c answered rows)
+  step-stopped h = stopped g answers answered c h same-code
+
+  -- all tests pass: the literals are kept, there is such a rule, and there is room for the answer
+  pub step-right : c ≡ 0 → StepPassed (length answers) (listed job work rows) answered rule (numbers job literals)
+  step-right z = step-passed (length work) (length answers) (listed job work rows) answered (record-at job at) rule (numbers job literals) (sym same-code ∙ z)
+
+  -- so they may be answered
+  pub step-literals : c ≡ 0 → Literals job work rows literals
+  step-literals z = record {
+    store = g .store;
+    inside = g .placed;
+    below = ap (λ (n : ℕ). all-below n (numbers job literals)) (sym (g .store .count)) ∙ is-true _ (step-right z .below);
+  }
+
+  -- its answer is written
+  pub step-turned : c ≡ 0 → {reply : Reply} {after : Bytes}
+      → ((by : Rule) → rule-at rule ≡ some by → given rule reply ≡ answer-to rule by (map (tree-at (listed job work rows)) (numbers job literals)))
+      → after ≡ with-answers answers answered (given rule reply ∷ []) → Turned job work answers rows answered (record-at job at) work after (turn 0 (answered + 1) rows)
+  step-turned z {reply} says wrote =
+      let p = step-right z in
+      let one : answers-to (listed job work rows) (record-at job at) ≡ given rule reply ∷ []
+      = sym (answers-are g answers answered) ∙ step-answer (length answers) (listed job work rows) answered rule (numbers job literals) p
+      ∙ ap (λ (a : Answer). a ∷ []) (sym (says (p .rule) (p .rule-is))) in
+      record {
+        code-is = sym z ∙ same-code ∙ fault-is g answers answered;
+        store = g .store;
+        listed-is = feed-is g answers answered;
+        answers-is = sym (ap (λ (xs : List Answer). answered + length xs) one);
+        written-is = wrote ∙ sym (ap (with-answers answers answered) one);
+      }

@@ -1,0 +1,41 @@
+-- `step_record`: a step that passes has a rule and literals, so its answer is theory's.
+use borrow.Author.Needs.{needs}
+use denote.Ref.{now}
+use Rattle.records.proofs.Turns.{step-stopped, step-right, step-literals, step-turned}
+use Rattle.records.proofs.step_record.Statement.{statement}
+use Rattle.records.proofs.step_record.Tie as tie
+
+returns : tie.Need-returns
+returns c =
+    let s = c .before .before .before .before .before in
+    step-stopped (s .pre .0) (now (s .args .answers)) (s .args .answered) (c .before .step-fault .ensures) (c .if1 .taken)
+
+answer-requires : tie.Need-answer-requires
+answer-requires c κs =
+    let s = c .before .before .before .before .before in
+    step-literals (s .pre .0) (now (s .args .answers)) (s .args .answered) (c .before .step-fault .ensures) (c .if1 .left)
+
+put-answer-requires : tie.Need-put-answer-requires
+put-answer-requires c κs =
+    let e = c .before .before in
+    let s = e .before .before .before .before .before in
+    step-right (s .pre .0) (now (s .args .answers)) (s .args .answered) (e .before .step-fault .ensures) (e .if1 .left) .roomy
+
+returns-2 : tie.Need-returns-2
+returns-2 c =
+    let e = c .before .before .before .before .before in
+    let s = e .before .before .before .before .before in
+    step-turned (s .pre .0) (now (s .args .answers)) (s .args .answered) (e .before .step-fault .ensures) (e .if1 .left)
+    (c .before .before .before .before .answer .ensures) (c .before .before .put-answer .ensures)
+
+pub step-record-spec : {M : Type 1} → statement M
+step-record-spec =
+    tie.close
+    (tie.spec
+    (λ c κs. search needs)
+    returns
+    answer-requires
+    put-answer-requires
+    (λ c. search needs)
+    (λ c. search needs)
+    returns-2)

@@ -1,0 +1,37 @@
+-- `term_record`: the arguments are tested here, sort and room by the store.
+use borrow.Author.Needs.{needs}
+use mathlib.Core.Path.{sym, _∙_}
+use borrow.Author.Tests.{not-true, not-false}
+use Rattle.records.proofs.Turns.{offered, not-below, term-turned}
+use Rattle.records.proofs.term_record.Statement.{statement}
+use Rattle.records.proofs.term_record.Tie as tie
+
+returns : tie.Need-returns
+returns c =
+    let s = c .before .before .before .before in
+    λ answers. not-below (s .pre) answers (s .args .answered) (sym (c .before .below .ensures) ∙ not-true _ (c .if1 .taken))
+
+intern-requires : tie.Need-intern-requires
+intern-requires c κs =
+    let b = c .before .before in
+    offered (b .before .before .before .pre) (sym (b .below .ensures) ∙ not-false _ (c .before .if1 .left))
+
+returns-2 : tie.Need-returns-2
+returns-2 c =
+    let i = c .before .before .before in
+    let b = i .before .before .before in
+    let s = b .before .before .before in
+    λ answers. term-turned (s .pre) answers (s .args .answered) (sym (b .below .ensures) ∙ not-false _ (i .before .before .if1 .left)) (i .intern .ensures) (c .kept-turn .ensures)
+
+pub term-record-spec : {M : Type 1} → statement M
+term-record-spec =
+    tie.close
+    (tie.spec
+    (λ c. search needs)
+    (λ c. search needs)
+    (λ c κs. search needs)
+    returns
+    intern-requires
+    (λ c κs. search needs)
+    (λ c. search needs)
+    returns-2)

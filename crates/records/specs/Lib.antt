@@ -1,0 +1,2 @@
+-- What the contracts of `records` cite.
+pub mod Turning

@@ -1,0 +1,40 @@
+-- One record of a job: what it says, and what became of it.
+use mathlib.Core.Path.{_≡_}
+use mathlib.Core.Bool.{true}
+use mathlib.Core.List.{[]}
+use Prim.Native.Nat.{ℕ, zero, suc, _+_}
+use lib.ListN.{length, drop}
+use Rattle.theory.specs.Record.{Bytes, whole, read}
+use Rattle.theory.specs.Plain.{feed}
+use Rattle.theory.specs.Codes.{fault}
+use Rattle.theory.specs.Job.{answers-to}
+use Rattle.terms.specs.declared.Item.{Item}
+use Rattle.terms.specs.Framing.{record-at}
+use Rattle.terms.specs.Decoded.{Placed, item-of}
+use Rattle.store.specs.Store.{Store, listed}
+use Rattle.records.specs.declared.Turn.{Turn}
+use Rattle.steps.specs.Answering.{with-answers}
+
+-- the first where the code is 0, else the second
+abbrev pub passed : {A : Type 0} → ℕ → A → A → A
+passed zero x y = x
+passed (suc code) x y = y
+
+-- a turn by its parts
+abbrev pub turn : ℕ → ℕ → ℕ → Turn
+turn code answers rows = record { code = code; answers = answers; rows = rows }
+
+-- a whole record stands at `at`, and was read as this item
+pub record Reading (job work : Bytes) (rows at : ℕ) (item : Item) : Type 0 where
+  pub store : Store job work rows
+  pub stands : whole (drop at job) ≡ true
+  pub says : item-of job item ≡ read (record-at job at)
+  pub placed : Placed job item
+
+-- what became of record r, by theory's tests, plain list and answers; where a code stops the job, terms and answers stay
+pub record Turned (job work answers : Bytes) (rows answered : ℕ) (r work′ answers′ : Bytes) (t : Turn) : Type 0 where
+  pub code-is : t .code ≡ fault (length work) (length answers) (listed job work rows) answered r
+  pub store : Store job work′ (t .rows)
+  pub listed-is : listed job work′ (t .rows) ≡ passed (t .code) (feed (listed job work rows) r) (listed job work rows)
+  pub answers-is : t .answers ≡ answered + length (passed (t .code) (answers-to (listed job work rows) r) [])
+  pub written-is : answers′ ≡ with-answers answers answered (passed (t .code) (answers-to (listed job work rows) r) [])

@@ -1,0 +1,217 @@
+// One record of a job: its tests in document 01's order, and what it does to the terms and the answers where it passes.
+ghost use mathlib.Core.Path.{_≡_};
+ghost use mathlib.Core.Bool.{true};
+ghost use Prim.Native.Nat.{_+_, _*_, _≤_};
+ghost use lib.ListN.{length, drop};
+ghost use Rattle.theory.specs.Limit.{answer-bytes, first-terms, max-terms};
+ghost use Rattle.theory.specs.Record.{Bytes, whole};
+ghost use Rattle.theory.specs.Codes.{first-fault, step-tests};
+ghost use Rattle.terms.specs.Framing.{record-at};
+ghost use Rattle.terms.specs.declared.Item.the-variants as I;
+ghost use Rattle.terms.specs.Decoded.{Inside, listed as numbers};
+ghost use Rattle.store.specs.Store.{Store};
+ghost use Rattle.intern.specs.Interning.{code-of, rows-after};
+ghost use Rattle.records.specs.Turning.{turn, Reading, Turned};
+use intern::Interned;
+use intern::back;
+use intern::intern;
+use rows::FIRST_PLACE;
+use steps::answer;
+use steps::answers::put_answer;
+use terms::ANSWER_BYTES;
+use terms::Args;
+use terms::Item;
+use terms::Term;
+
+// The number of the last rule; the first is 1.
+const LAST_RULE: u32 = 23;
+
+// What became of a record: the code that stops the job or 0, and then the answers written and the rows kept.
+pub struct Turn {
+    pub code: u32,
+    pub answers: usize,
+    pub rows: usize,
+}
+
+// What became of a term that the store was offered: 7 where it has no sort, 8 where there is no room for it.
+fn kept_turn(kept: Interned, answered: usize, rows: usize) -> Turn
+    ensures { λ r. ⌜ r ≡ turn (code-of kept) answered (rows-after kept rows) ⌝ }
+{
+    match kept {
+        Interned::Unsorted => Turn {
+            code: 7,
+            answers: answered,
+            rows: rows,
+        },
+        Interned::Spent => Turn {
+            code: 8,
+            answers: answered,
+            rows: rows,
+        },
+        Interned::Found(n) => Turn {
+            code: 0,
+            answers: answered,
+            rows: n,
+        },
+        Interned::New(n) => Turn {
+            code: 0,
+            answers: answered,
+            rows: n,
+        },
+    }
+}
+
+// A term: 6 where an argument is not kept; else the store is offered it.
+fn term_record(
+    job: &[u8],
+    work: &mut [u8],
+    rows: usize,
+    answered: usize,
+    at: usize,
+    term: Term,
+) -> Turn
+    requires { ⌜ Reading (now job) (now work) rows at (I.Term term) ⌝ }
+    ensures { λ r. ⌜ ((answers : Bytes) → Turned (now (job .entry)) (now (work .entry)) answers rows answered (record-at (now (job .entry)) at) (now (work .exit)) answers r) ⌝ }
+{
+    if !term.below(job, (rows + FIRST_PLACE) as u32) {
+        return Turn {
+            code: 6,
+            answers: answered,
+            rows: rows,
+        };
+    }
+    let kept = intern(job, work, rows, at, term);
+    kept_turn(kept, answered, rows)
+}
+
+// The code that stops the job at a step, or 0: 6 where a literal is not kept, 9 where there is no such rule, 19 where there is no room for its answer.
+fn step_fault(
+    job: &[u8],
+    rows: usize,
+    answered: usize,
+    space: usize,
+    rule: u32,
+    literals: Args,
+) -> u32
+    requires { ⌜ Inside (now job) literals × (rows + first-terms ≤ max-terms) × (answer-bytes * answered ≤ space) ⌝ }
+    ensures { λ r. ⌜ r ≡ first-fault (step-tests (rows + first-terms) space answered rule (numbers (now (job .entry)) literals)) ⌝ }
+{
+    if !Term::all_below(job, literals, (rows + FIRST_PLACE) as u32) {
+        return 6;
+    }
+    if rule < 1 {
+        return 9;
+    }
+    if LAST_RULE < rule {
+        return 9;
+    }
+    if space - ANSWER_BYTES * answered < ANSWER_BYTES {
+        return 19;
+    }
+    0
+}
+
+// A step: where it passes, its answer is written.
+fn step_record(
+    job: &[u8],
+    work: &[u8],
+    answers: &mut [u8],
+    rows: usize,
+    answered: usize,
+    at: usize,
+    rule: u32,
+    literals: Args,
+) -> Turn
+    requires { ⌜ Reading (now job) (now work) rows at (I.Step rule literals) × (answer-bytes * answered ≤ length (now answers)) ⌝ }
+    ensures { λ r. ⌜ Turned (now (job .entry)) (now (work .entry)) (now (answers .entry)) rows answered (record-at (now (job .entry)) at) (now (work .entry)) (now (answers .exit)) r ⌝ }
+{
+    let code = step_fault(job, rows, answered, answers.len(), rule, literals);
+    if code != 0 {
+        return Turn {
+            code: code,
+            answers: answered,
+            rows: rows,
+        };
+    }
+    let reply = answer(job, work, rows, rule, literals);
+    put_answer(answers, answered, rule, reply);
+    Turn {
+        code: 0,
+        answers: answered + 1,
+        rows: rows,
+    }
+}
+
+// A back: 18 where its count is below 2 or above the number of terms.
+fn back_record(
+    job: &[u8],
+    work: &mut [u8],
+    rows: usize,
+    answered: usize,
+    at: usize,
+    count: u32,
+) -> Turn
+    requires { ⌜ Reading (now job) (now work) rows at (I.Back count) ⌝ }
+    ensures { λ r. ⌜ ((answers : Bytes) → Turned (now (job .entry)) (now (work .entry)) answers rows answered (record-at (now (job .entry)) at) (now (work .exit)) answers r) ⌝ }
+{
+    let n = count as usize;
+    if n < FIRST_PLACE {
+        return Turn {
+            code: 18,
+            answers: answered,
+            rows: rows,
+        };
+    }
+    if rows + FIRST_PLACE < n {
+        return Turn {
+            code: 18,
+            answers: answered,
+            rows: rows,
+        };
+    }
+    back(job, work, rows, n);
+    Turn {
+        code: 0,
+        answers: answered,
+        rows: n - FIRST_PLACE,
+    }
+}
+
+// The whole record at `at`: 4 where its kind is unknown, 5 where its body has not the kind's length.
+pub fn take_record(
+    job: &[u8],
+    work: &mut [u8],
+    answers: &mut [u8],
+    rows: usize,
+    answered: usize,
+    at: usize,
+) -> Turn
+    requires { ⌜ Store (now job) (now work) rows × (answer-bytes * answered ≤ length (now answers)) × (whole (drop at (now job)) ≡ true) ⌝ }
+    ensures { λ r. ⌜ Turned (now (job .entry)) (now (work .entry)) (now (answers .entry)) rows answered (record-at (now (job .entry)) at) (now (work .exit)) (now (answers .exit)) r ⌝ }
+{
+    let item = Term::read(job, at);
+    match item {
+        Item::Term(t) => term_record(job, work, rows, answered, at, t),
+        Item::Step(rule, literals) => step_record(
+            job,
+            work,
+            answers,
+            rows,
+            answered,
+            at,
+            rule,
+            literals,
+        ),
+        Item::Back(count) => back_record(job, work, rows, answered, at, count),
+        Item::Unknown => Turn {
+            code: 4,
+            answers: answered,
+            rows: rows,
+        },
+        Item::Misfit => Turn {
+            code: 5,
+            answers: answered,
+            rows: rows,
+        },
+    }
+}

@@ -1,0 +1,92 @@
+// The answer to a step's clause: the verdict's code, and the depth of the right side where the step is accepted.
+pub mod answers;
+
+ghost use mathlib.Core.Path.{_≡_};
+ghost use mathlib.Core.Bool.{true};
+ghost use mathlib.Core.List.{map};
+ghost use mathlib.Core.Option.{some};
+ghost use Prim.Native.Nat.{_+_, _<_};
+ghost use Rattle.theory.specs.Limit.{first-terms};
+ghost use Rattle.theory.specs.Verdict.{code-of, accepted};
+ghost use Rattle.theory.specs.RuleTable.{Rule, rule-at};
+ghost use Rattle.theory.specs.Rule.{verdict as verdict·of};
+ghost use Rattle.theory.specs.Job.{right-depth, answer-to};
+ghost use Rattle.theory.proofs.Places.{tree-at};
+ghost use Rattle.terms.specs.Decoded.{listed as numbers};
+ghost use Rattle.store.specs.Store.{Store, listed};
+ghost use Rattle.operand_rules.specs.Rules.{tree, verdict-of};
+ghost use Rattle.steps.specs.Answering.{given, Literals, Judged};
+use crate::answers::Reply;
+use rules::Verdict;
+use rules::verdict;
+use store::sorts::depth_at;
+use store::terms_at::term_at;
+use terms::Args;
+use terms::Term;
+
+// The code of a clause that is not of one literal.
+const NOT_ONE_LITERAL: u32 = 10;
+
+// The code of a verdict.
+fn code(v: Verdict) -> u32
+    ensures { λ r. ⌜ r ≡ code-of (verdict-of v) ⌝ }
+{
+    match v {
+        Verdict::Held => 0,
+        Verdict::FormOnly => 1,
+        Verdict::NotOneLiteral => NOT_ONE_LITERAL,
+        Verdict::WrongForm => 11,
+        Verdict::NotBitVector => 12,
+        Verdict::NotConstant => 13,
+        Verdict::BitNotLiteral => 14,
+        Verdict::OtherValue => 15,
+        Verdict::TermsDiffer => 16,
+        Verdict::IndexNotNext => 17,
+    }
+}
+
+// The depth of the right side of a literal that a rule accepts, which is an equation.
+fn right_side(job: &[u8], work: &[u8], n: usize, literal: u32) -> usize
+    requires { ⌜ Store (now job) (now work) n × (literal < first-terms + n) ⌝ }
+    ensures { λ r. ⌜ ((rule : Rule) → accepted (verdict·of rule (tree (now (job .entry)) (now (work .entry)) n literal)) ≡ true → r ≡ right-depth (tree (now (job .entry)) (now (work .entry)) n literal)) ⌝ }
+{
+    let Term::Equals(_, r) = term_at(job, work, n, literal) else {
+        return 0;
+    };
+    depth_at(job, work, n, r)
+}
+
+// The answer with that verdict on a literal.
+fn judge(job: &[u8], work: &[u8], n: usize, literal: u32, v: Verdict) -> Reply
+    requires { ⌜ Store (now job) (now work) n × (literal < first-terms + n) ⌝ }
+    ensures { λ r. ⌜ Judged (verdict-of v) (tree (now (job .entry)) (now (work .entry)) n literal) r ⌝ }
+{
+    let code = code(v);
+    if NOT_ONE_LITERAL <= code {
+        return Reply {
+            code: code,
+            depth: 0,
+        };
+    }
+    Reply {
+        code: code,
+        depth: right_side(job, work, n, literal),
+    }
+}
+
+// The answer of a rule to a clause.
+pub fn answer(job: &[u8], work: &[u8], n: usize, rule: u32, literals: Args) -> Reply
+    requires { ⌜ Literals (now job) (now work) n literals ⌝ }
+    ensures { λ r. ⌜ ((by : Rule) → rule-at rule ≡ some by → given rule r ≡ answer-to rule by (map (tree-at (listed (now (job .entry)) (now (work .entry)) n)) (numbers (now (job .entry)) literals))) ⌝ }
+{
+    let count = literals.count;
+    if count != 1 {
+        return Reply {
+            code: NOT_ONE_LITERAL,
+            depth: 0,
+        };
+    }
+    let literal = Term::argument(job, literals, 0);
+    let v = verdict(job, work, n, rule, literal);
+    judge(job, work, n, literal, v)
+}

@@ -1,0 +1,179 @@
+-- Laws of adding a record.
+use mathlib.Core.Path.{_≡_, refl, sym, ap, _∙_, subst}
+use mathlib.Core.Bool.{Bool, true, false, _&&_, and-false, cond}
+use Prim.Native.Nat.{ℕ, suc, _+_, _*_, _-_, _≤_, _<_}
+use native.Mathlib.Omega.{arith}
+use lib.Dec.{leb, ltb}
+use lib.ListN.{drop, length, take}
+use borrow.Author.Tests.{eq-eqb, le-leb, le-ltb, leb-true, lt-leb, lt-ltb, ltb-true, ne-eqb}
+use Rattle.theory.specs.Limit.{first-terms, max-terms, term-bytes}
+use Rattle.theory.specs.Record.{Bytes, extent}
+use Rattle.terms.specs.Framing.{record-at}
+use Rattle.rows.specs.Layout.{missing, number-at, number-end, max-rows}
+use Rattle.rows.specs.Rows.{depths, kept, place-of, widths}
+use Rattle.table.specs.Slots.{Table, TableOf, added-row, seek-of, slot-count, start-of}
+use Rattle.table.specs.Promise.{Grown, answer-to, count-after, list-after, room-for}
+use Rattle.rows.proofs.RowLaws.{and-first, and-second, length-kept}
+use Rattle.table.proofs.SlotLaws.{FreeAt, place-in, seek-is-at, seek-is-free, seek-is-place, start-below, turn-below}
+use Rattle.table.proofs.TableLaws.{never-full}
+use Rattle.table.proofs.MemoryLaws.{depths-added, kept-added, length-added, slot-count-more, table-added, widths-added}
+use Rattle.table.specs.declared.slots.Seek.{Seek}
+use Rattle.table.specs.declared.kept.Added.{Added}
+
+-- the part of the job that the code looks up is the record
+pub part-record : (job : Bytes) (at len : ℕ) → len ≡ number-at job at → take (at + len + 2 - at) (drop at job) ≡ record-at job at
+part-record job at len e =
+    let f : at + len + 2 - at ≡ extent (drop at job) = omega arith in
+    rw f
+
+pub free-below : (job work : Bytes) (c : ℕ) (x : Bytes) (t : ℕ) → seek-of job work c x ≡ Seek.Free t → t < c
+free-below job work c x t q =
+    let f : FreeAt job work c x t = seek-is-free job work c x t q in
+    subst (λ (j : ℕ). j < c) (f .there) (turn-below c (start-of c x) (f .far) (start-below c x (omega (arith, f .near))) (f .near))
+
+-- ---- room for a row
+
+room-tests : (n len : ℕ) (a b : Bool) → leb (term-bytes * suc n) len ≡ a → ltb (2 + n) max-terms ≡ b → room-for n len ≡ (a && b)
+unfolding room-for
+room-tests n len a b p q = rw (p, q)
+
+pub room-yes : (n len : ℕ) → n < max-rows → n * term-bytes + term-bytes ≤ len → room-for n len ≡ true
+room-yes n len h k = room-tests n len true true (le-leb (term-bytes * suc n) len (omega arith)) (lt-ltb (2 + n) max-terms (omega arith))
+
+pub room-numbers : (n len : ℕ) → max-rows ≤ n → room-for n len ≡ false
+room-numbers n len h = room-tests n len (leb (term-bytes * suc n) len) false refl (le-ltb (2 + n) max-terms (omega arith)) ∙ and-false (leb (term-bytes * suc n) len)
+
+pub room-memory : (n len : ℕ) → len < n * term-bytes + term-bytes → room-for n len ≡ false
+room-memory n len h = room-tests n len false (ltb (2 + n) max-terms) (lt-leb (term-bytes * suc n) len (omega arith)) refl
+
+room-true : (n len : ℕ) → room-for n len ≡ true → (n < max-rows) × (n * term-bytes + term-bytes ≤ len)
+unfolding room-for
+room-true n len e =
+    let a : 2 + n < max-terms = ltb-true (2 + n) max-terms (and-second (leb (term-bytes * suc n) len) (ltb (2 + n) max-terms) e) in
+    let b : term-bytes * suc n ≤ len = leb-true (term-bytes * suc n) len (and-first (leb (term-bytes * suc n) len) (ltb (2 + n) max-terms) e) in
+    (omega arith, omega arith)
+
+-- ---- the answer and the memory, by what the table has for the record
+
+-- the answer, where the lookup found q, there is room or not, and n rows are kept
+unfoldable pub answer-for : Seek → Bool → ℕ → Added
+answer-for (Seek.At p) room n = Added.Found p
+answer-for (Seek.Free t) room n = cond room (Added.New (first-terms + n)) Added.Spent
+answer-for Seek.Full room n = Added.Spent
+
+-- the work memory then
+unfoldable pub memory-for : Seek → Bool → Bytes → ℕ → ℕ → ℕ → ℕ → Bytes
+memory-for (Seek.At p) room work n offset depth width = work
+memory-for (Seek.Free t) room work n offset depth width = cond room (added-row work n t offset depth width) work
+memory-for Seek.Full room work n offset depth width = work
+
+-- ---- the ways of the code
+
+module _ (q : Seek) (room : Bool) (work : Bytes) (n offset depth width : ℕ) where
+  pub add-found : (p : ℕ) → q ≡ Seek.At p → (Added.Found p ≡ answer-for q room n) × (work ≡ memory-for q room work n offset depth width)
+  unfolding answer-for memory-for
+  add-found p e = rw e (refl, refl)
+
+  pub add-full : q ≡ Seek.Full → (Added.Spent ≡ answer-for q room n) × (work ≡ memory-for q room work n offset depth width)
+  unfolding answer-for memory-for
+  add-full e = rw e (refl, refl)
+
+  pub add-spent : (t : ℕ) → q ≡ Seek.Free t → room ≡ false → (Added.Spent ≡ answer-for q room n) × (work ≡ memory-for q room work n offset depth width)
+  unfolding answer-for memory-for
+  add-spent t e f = rw (e, f) (refl, refl)
+
+  pub add-new : (t : ℕ) → q ≡ Seek.Free t → room ≡ true
+      → (Added.New (n + 2) ≡ answer-for q room n) × (added-row work n t offset depth width ≡ memory-for q room work n offset depth width)
+  unfolding answer-for memory-for
+  add-new t e f =
+      let two : n + 2 ≡ 2 + n = omega arith in
+      rw (e, f) (ap Added.New two, refl)
+
+-- ---- the answer, by the list of kept records
+
+module _ (job work : Bytes) (n c : ℕ) (table : TableOf job work n c) (slot : room-for n (length work) ≡ true → n < c) (x : Bytes) where
+  place-sought : (q : Seek) → seek-of job work c x ≡ q → place-of x (kept job work n) ≡ place-in q
+  place-sought q e = sym (seek-is-place job work n c table x) ∙ ap place-in e
+
+  spent-or-new : (q : Seek) → place-in q ≡ missing → seek-of job work c x ≡ q
+      → answer-to x (kept job work n) (length work) ≡ cond (room-for n (length work)) (Added.New (2 + n)) Added.Spent
+  unfolding answer-to
+  spent-or-new q m e = rw (eq-eqb (place-of x (kept job work n)) missing (place-sought q e ∙ m), length-kept job work n)
+
+  answer-full : (room : Bool) → room-for n (length work) ≡ room → seek-of job work c x ≡ Seek.Full
+      → Added.Spent ≡ cond room (Added.New (2 + n)) Added.Spent
+  answer-full true f e = absurd (never-full job work n c table x (slot f) e)
+  answer-full false f e = refl
+
+  found-is : (p : ℕ) → place-of x (kept job work n) ≡ p → (p ≡ missing → ⊥) → Added.Found p ≡ answer-to x (kept job work n) (length work)
+  unfolding answer-to
+  found-is p r f = rw (r, ne-eqb p missing f)
+
+  answer-is : (q : Seek) → seek-of job work c x ≡ q → answer-for q (room-for n (length work)) n ≡ answer-to x (kept job work n) (length work)
+  unfolding answer-for place-in
+  answer-is (Seek.At p) e =
+      let small : p ≤ n + 1 = seek-is-at job work c x n p (table .slots .low) e in
+      let few : n ≤ max-rows = table .slots .rows .few in
+      found-is p (place-sought (Seek.At p) e) (λ m. omega arith)
+  answer-is (Seek.Free t) e = sym (spent-or-new (Seek.Free t) refl e)
+  answer-is Seek.Full e = answer-full (room-for n (length work)) refl e ∙ sym (spent-or-new Seek.Full refl e)
+
+-- ---- what the work memory keeps then
+
+module _ (job work : Bytes) (n c at depth width : ℕ) (table : TableOf job work n c) (count : c ≡ slot-count (length work))
+    (inside : at + extent (drop at job) ≤ length job) (deep : depth < number-end) (wide : width < 256) where
+  small : at < 16777216
+  small = omega (arith, table .slots .rows .short)
+
+  slot : room-for n (length work) ≡ true → n < c
+  slot e =
+      let r : (n < max-rows) × (n * term-bytes + term-bytes ≤ length work) = room-true n (length work) e in
+      rw count (slot-count-more n (length work) (omega arith) (r .1))
+
+  -- a memory of the same length has the same slots
+  retable : (after : Bytes) (k : ℕ) → length after ≡ length work → TableOf job after k c → Table job after k
+  retable after k e t = subst (λ (i : ℕ). TableOf job after k i) (count ∙ ap slot-count (sym e)) t
+
+  grown-same : (r : Added) → count-after r n ≡ n → list-after r (record-at job at) (kept job work n) ≡ kept job work n
+      → list-after r depth (depths work n) ≡ depths work n → list-after r width (widths work n) ≡ widths work n
+      → r ≡ answer-to (record-at job at) (kept job work n) (length work) → Grown job work work n at depth width r
+  grown-same r a b d e f = record {
+    answer-is = f;
+    table = rw a (retable work n refl table);
+    kept-is = rw (a, b);
+    depths-are = rw (a, d);
+    widths-are = rw (a, e);
+  }
+
+  grown-free : (t : ℕ) → seek-of job work c (record-at job at) ≡ Seek.Free t → (room : Bool) → room-for n (length work) ≡ room
+      → cond room (Added.New (2 + n)) Added.Spent ≡ answer-to (record-at job at) (kept job work n) (length work)
+      → Grown job work (cond room (added-row work n t at depth width) work) n at depth width (cond room (Added.New (2 + n)) Added.Spent)
+  unfolding count-after list-after
+  grown-free t e true f g =
+      let r : (n < max-rows) × (n * term-bytes + term-bytes ≤ length work) = room-true n (length work) f in
+      record {
+        answer-is = g;
+        table = retable (added-row work n t at depth width) (n + 1) (length-added job work n c t at depth width table (r .0) (r .1) small inside e)
+            (table-added job work n c t at depth width table (r .0) (r .1) small inside e);
+        kept-is = kept-added job work n c t at depth width table (r .0) (r .1) small inside e;
+        depths-are = depths-added job work n c t at depth width table (r .0) (r .1) small inside e deep;
+        widths-are = widths-added job work n c t at depth width table (r .0) (r .1) small inside e wide;
+      }
+  grown-free t e false f g = grown-same Added.Spent refl refl refl refl g
+
+  grown-is : (q : Seek) → seek-of job work c (record-at job at) ≡ q
+      → answer-for q (room-for n (length work)) n ≡ answer-to (record-at job at) (kept job work n) (length work)
+      → Grown job work (memory-for q (room-for n (length work)) work n at depth width) n at depth width (answer-for q (room-for n (length work)) n)
+  unfolding memory-for answer-for count-after list-after
+  grown-is (Seek.At p) e g = grown-same (Added.Found p) refl refl refl refl g
+  grown-is (Seek.Free t) e g = grown-free t e (room-for n (length work)) refl g
+  grown-is Seek.Full e g = grown-same Added.Spent refl refl refl refl g
+
+  -- from what the table says of a record to what callers are promised
+  pub grown : {r : Added} {after : Bytes}
+      → (r ≡ answer-for (seek-of job work c (record-at job at)) (room-for n (length work)) n)
+      × (after ≡ memory-for (seek-of job work c (record-at job at)) (room-for n (length work)) work n at depth width)
+      → Grown job work after n at depth width r
+  grown {r} {after} p =
+      rw (p .0, p .1)
+      (grown-is (seek-of job work c (record-at job at)) refl (answer-is job work n c table slot (record-at job at) (seek-of job work c (record-at job at)) refl))

@@ -1,0 +1,85 @@
+-- What callers cite: how the promised lists, single rows and places hang together.
+use mathlib.Core.Path.{_≡_, refl, sym, _∙_}
+use mathlib.Core.Bool.{Bool, true, false, true≢false, cond}
+use mathlib.Core.List.{List, [], _∷_}
+use Prim.Native.Nat.{ℕ, zero, suc, _+_, _≤_, _<_}
+use native.Mathlib.Nat.{not-suc-le-zero, le-of-suc-le-suc}
+use native.Mathlib.Omega.{arith}
+use lib.ListN.{getD, length}
+use Rattle.theory.specs.Limit.{first-terms}
+use Rattle.theory.specs.Record.{Bytes}
+use Rattle.terms.specs.Framing.{record-at}
+use Rattle.rows.specs.Layout.{depth-at, max-rows, missing, offset-at, width-at}
+use Rattle.rows.specs.Rows.{depths, kept, place-from, place-of, row-record, widths}
+use Rattle.table.specs.Slots.{Table}
+use Rattle.rows.proofs.RowLaws.{getD-column, getD-kept, length-kept, same-refl, same-sound}
+use Rattle.table.proofs.SlotLaws.{place-only}
+use Rattle.theory.specs.Term.{same-numbers}
+
+-- ---- the entries of the lists
+
+module _ (job work : Bytes) (n : ℕ) where
+  pub kept-length : length (kept job work n) ≡ n
+  kept-length = length-kept job work n
+
+  pub kept-at : (k : ℕ) → k < n → getD (kept job work n) k [] ≡ record-at job (offset-at work k)
+  kept-at k h = getD-kept job work n k h
+
+  pub depths-at : (k : ℕ) → k < n → getD (depths work n) k 0 ≡ depth-at work k
+  unfolding depths
+  depths-at k h = getD-column (depth-at work) 0 n k h
+
+  pub widths-at : (k : ℕ) → k < n → getD (widths work n) k 0 ≡ width-at work k
+  unfolding widths
+  widths-at k h = getD-column (width-at work) 0 n k h
+
+-- ---- places
+
+-- record x is entry `index` of the list, and p is its place
+pub record Stands (x : Bytes) (rows : List Bytes) (first p : ℕ) : Type 0 where
+  pub index : ℕ
+  pub place : p ≡ first + index
+  pub below : index < length rows
+  pub equal : getD rows index [] ≡ x
+
+stands-from : (first : ℕ) (x : Bytes) (rows : List Bytes) → (place-from first x rows ≡ missing → ⊥) → Stands x rows first (place-from first x rows)
+unfolding place-from
+stands-from first x [] h = absurd (h refl)
+stands-from first x (y ∷ ys) h = go (same-numbers x y) refl (stands-from (suc first) x ys)
+  where
+    go : (b : Bool) → same-numbers x y ≡ b → ((place-from (suc first) x ys ≡ missing → ⊥) → Stands x ys (suc first) (place-from (suc first) x ys))
+        → Stands x (y ∷ ys) first (cond (same-numbers x y) first (place-from (suc first) x ys))
+    go true e ih = rw e (record { index = 0; place = omega arith; below = omega arith; equal = sym (same-sound x y e) })
+    go false e ih =
+        let r : Stands x ys (suc first) (place-from (suc first) x ys) = ih (λ q. h (rw e q)) in
+        rw e (record { index = suc (r .index); place = omega (arith, r .place); below = omega (arith, r .below); equal = r .equal })
+
+-- a place that is not missing is that of an equal record
+pub place-stands : (x : Bytes) (rows : List Bytes) → (place-of x rows ≡ missing → ⊥) → Stands x rows first-terms (place-of x rows)
+place-stands x rows h = stands-from first-terms x rows h
+
+absent-from : (first : ℕ) (x : Bytes) (rows : List Bytes) → first + length rows ≤ missing → place-from first x rows ≡ missing
+    → (k : ℕ) → k < length rows → getD rows k [] ≡ x → ⊥
+unfolding place-from
+absent-from first x [] few e k h q = not-suc-le-zero h
+absent-from first x (y ∷ ys) few e k h q = go (same-numbers x y) refl (absent-from (suc first) x ys (omega arith)) k h q
+  where
+    go : (b : Bool) → same-numbers x y ≡ b
+        → (place-from (suc first) x ys ≡ missing → (k : ℕ) → k < length ys → getD ys k [] ≡ x → ⊥)
+        → (k : ℕ) → k < length (y ∷ ys) → getD (y ∷ ys) k [] ≡ x → ⊥
+    go true s ih k h q =
+        let f : first ≡ missing = rw s at e in
+        omega arith
+    go false s ih zero h q = true≢false (sym (rw q (same-refl x)) ∙ s)
+    go false s ih (suc k) h q = ih (rw s at e) k (le-of-suc-le-suc h) q
+
+-- where the place is missing, no record is equal
+pub place-absent : (x : Bytes) (rows : List Bytes) → length rows ≤ max-rows → place-of x rows ≡ missing
+    → (k : ℕ) → k < length rows → getD rows k [] ≡ x → ⊥
+place-absent x rows few e k h q = absent-from first-terms x rows (omega arith) e k h q
+
+-- each kept record has its own place
+pub place-row : (job work : Bytes) (n k : ℕ) → Table job work n → k < n → place-of (row-record job work k) (kept job work n) ≡ k + first-terms
+place-row job work n k table h =
+    place-only job work n (row-record job work k) k h refl
+    (λ j l e. let q : k ≡ j = table .distinct k j h (omega arith) e in omega arith)

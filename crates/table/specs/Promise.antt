@@ -1,0 +1,60 @@
+-- What callers are promised when a record is added, when the newest rows are dropped, and when the work memory is wiped.
+use mathlib.Core.Path.{_≡_}
+use mathlib.Core.Bool.{Bool, _&&_, cond}
+use mathlib.Core.List.{List, [], _∷_, _++_}
+use Prim.Native.Nat.{ℕ, suc, _+_, _*_, _≤_}
+use lib.ListN.{length, take, replicate}
+use lib.Dec.{eqb, ltb, leb}
+use Rattle.theory.specs.Limit.{term-bytes, first-terms, max-terms, max-job}
+use Rattle.theory.specs.Record.{Bytes}
+use Rattle.terms.specs.Framing.{record-at}
+use Rattle.rows.specs.Layout.{missing}
+use Rattle.rows.specs.Rows.{kept, depths, widths, place-of}
+use Rattle.table.specs.Slots.{Table}
+use Rattle.table.specs.declared.kept.Added.{Added}
+use Rattle.table.specs.declared.kept.Added.the-variants.{Found, New, Spent}
+
+-- ---- adding a record
+-- there is memory and a place for one row more than n
+unfoldable pub room-for : ℕ → ℕ → Bool
+room-for n len = leb (term-bytes * suc n) len && ltb (first-terms + n) max-terms
+
+-- the answer to record x where `rows` are kept in len bytes: the place of the kept record that equals it, or the place after the last, or that
+-- there is no room
+unfoldable pub answer-to : Bytes → List Bytes → ℕ → Added
+answer-to x rows len =
+    cond (eqb (place-of x rows) missing) (cond (room-for (length rows) len) (New (first-terms + length rows)) Spent) (Found (place-of x rows))
+
+-- the number of rows after an answer
+unfoldable pub count-after : Added → ℕ → ℕ
+count-after (Found p) n = n
+count-after (New p) n = n + 1
+count-after Spent n = n
+
+-- a list with one entry for each row after an answer: a new row's entry is the last
+unfoldable pub list-after : {A : Type 0} → Added → A → List A → List A
+list-after (Found p) x rows = rows
+list-after (New p) x rows = rows ++ (x ∷ [])
+list-after Spent x rows = rows
+
+-- the record at `at` was added to n rows, with a depth and a width: the answer, and what the work memory keeps then
+pub record Grown (job work after : Bytes) (n at depth width : ℕ) (answer : Added) : Type 0 where
+  pub answer-is : answer ≡ answer-to (record-at job at) (kept job work n) (length work)
+  pub table : Table job after (count-after answer n)
+  pub kept-is : kept job after (count-after answer n) ≡ list-after answer (record-at job at) (kept job work n)
+  pub depths-are : depths after (count-after answer n) ≡ list-after answer depth (depths work n)
+  pub widths-are : widths after (count-after answer n) ≡ list-after answer width (widths work n)
+
+-- ---- dropping rows
+-- of n rows the first m are kept
+pub record Cut (job work after : Bytes) (n m : ℕ) : Type 0 where
+  pub table : Table job after m
+  pub kept-is : kept job after m ≡ take m (kept job work n)
+  pub depths-are : depths after m ≡ take m (depths work n)
+  pub widths-are : widths after m ≡ take m (widths work n)
+
+-- ---- wiping
+-- the work memory is all zero: no row of any job
+pub record Wiped (work after : Bytes) : Type 0 where
+  pub all-zero : after ≡ replicate (length work) 0
+  pub ready : (job : Bytes) → length job ≤ max-job → Table job after 0
