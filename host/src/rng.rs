@@ -1,7 +1,7 @@
-//! Random numbers that a seed repeats (splitmix64).
+//! Random numbers that a seed repeats (splitmix64), for the jobs of host/ and of oracle/.
 
 #[derive(Clone)]
-pub struct Rng(u64);
+pub struct Rng(pub u64);
 
 impl Rng {
     pub fn new(seed: u64) -> Self {
@@ -28,5 +28,15 @@ impl Rng {
 
     pub fn chance(&mut self, percent: usize) -> bool {
         self.below(100) < percent
+    }
+
+    pub fn pick<'a, T>(&mut self, list: &'a [T]) -> &'a T {
+        &list[self.below(list.len())]
+    }
+
+    pub fn shuffle<T>(&mut self, list: &mut [T]) {
+        for i in (1..list.len()).rev() {
+            list.swap(i, self.below(i + 1));
+        }
     }
 }

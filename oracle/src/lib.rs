@@ -13,6 +13,9 @@ pub mod job;
 #[cfg(original)]
 pub mod maker;
 #[cfg(original)]
+#[path = "../../host/src/rng.rs"]
+pub mod rng;
+#[cfg(original)]
 pub mod sem;
 #[cfg(original)]
 pub mod utils;

@@ -3,38 +3,8 @@
 use crate::ast::pool::{Build, Pool};
 use crate::ast::{Constant, Operator, ParamOperator, Rc, Sort, Term};
 use crate::job::MAX_TERMS;
+use crate::rng::Rng;
 use std::collections::HashMap;
-
-/// splitmix64
-#[derive(Clone)]
-pub struct Rng(pub u64);
-
-impl Rng {
-    pub fn next(&mut self) -> u64 {
-        self.0 = self.0.wrapping_add(0x9E37_79B9_7F4A_7C15);
-        let mut z = self.0;
-        z = (z ^ (z >> 30)).wrapping_mul(0xBF58_476D_1CE4_E5B9);
-        z = (z ^ (z >> 27)).wrapping_mul(0x94D0_49BB_1331_11EB);
-        z ^ (z >> 31)
-    }
-    pub fn below(&mut self, n: usize) -> usize {
-        (self.next() % n as u64) as usize
-    }
-    pub fn range(&mut self, lo: usize, hi: usize) -> usize {
-        lo + self.below(hi - lo + 1)
-    }
-    pub fn chance(&mut self, percent: usize) -> bool {
-        self.below(100) < percent
-    }
-    pub fn pick<'a, T>(&mut self, list: &'a [T]) -> &'a T {
-        &list[self.below(list.len())]
-    }
-    pub fn shuffle<T>(&mut self, list: &mut [T]) {
-        for i in (1..list.len()).rev() {
-            list.swap(i, self.below(i + 1));
-        }
-    }
-}
 
 pub type T = Rc<Term>;
 
@@ -107,7 +77,7 @@ impl Maker {
         let list = vec![pool.bool_true(), pool.bool_false()];
         let num = list.iter().cloned().zip(0..).collect();
         Maker {
-            rng: Rng(seed),
+            rng: Rng::new(seed),
             pool,
             bytes: Vec::new(),
             starts: Vec::new(),

@@ -19,7 +19,7 @@ use Rattle.rows.specs.Layout.{number-end}
 use Rattle.terms.specs.declared.Args.{Args}
 use Rattle.terms.specs.declared.Operands.{Operands}
 use Rattle.terms.specs.declared.Operands.the-variants.{None, One, Two, Three, List as Listed}
-use Rattle.terms.specs.Decoded.{Inside, OperandsPlaced, listed, numbers-of}
+use Rattle.terms.specs.Decoded.{Inside, OperandsPlaced, words-in, numbers-of}
 use Rattle.store.specs.Sorts.{sorts-at, deepest-at, count-of}
 use Rattle.intern.proofs.Guarding.{and-no, fails, width-high, no-width, some-width}
 
@@ -53,7 +53,7 @@ module _ (job : Bytes) {ops : Operands} (i : ℕ) where
   pub list-at : {a : Args} → ops ≡ Listed a → OperandsPlaced job ops → i < count-of ops → Inside job a × (i < a .count)
   list-at e p h = (subst (OperandsPlaced job) e p, subst (λ (o : Operands). i < count-of o) e h)
 
-  pub at-list : {a : Args} → ops ≡ Listed a → {x : ℕ} → x ≡ getD (listed job a) i 0 → x ≡ getD (numbers-of job ops) i 0
+  pub at-list : {a : Args} → ops ≡ Listed a → {x : ℕ} → x ≡ getD (words-in job a) i 0 → x ≡ getD (numbers-of job ops) i 0
   at-list e f = rw e f
 
 -- ---- the first argument

@@ -37,7 +37,7 @@ use Rattle.terms.specs.Framing.{record-at}
 use Rattle.rows.specs.Layout.{missing, number-end, depth-at, width-at}
 use Rattle.rows.specs.Rows.{kept, depths, widths, place-of}
 use Rattle.table.specs.Slots.{Table}
-use Rattle.table.specs.Promise.{Grown, room-for, answer-to, count-after, list-after}
+use Rattle.table.specs.Promise.{Grown, room-for, added-for, count-after, list-after}
 use Rattle.table.specs.declared.kept.Added.{Added}
 use Rattle.table.specs.declared.kept.Added.the-variants as A
 use Rattle.table.proofs.Face.{kept-length, depths-at, widths-at, place-stands, place-absent}
@@ -233,8 +233,8 @@ width-step (bv n) h = leb→le n 64 (and-r (leb 1 n) _ h)
 
 -- ---- what adding a row says
 module _ (x : Bytes) (rows : List Bytes) (len : ℕ) where
-  pub found-means : {p : ℕ} → A.Found p ≡ answer-to x rows len → place-of x rows ≡ missing → ⊥
-  unfolding answer-to
+  pub found-means : {p : ℕ} → A.Found p ≡ added-for x rows len → place-of x rows ≡ missing → ⊥
+  unfolding added-for
   found-means {p} e = go (eqb (place-of x rows) missing) (room-for (length rows) len) (eqb-false (place-of x rows) missing) e
     where
       go : (b c : Bool) → (b ≡ false → place-of x rows ≡ missing → ⊥) → A.Found p ≡ cond b (cond c (A.New (first-terms + length rows)) A.Spent) (A.Found (place-of x rows)) → place-of x rows ≡ missing → ⊥
@@ -242,8 +242,8 @@ module _ (x : Bytes) (rows : List Bytes) (len : ℕ) where
       go true false f d = absurd (let z : _≡_ {A = ℕ} 0 1 = cc in omega arith)
       go false c f d = f refl
 
-  pub new-means : {p : ℕ} → A.New p ≡ answer-to x rows len → (place-of x rows ≡ missing) × (room-for (length rows) len ≡ true)
-  unfolding answer-to
+  pub new-means : {p : ℕ} → A.New p ≡ added-for x rows len → (place-of x rows ≡ missing) × (room-for (length rows) len ≡ true)
+  unfolding added-for
   new-means {p} e = go (eqb (place-of x rows) missing) (room-for (length rows) len) (eqb-true (place-of x rows) missing) e
     where
       go : (b c : Bool) → (b ≡ true → place-of x rows ≡ missing) → A.New p ≡ cond b (cond c (A.New (first-terms + length rows)) A.Spent) (A.Found (place-of x rows)) → (place-of x rows ≡ missing) × (c ≡ true)
@@ -251,8 +251,8 @@ module _ (x : Bytes) (rows : List Bytes) (len : ℕ) where
       go true false f d = absurd (let z : _≡_ {A = ℕ} 0 1 = cc in omega arith)
       go false c f d = absurd (let z : _≡_ {A = ℕ} 0 1 = cc in omega arith)
 
-  pub spent-means : A.Spent ≡ answer-to x rows len → (place-of x rows ≡ missing) × (room-for (length rows) len ≡ false)
-  unfolding answer-to
+  pub spent-means : A.Spent ≡ added-for x rows len → (place-of x rows ≡ missing) × (room-for (length rows) len ≡ false)
+  unfolding added-for
   spent-means e = go (eqb (place-of x rows) missing) (room-for (length rows) len) (eqb-true (place-of x rows) missing) e
     where
       go : (b c : Bool) → (b ≡ true → place-of x rows ≡ missing) → A.Spent ≡ cond b (cond c (A.New (first-terms + length rows)) A.Spent) (A.Found (place-of x rows)) → (place-of x rows ≡ missing) × (c ≡ false)

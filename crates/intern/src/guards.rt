@@ -1,7 +1,7 @@
 // What a test makes of a sort.
 ghost use mathlib.Core.Path.{_≡_};
 ghost use mathlib.Core.Bool.{_&&_};
-ghost use Prim.Native.Nat.{_+_, _-_, _^_, _<_};
+ghost use Prim.Native.Nat.{_+_, _-_, _^_};
 ghost use lib.Dec.{leb, ltb};
 ghost use Rattle.theory.specs.Limit.{max-width};
 ghost use Rattle.theory.specs.Sort.{bool, bv, same-sort, guard, width, is-bv-sort, sort-width};

@@ -3,7 +3,7 @@ mod arguments;
 mod guards;
 mod kinds;
 
-ghost use Prim.Native.Nat.{_+_, _-_, _≤_};
+ghost use Prim.Native.Nat.{_+_, _≤_};
 ghost use lib.ListN.{length};
 ghost use Rattle.theory.specs.Limit.{first-terms, max-job};
 ghost use Rattle.store.specs.Store.{Store};

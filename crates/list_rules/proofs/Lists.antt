@@ -6,8 +6,8 @@ use lib.ListN.{length-map}
 use Rattle.theory.specs.Bits.{bb}
 use Rattle.theory.specs.Record.{Bytes}
 use Rattle.terms.specs.declared.Args.{Args}
-use Rattle.terms.specs.Decoded.{listed as numbers}
-use Rattle.terms.proofs.Lists.{listed-length}
+use Rattle.terms.specs.Decoded.{words-in}
+use Rattle.terms.proofs.Lists.{words-in-length}
 use Rattle.store.specs.Store.{listed}
 use Rattle.store.proofs.Claims.{own-number}
 use Rattle.operand_rules.specs.Rules.{Operand, tree, number-in, width-in}
@@ -39,9 +39,9 @@ module _ {job work : Bytes} {n claim : ℕ} {a : Args} (given : Many job work n 
   alone-number op h =
       let o = first-of (given .alike) in
       let s = o .store in
-      let z = listed-length job a in
+      let z = words-in-length job a in
       let c = given .alike .some in
-      e ∙ sym (ap (number-in job work n) (expected-alone op (tree job work n) (numbers job a) (omega arith) (omega arith))
+      e ∙ sym (ap (number-in job work n) (expected-alone op (tree job work n) (words-in job a) (omega arith) (omega arith))
       ∙ own-number (listed job work n) (s .well) (few s) (argument job a 0) (there s (o .there)))
 
 -- so many: the expected term is the term of the folded bits
@@ -49,6 +49,6 @@ pub many-bits : (job work : Bytes) (n : ℕ) (a : Args) (op : Operation) → lea
     → bb (folded-bits op (arguments job work n a)) ≡ expected op (arguments job work n a)
 many-bits job work n a op h =
     let ts = arguments job work n a in
-    let z = listed-length job a in
-    let l = length-map (numbers job a) (tree job work n) in
+    let z = words-in-length job a in
+    let l = length-map (words-in job a) (tree job work n) in
     sym (expected-bits op ts (omega arith))

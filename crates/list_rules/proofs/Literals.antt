@@ -24,8 +24,8 @@ use Rattle.terms.specs.declared.Term.{Term as Decoded}
 use Rattle.terms.specs.declared.Term.the-variants as D
 use Rattle.terms.specs.declared.Operands.{Operands}
 use Rattle.terms.specs.declared.Operands.the-variants.{List as Listed}
-use Rattle.terms.specs.Decoded.{op-of, operands-of, numbers-of, listed as numbers}
-use Rattle.terms.proofs.Lists.{listed-length}
+use Rattle.terms.specs.Decoded.{op-of, operands-of, numbers-of, words-in}
+use Rattle.terms.proofs.Lists.{words-in-length}
 use Rattle.store.specs.Store.{Store}
 use Rattle.store.specs.Sorts.{Arguments}
 use Rattle.store.specs.Terms.{TermAt}
@@ -150,9 +150,9 @@ module _ (op : Operation) {job work : Bytes} {n p l r : ℕ} {t u : Decoded} (s 
     -- what the check may take for granted
     pub many-given : Store job work n → p < first-terms + n → Many job work n a r
     many-given store there =
-        let ks = numbers job a in
+        let ks = words-in job a in
         let left = left-below s l r _ (ap operands-of e) there in
-        let size = listed-length job a in
+        let size = words-in-length job a in
         let b : T (all-below l ks) = below-of q (Listed a) its-list in
         let inside = list-inside q a its-list in
         let count : T (takes many (length ks)) = is-T _ (ap (λ (x : Arity). takes x (length ks)) (sym (takes-many op))

@@ -10,7 +10,7 @@ use Rattle.theory.specs.Circuit.{zip-with, ripple-carry-adder, shift-add-multip
 use Rattle.theory.specs.Bits.{get-term-bits, bb, fold-terms, zipped, product, add-bits}
 use Rattle.theory.specs.Record.{Bytes}
 use Rattle.terms.specs.declared.Args.{Args}
-use Rattle.terms.specs.Decoded.{Inside, listed}
+use Rattle.terms.specs.Decoded.{Inside, words-in}
 use Rattle.operand_rules.specs.Rules.{Operand, tree, width-in}
 use Rattle.list_rules.specs.declared.folds.Operation.{Operation}
 use Rattle.list_rules.specs.declared.folds.Operation.the-variants.{And, Or, Xor, Mult, Add}
@@ -50,11 +50,11 @@ least Add = 1
 
 -- the number of argument i
 abbrev pub argument : Bytes → Args → ℕ → ℕ
-argument job list i = getD (listed job list) i 0
+argument job list i = getD (words-in job list) i 0
 
 -- the terms of an argument list
 abbrev pub arguments : Bytes → Bytes → ℕ → Args → List Term
-arguments job work n list = map (tree job work n) (listed job list)
+arguments job work n list = map (tree job work n) (words-in job list)
 
 -- one argument or more, all of them bit-vectors of width w
 pub record Alike (job work : Bytes) (n : ℕ) (list : Args) (w : ℕ) : Type 0 where

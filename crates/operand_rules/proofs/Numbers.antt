@@ -28,7 +28,7 @@ use Rattle.theory.proofs.Places.{tree-at, tree-of, more-below}
 use Rattle.terms.specs.declared.Args.{Args}
 use Rattle.terms.specs.declared.Term.{Term as Decoded}
 use Rattle.terms.specs.declared.Term.the-variants as D
-use Rattle.terms.specs.Decoded.{op-of, arguments-of, listed as arguments}
+use Rattle.terms.specs.Decoded.{op-of, arguments-of, words-in}
 use Rattle.rows.specs.Rows.{kept}
 use Rattle.store.specs.Numbers.{numbers, bit-number, bb-number, is-false-number}
 use Rattle.store.specs.Store.{Store, listed}
@@ -120,9 +120,9 @@ module _ {job work : Bytes} {n : ℕ} where
       ∙ ap (λ (rs : List Bytes). bits w (λ i. bit-number rs i p)) (o .store .records-are))
 
   pub argued : {p w : ℕ} {t : Decoded} {a : Args} (xs : List ℕ) → Operand job work n p w → TermAt job work n p t → t ≡ D.BvBbTerm a
-      → take (a .count) xs ≡ arguments job a → take w xs ≡ map (number-in job work n) (get-term-bits (tree job work n p))
+      → take (a .count) xs ≡ words-in job a → take w xs ≡ map (number-in job work n) (get-term-bits (tree job work n p))
   argued {p} {w} {t} {a} xs o s e d =
-      let ks = arguments job a in
+      let ks = words-in job a in
       let us = map (tree-at (listed job work n)) ks in
       let m : tree job work n p ≡ bb us = s .made ∙ ap (λ (q : Decoded). tree-of (listed job work n) (op-of q) (arguments-of job q)) e in
       let l : length us ≡ w = bb-width us w (ap sort-of (sym m) ∙ o .sort) in

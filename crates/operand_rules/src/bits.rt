@@ -7,7 +7,7 @@ ghost use lib.Dec.{eqb};
 ghost use lib.ListN.{take};
 ghost use Rattle.theory.specs.Bits.{get-term-bits};
 ghost use Rattle.theory.specs.Verdict.{held, form-only, terms-differ};
-ghost use Rattle.terms.specs.Decoded.{Inside, listed};
+ghost use Rattle.terms.specs.Decoded.{Inside, words-in};
 ghost use Rattle.rows.specs.Rows.{kept};
 ghost use Rattle.table.specs.Slots.{Table};
 ghost use Rattle.store.specs.Numbers.{bb-number};
@@ -35,7 +35,7 @@ pub fn width_at(job: &[u8], work: &[u8], n: usize, place: u32) -> usize
 // The numbers of an argument list.
 fn argument_bits(job: &[u8], list: Args) -> [u32; 64]
     requires { ⌜ Inside (now job) list ⌝ }
-    ensures { λ r. ⌜ take (list .count) r ≡ listed (now (job .entry)) list ⌝ }
+    ensures { λ r. ⌜ take (list .count) r ≡ words-in (now (job .entry)) list ⌝ }
 {
     let count = list.count;
     let mut out = [0u32; 64];

@@ -22,7 +22,7 @@ use Rattle.terms.specs.declared.Item.{Item}
 use Rattle.terms.specs.declared.Item.the-variants as I
 use Rattle.terms.specs.declared.Term.{Term}
 use Rattle.terms.specs.Framing.{record-at}
-use Rattle.terms.specs.Decoded.{Placed, item-of, arguments-of, listed as numbers}
+use Rattle.terms.specs.Decoded.{Placed, item-of, arguments-of, words-in}
 use Rattle.store.specs.Store.{Store, listed}
 use Rattle.intern.specs.Interning.{CutBack, Offered, Taken, code-of, rows-after, list-after}
 use Rattle.intern.specs.declared.Interned.{Interned}
@@ -146,38 +146,38 @@ module _ {job work : Bytes} {rows at n : ℕ} (g : Reading job work rows at (I.B
 
 -- ---- a step
 module _ {job work : Bytes} {rows at rule : ℕ} {literals : Args} (g : Reading job work rows at (I.Step rule literals)) (answers : Bytes) (answered : ℕ) {c : ℕ}
-    (f : c ≡ first-fault (step-tests (rows + first-terms) (length answers) answered rule (numbers job literals))) where
+    (f : c ≡ first-fault (step-tests (rows + first-terms) (length answers) answered rule (words-in job literals))) where
   -- as many terms are kept as the code counts
   same-code : c ≡ code g answers answered
   same-code =
       let n = g .store .count in
       let e : rows + first-terms ≡ length (listed job work rows) = omega arith in
-      f ∙ ap (λ (k : ℕ). first-fault (step-tests k (length answers) answered rule (numbers job literals))) e
+      f ∙ ap (λ (k : ℕ). first-fault (step-tests k (length answers) answered rule (words-in job literals))) e
 
   -- a test fails
   pub step-stopped : (c ≡ 0 → ⊥) → Turned job work answers rows answered (record-at job at) work answers (turn c answered rows)
   step-stopped h = stopped g answers answered c h same-code
 
   -- all tests pass: the literals are kept, there is such a rule, and there is room for the answer
-  pub step-right : c ≡ 0 → StepPassed (length answers) (listed job work rows) answered rule (numbers job literals)
-  step-right z = step-passed (length work) (length answers) (listed job work rows) answered (record-at job at) rule (numbers job literals) (sym same-code ∙ z)
+  pub step-right : c ≡ 0 → StepPassed (length answers) (listed job work rows) answered rule (words-in job literals)
+  step-right z = step-passed (length work) (length answers) (listed job work rows) answered (record-at job at) rule (words-in job literals) (sym same-code ∙ z)
 
   -- so they may be answered
   pub step-literals : c ≡ 0 → Literals job work rows literals
   step-literals z = record {
     store = g .store;
     inside = g .placed;
-    below = ap (λ (n : ℕ). all-below n (numbers job literals)) (sym (g .store .count)) ∙ is-true _ (step-right z .below);
+    below = ap (λ (n : ℕ). all-below n (words-in job literals)) (sym (g .store .count)) ∙ is-true _ (step-right z .below);
   }
 
   -- its answer is written
   pub step-turned : c ≡ 0 → {reply : Reply} {after : Bytes}
-      → ((by : Rule) → rule-at rule ≡ some by → given rule reply ≡ answer-to rule by (map (tree-at (listed job work rows)) (numbers job literals)))
+      → ((by : Rule) → rule-at rule ≡ some by → given rule reply ≡ answer-to rule by (map (tree-at (listed job work rows)) (words-in job literals)))
       → after ≡ with-answers answers answered (given rule reply ∷ []) → Turned job work answers rows answered (record-at job at) work after (turn 0 (answered + 1) rows)
   step-turned z {reply} says wrote =
       let p = step-right z in
       let one : answers-to (listed job work rows) (record-at job at) ≡ given rule reply ∷ []
-      = sym (answers-are g answers answered) ∙ step-answer (length answers) (listed job work rows) answered rule (numbers job literals) p
+      = sym (answers-are g answers answered) ∙ step-answer (length answers) (listed job work rows) answered rule (words-in job literals) p
       ∙ ap (λ (a : Answer). a ∷ []) (sym (says (p .rule) (p .rule-is))) in
       record {
         code-is = sym z ∙ same-code ∙ fault-is g answers answered;

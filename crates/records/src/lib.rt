@@ -8,7 +8,7 @@ ghost use Rattle.theory.specs.Record.{Bytes, whole};
 ghost use Rattle.theory.specs.Codes.{first-fault, step-tests};
 ghost use Rattle.terms.specs.Framing.{record-at};
 ghost use Rattle.terms.specs.declared.Item.the-variants as I;
-ghost use Rattle.terms.specs.Decoded.{Inside, listed as numbers};
+ghost use Rattle.terms.specs.Decoded.{Inside, words-in};
 ghost use Rattle.store.specs.Store.{Store};
 ghost use Rattle.intern.specs.Interning.{code-of, rows-after};
 ghost use Rattle.records.specs.Turning.{turn, Reading, Turned};
@@ -94,7 +94,7 @@ fn step_fault(
     literals: Args,
 ) -> u32
     requires { ⌜ Inside (now job) literals × (rows + first-terms ≤ max-terms) × (answer-bytes * answered ≤ space) ⌝ }
-    ensures { λ r. ⌜ r ≡ first-fault (step-tests (rows + first-terms) space answered rule (numbers (now (job .entry)) literals)) ⌝ }
+    ensures { λ r. ⌜ r ≡ first-fault (step-tests (rows + first-terms) space answered rule (words-in (now (job .entry)) literals)) ⌝ }
 {
     if !Term::all_below(job, literals, (rows + FIRST_PLACE) as u32) {
         return 6;

@@ -1,12 +1,12 @@
 -- Texts written one after the other.
 use mathlib.Core.Path.{_≡_, refl, sym, ap, ap₂, subst, _∙_}
 use mathlib.Core.List.{[], _∷_, _++_, append-assoc}
-use Prim.Native.Nat.{ℕ, suc, _+_, _*_, _≤_, _<_}
+use Prim.Native.Nat.{ℕ, _+_, _≤_, _<_}
 use native.Mathlib.Numerals.{add-one}
 use native.Mathlib.Omega.{arith}
 use lib.ListN.{length, take, drop, set, getD, length-set, length-append, length-drop}
-use lib.Seq.{take-at, drop-at, drop-drop, length-take-le, sets-eq, take-length, paste, paste-zero, paste-suc, drop-cons}
-use Rattle.theory.specs.Record.{Bytes, word}
+use lib.Seq.{take-at, drop-at, drop-drop, length-take-le, sets-eq, take-length, paste, paste-zero, paste-suc}
+use Rattle.theory.specs.Record.{Bytes}
 use Rattle.report.specs.Text.{Wrote, written}
 
 module _ {old new a : Bytes} {at p : ℕ} where

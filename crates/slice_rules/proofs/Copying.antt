@@ -18,7 +18,7 @@ use Rattle.theory.proofs.Indexed.{replicate-bits, map-bits}
 use Rattle.theory.proofs.Sorts.{is-bv}
 use Rattle.terms.specs.declared.Args.{Args}
 use Rattle.terms.specs.declared.Operands.the-variants.{List as Listed}
-use Rattle.terms.specs.Decoded.{listed as arguments}
+use Rattle.terms.specs.Decoded.{words-in}
 use Rattle.terms.proofs.Parts.{drop-take}
 use Rattle.store.proofs.Arguments.{count-length, operand-below}
 use Rattle.shift_circuits.proofs.ShiftLaws.{top-bit}
@@ -117,11 +117,11 @@ module _ (job work : Bytes) (n : ℕ) where
   bit-vector-at (k ∷ ks) (suc i) h l = bit-vector-at ks i (and-r (is-bv-sort (sort-of (tree job work n k))) _ h) (omega arith)
 
 module _ {job work : Bytes} {n : ℕ} where
-  pub argument-operand : {a : Args} {claim : ℕ} → Concat job work n a claim → (i : ℕ) → i < a .count → {x : ℕ} → x ≡ getD (arguments job a) i 0
+  pub argument-operand : {a : Args} {claim : ℕ} → Concat job work n a claim → (i : ℕ) → i < a .count → {x : ℕ} → x ≡ getD (words-in job a) i 0
       → Operand job work n x (width-in job work n x)
   argument-operand {a} c i h {x} e =
       let l = count-length job (Listed a) in
-      let b = subst (λ (k : ℕ). T (is-bv-sort (sort-of (tree job work n k)))) (sym e) (bit-vector-at job work n (arguments job a) i (c .bit-vectors) (omega arith)) in
+      let b = subst (λ (k : ℕ). T (is-bv-sort (sort-of (tree job work n k)))) (sym e) (bit-vector-at job work n (words-in job a) i (c .bit-vectors) (omega arith)) in
       record { store = c .arguments .store; there = operand-below (c .arguments) i h e; sort = is-bv (sort-of (tree job work n x)) b }
 
   module _ {ks : List ℕ} where

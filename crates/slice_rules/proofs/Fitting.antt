@@ -1,7 +1,7 @@
 -- What a term that fits says of its arguments, and the forms of terms that the rules ask for.
 use mathlib.Core.Path.{_≡_, sym, ap, subst, _∙_}
 use mathlib.Core.Bool.{Bool, _&&_, cond}
-use mathlib.Core.List.{List, [], _∷_, map}
+use mathlib.Core.List.{List, _∷_, map}
 use mathlib.Core.Option.{none, some}
 use Prim.Native.Nat.{ℕ, _+_, _<_}
 use native.Mathlib.Omega.{arith}
@@ -25,7 +25,7 @@ use Rattle.terms.specs.declared.Term.{Term as Decoded}
 use Rattle.terms.specs.declared.Operands.{Operands}
 use Rattle.terms.specs.declared.Operands.the-variants.{One as OneArg, List as Listed}
 use Rattle.terms.specs.declared.Args.{Args}
-use Rattle.terms.specs.Decoded.{op-of, operands-of, numbers-of, arguments-of, listed as arguments}
+use Rattle.terms.specs.Decoded.{op-of, operands-of, numbers-of, arguments-of, words-in}
 use Rattle.terms.proofs.Cases.{kinds, kind-tag, all-other}
 use Rattle.terms.proofs.Term as E
 use Rattle.store.specs.Store.{Store, listed}
@@ -132,13 +132,13 @@ module _ {job work : Bytes} {n p : ℕ} {t : Decoded} (s : TermAt job work n p t
     list-given a d = record {
       store = store;
       placed = list-inside s a d;
-      below = is-true _ (more-below p (first-terms + n) (omega arith) (arguments job a) (below-of s (Listed a) d));
+      below = is-true _ (more-below p (first-terms + n) (omega arith) (words-in job a) (below-of s (Listed a) d));
     }
 
     -- what the check of concat may take for granted
     pub concat-given : (a : Args) (claim : ℕ) → op-of t ≡ BvConcat → operands-of t ≡ Listed a → claim < first-terms + n → Concat job work n a claim
     concat-given a claim e d c =
-        let ss = sorts-in job work n (arguments job a) in
+        let ss = sorts-in job work n (words-in job a) in
         let h = asked BvConcat (Listed a) e d in
         record {
           arguments = list-given a d;

@@ -27,7 +27,7 @@ use Rattle.theory.proofs.Sound.{to-number-lt}
 use Rattle.terms.specs.declared.Term.{Term as Decoded}
 use Rattle.terms.specs.declared.Operands.the-variants.{None, List as Listed}
 use Rattle.terms.specs.declared.Args.{Args}
-use Rattle.terms.specs.Decoded.{op-of, operands-of, listed as arguments}
+use Rattle.terms.specs.Decoded.{op-of, operands-of, words-in}
 use Rattle.terms.proofs.Term as E
 use Rattle.store.specs.Store.{Store, listed}
 use Rattle.store.specs.Terms.{TermAt}
@@ -62,9 +62,9 @@ module _ {job work : Bytes} {n : ℕ} (store : Store job work n) where
       ap₂ (λ (p : Option Bool) (ps : List (Option Bool)). p ∷ ps) (one-literal k (ltb→lt k (first-terms + n) (and-l (ltb k (first-terms + n)) _ b)))
       (each-literal ks (and-r (ltb k (first-terms + n)) _ b))
 
-pub numbers-literal : {job work : Bytes} {n : ℕ} {a : Args} → Arguments job work n (Listed a) → collect (map literal-number (arguments job a)) ≡ literal-bits (map (tree job work n) (arguments job a))
+pub numbers-literal : {job work : Bytes} {n : ℕ} {a : Args} → Arguments job work n (Listed a) → collect (map literal-number (words-in job a)) ≡ literal-bits (map (tree job work n) (words-in job a))
 unfolding literal-bits
-numbers-literal {a} g = ap collect (sym (each-literal (g .store) (arguments _ a) (is-T _ (g .below))))
+numbers-literal {a} g = ap collect (sym (each-literal (g .store) (words-in _ a) (is-T _ (g .below))))
 
 -- a number that is literal, and one that is none
 literal : (x : ℕ) → x ≤ 1 → (b : Bool) × (literal-number x ≡ some b) × (bit b ≡ 1 - x)

@@ -21,7 +21,7 @@ use Rattle.theory.specs.Rule.{args-of, two-of, index-of, form, unary, binary, e
 use Rattle.terms.specs.declared.Term.{Term as Decoded}
 use Rattle.terms.specs.declared.Operands.the-variants.{One as OneArg, List as Listed}
 use Rattle.terms.specs.declared.Args.{Args}
-use Rattle.terms.specs.Decoded.{op-of, operands-of, listed as arguments}
+use Rattle.terms.specs.Decoded.{op-of, operands-of, words-in}
 use Rattle.terms.proofs.Term as E
 use Rattle.store.specs.Store.{Store}
 use Rattle.store.specs.Terms.{TermAt}
@@ -84,17 +84,17 @@ module _ {job work : Bytes} {n p : ℕ} {t : Decoded} (s : TermAt job work n p t
     pub not-two : op-of t ≡ BvAnd → operands-of t ≡ Listed a → (a .count ≡ 2 → ⊥) → Conjunction job work n p Other
     not-two e d h = record {
       arguments = sym (ap (either none two-of) (args-are s BvAnd (Listed a) e d)
-          ∙ two-of-not (map (tree job work n) (arguments job a)) (λ z. h (sym (length-map (arguments job a) (tree job work n) ∙ count-length job (Listed a)) ∙ z)));
+          ∙ two-of-not (map (tree job work n) (words-in job a)) (λ z. h (sym (length-map (words-in job a) (tree job work n) ∙ count-length job (Listed a)) ∙ z)));
       kept = tt;
     }
 
     pub and-two : Store job work n → p < first-terms + n → op-of t ≡ BvAnd → operands-of t ≡ Listed a → a .count ≡ 2
-        → {x y : ℕ} → x ≡ getD (arguments job a) 0 0 → y ≡ getD (arguments job a) 1 0 → Conjunction job work n p (Two x y)
+        → {x y : ℕ} → x ≡ getD (words-in job a) 0 0 → y ≡ getD (words-in job a) 1 0 → Conjunction job work n p (Two x y)
     and-two store there e d l {x} {y} f g =
         let given = list-given s store there a d in
         record {
           arguments = ap₂ (λ (u v : Term). some (u, v)) (ap (tree job work n) f) (ap (tree job work n) g)
-              ∙ sym (ap (either none two-of) (args-are s BvAnd (Listed a) e d) ∙ two-of-is (tree job work n) (arguments job a) (count-length job (Listed a) ∙ l));
+              ∙ sym (ap (either none two-of) (args-are s BvAnd (Listed a) e d) ∙ two-of-is (tree job work n) (words-in job a) (count-length job (Listed a) ∙ l));
           kept = (operand-below given 0 (omega arith) f, operand-below given 1 (omega arith) g);
         }
 

@@ -9,7 +9,7 @@ use Rattle.theory.specs.Sort.{Sort, all-bv, sum-widths, sort-of}
 use Rattle.theory.specs.Record.{Bytes}
 use Rattle.terms.specs.declared.Args.{Args}
 use Rattle.terms.specs.declared.Operands.the-variants.{List as Listed}
-use Rattle.terms.specs.Decoded.{listed}
+use Rattle.terms.specs.Decoded.{words-in}
 use Rattle.store.specs.Numbers.{true-number, false-number}
 use Rattle.store.specs.Sorts.{Arguments}
 use Rattle.operand_rules.specs.Rules.{One, tree, width-in}
@@ -32,8 +32,8 @@ sorts-in job work n ks = map sort-of (map (tree job work n) ks)
 -- a list of bit-vectors, their widths at most 64 together, and the claim
 pub record Concat (job work : Bytes) (n : ℕ) (list : Args) (claim : ℕ) : Type 0 where
   pub arguments : Arguments job work n (Listed list)
-  pub bit-vectors : T (all-bv (sorts-in job work n (listed job list)))
-  pub fits : sum-widths (sorts-in job work n (listed job list)) ≤ max-width
+  pub bit-vectors : T (all-bv (sorts-in job work n (words-in job list)))
+  pub fits : sum-widths (sorts-in job work n (words-in job list)) ≤ max-width
   pub claimed : claim < first-terms + n
 
 -- the bit that a term's number says literally

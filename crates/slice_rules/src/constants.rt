@@ -6,7 +6,7 @@ ghost use Rattle.theory.specs.Limit.{first-terms};
 ghost use Rattle.theory.specs.Optional.{collect};
 ghost use Rattle.theory.specs.RuleTable.{by-value};
 ghost use Rattle.theory.specs.Rule.{value-bits, verdict};
-ghost use Rattle.terms.specs.Decoded.{Inside, listed};
+ghost use Rattle.terms.specs.Decoded.{Inside, words-in};
 ghost use Rattle.store.specs.Store.{Store};
 ghost use Rattle.operand_rules.specs.Rules.{tree, verdict-of};
 ghost use Rattle.slice_rules.specs.Given.{literal-number};
@@ -19,7 +19,7 @@ use terms::Term;
 // Each bit is literally `true` or `false`, and they have this value.
 fn value_check(job: &[u8], list: Args, value: u64) -> Verdict
     requires { ⌜ Inside (now job) list ⌝ }
-    ensures { λ v. ⌜ verdict-of v ≡ value-bits value (collect (map literal-number (listed (now (job .entry)) list))) ⌝ }
+    ensures { λ v. ⌜ verdict-of v ≡ value-bits value (collect (map literal-number (words-in (now (job .entry)) list))) ⌝ }
 {
     let mut sum: u64 = 0;
     let mut i = list.count;

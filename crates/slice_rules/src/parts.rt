@@ -11,7 +11,7 @@ ghost use Rattle.theory.specs.Bits.{get-term-bits, bb, extract-bits, concat-bit
 ghost use Rattle.theory.specs.Verdict.{held};
 ghost use Rattle.theory.specs.RuleTable.{by-extract, by-concat, by-sign-extend};
 ghost use Rattle.theory.specs.Rule.{compare, verdict};
-ghost use Rattle.terms.specs.Decoded.{listed};
+ghost use Rattle.terms.specs.Decoded.{words-in};
 ghost use Rattle.store.specs.Store.{Store};
 ghost use Rattle.operand_rules.specs.Rules.{tree, verdict-of};
 ghost use Rattle.slice_rules.specs.Given.{Extract, Extend, Concat};
@@ -99,7 +99,7 @@ pub fn sign_extend(job: &[u8], work: &[u8], n: usize, literal: u32) -> Verdict
 // The claim is the term of all arguments' bits, the last argument's first.
 fn concat_check(job: &[u8], work: &[u8], n: usize, list: Args, claim: u32) -> Verdict
     requires { ⌜ Concat (now job) (now work) n list claim ⌝ }
-    ensures { λ v. ⌜ verdict-of v ≡ compare held (bb (concat-bits (map (tree (now (job .entry)) (now (work .entry)) n) (listed (now (job .entry)) list)))) (tree (now (job .entry)) (now (work .entry)) n claim) ⌝ }
+    ensures { λ v. ⌜ verdict-of v ≡ compare held (bb (concat-bits (map (tree (now (job .entry)) (now (work .entry)) n) (words-in (now (job .entry)) list)))) (tree (now (job .entry)) (now (work .entry)) n claim) ⌝ }
 {
     let mut bits = [0u32; 64];
     let mut w: usize = 0;

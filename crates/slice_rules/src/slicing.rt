@@ -7,7 +7,7 @@ ghost use Rattle.theory.specs.Sort.{sort-of, sort-width};
 ghost use Rattle.theory.specs.RuleTable.{by-bitwise-slicing};
 ghost use Rattle.theory.specs.Rule.{slice-verdict, slices-verdict, verdict};
 ghost use Rattle.terms.specs.declared.Operands.the-variants.{List as Listed};
-ghost use Rattle.terms.specs.Decoded.{listed};
+ghost use Rattle.terms.specs.Decoded.{words-in};
 ghost use Rattle.store.specs.Store.{Store};
 ghost use Rattle.store.specs.Sorts.{Arguments};
 ghost use Rattle.operand_rules.specs.Rules.{tree, verdict-of};
@@ -91,7 +91,7 @@ fn next_slice(job: &[u8], work: &[u8], n: usize, a: u32, c: u32, done: usize, sl
 fn slices_check(job: &[u8], work: &[u8], n: usize, a: u32, c: u32, list: Args) -> Verdict
     requires { ⌜ Arguments (now job) (now work) n (Listed list) ⌝ }
     requires { ⌜ (a < first-terms + n) × (c < first-terms + n) ⌝ }
-    ensures { λ v. ⌜ verdict-of v ≡ slices-verdict (tree (now (job .entry)) (now (work .entry)) n a) (tree (now (job .entry)) (now (work .entry)) n c) (sort-width (sort-of (tree (now (job .entry)) (now (work .entry)) n c))) (map (tree (now (job .entry)) (now (work .entry)) n) (listed (now (job .entry)) list)) ⌝ }
+    ensures { λ v. ⌜ verdict-of v ≡ slices-verdict (tree (now (job .entry)) (now (work .entry)) n a) (tree (now (job .entry)) (now (work .entry)) n c) (sort-width (sort-of (tree (now (job .entry)) (now (work .entry)) n c))) (map (tree (now (job .entry)) (now (work .entry)) n) (words-in (now (job .entry)) list)) ⌝ }
 {
     let mut done = width_of(sort_at(job, work, n, c)) as usize;
     let count = list.count;

@@ -26,7 +26,7 @@ use Rattle.terms.specs.declared.Args.{Args}
 use Rattle.terms.specs.declared.Term.{Term as Decoded}
 use Rattle.terms.specs.declared.Term.the-variants as D
 use Rattle.terms.specs.declared.Operands.the-variants.{Two as TwoArgs}
-use Rattle.terms.specs.Decoded.{op-of, operands-of, listed as numbers}
+use Rattle.terms.specs.Decoded.{op-of, operands-of, words-in}
 use Rattle.terms.proofs.Parts.{both}
 use Rattle.store.specs.Terms.{TermAt}
 use Rattle.operand_rules.specs.Rules.{tree}
@@ -104,9 +104,9 @@ not-one n rule (t ∷ u ∷ us) h = refl
 
 -- by the count of its literals in the job
 pub others-unjudged : (n : ℕ) (rule : Rule) (list : Plain) (job : Bytes) (a : Args) → (a .count ≡ 1 → ⊥)
-    → given n (reply 10 0) ≡ answer-to n rule (map (tree-at list) (numbers job a))
+    → given n (reply 10 0) ≡ answer-to n rule (map (tree-at list) (words-in job a))
 others-unjudged n rule list job a h =
-    not-one n rule (map (tree-at list) (numbers job a)) (λ e. h (sym (words-length (a .count) _) ∙ sym (length-map (numbers job a) (tree-at list)) ∙ e))
+    not-one n rule (map (tree-at list) (words-in job a)) (λ e. h (sym (words-length (a .count) _) ∙ sym (length-map (words-in job a) (tree-at list)) ∙ e))
 
 -- the literal of a clause of one is kept
 pub one-below : (b : ℕ) (ks : List ℕ) → length ks ≡ 1 → all-below b ks ≡ true → {x : ℕ} → x ≡ getD ks 0 0 → x < b
@@ -125,6 +125,6 @@ one-literal n {v} rule list (k ∷ []) l {x} e f {r} g =
     given-by p q = rw (p, q)
 
 -- by its literals in the job
-pub one-judged : (n : ℕ) {v : Verdict} (rule : Rule) (list : Plain) (job : Bytes) (a : Args) → a .count ≡ 1 → {x : ℕ} → x ≡ getD (numbers job a) 0 0 → v ≡ verdict rule (tree-at list x)
-    → {r : Reply} → Judged v (tree-at list x) r → given n r ≡ answer-to n rule (map (tree-at list) (numbers job a))
-one-judged n rule list job a c e f j = one-literal n rule list (numbers job a) (words-length (a .count) _ ∙ c) e f j
+pub one-judged : (n : ℕ) {v : Verdict} (rule : Rule) (list : Plain) (job : Bytes) (a : Args) → a .count ≡ 1 → {x : ℕ} → x ≡ getD (words-in job a) 0 0 → v ≡ verdict rule (tree-at list x)
+    → {r : Reply} → Judged v (tree-at list x) r → given n r ≡ answer-to n rule (map (tree-at list) (words-in job a))
+one-judged n rule list job a c e f j = one-literal n rule list (words-in job a) (words-length (a .count) _ ∙ c) e f j

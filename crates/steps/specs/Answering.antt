@@ -14,7 +14,7 @@ use Rattle.theory.specs.Codes.{all-below}
 use Rattle.theory.specs.Answer.{Answer, encode-answers}
 use Rattle.theory.specs.Job.{right-depth}
 use Rattle.terms.specs.declared.Args.{Args}
-use Rattle.terms.specs.Decoded.{Inside, listed}
+use Rattle.terms.specs.Decoded.{Inside, words-in}
 use Rattle.store.specs.Store.{Store}
 use Rattle.steps.specs.declared.answers.Reply.{Reply}
 
@@ -30,7 +30,7 @@ with-answers old k new = take (answer-bytes * k) old ++ (encode-answers new ++ d
 pub record Literals (job work : Bytes) (n : ℕ) (literals : Args) : Type 0 where
   pub store : Store job work n
   pub inside : Inside job literals
-  pub below : all-below (first-terms + n) (listed job literals) ≡ true
+  pub below : all-below (first-terms + n) (words-in job literals) ≡ true
 
 -- the reply has the verdict's code; and the right side's depth where it accepts, if it is a rule's verdict on the literal
 pub record Judged (v : Verdict) (literal : Term) (r : Reply) : Type 0 where

@@ -12,7 +12,7 @@ ghost use Rattle.theory.specs.RuleTable.{Rule, rule-at};
 ghost use Rattle.theory.specs.Rule.{verdict as verdict·of};
 ghost use Rattle.theory.specs.Job.{right-depth, answer-to};
 ghost use Rattle.theory.proofs.Places.{tree-at};
-ghost use Rattle.terms.specs.Decoded.{listed as numbers};
+ghost use Rattle.terms.specs.Decoded.{words-in};
 ghost use Rattle.store.specs.Store.{Store, listed};
 ghost use Rattle.operand_rules.specs.Rules.{tree, verdict-of};
 ghost use Rattle.steps.specs.Answering.{given, Literals, Judged};
@@ -77,7 +77,7 @@ fn judge(job: &[u8], work: &[u8], n: usize, literal: u32, v: Verdict) -> Reply
 // The answer of a rule to a clause.
 pub fn answer(job: &[u8], work: &[u8], n: usize, rule: u32, literals: Args) -> Reply
     requires { ⌜ Literals (now job) (now work) n literals ⌝ }
-    ensures { λ r. ⌜ ((by : Rule) → rule-at rule ≡ some by → given rule r ≡ answer-to rule by (map (tree-at (listed (now (job .entry)) (now (work .entry)) n)) (numbers (now (job .entry)) literals))) ⌝ }
+    ensures { λ r. ⌜ ((by : Rule) → rule-at rule ≡ some by → given rule r ≡ answer-to rule by (map (tree-at (listed (now (job .entry)) (now (work .entry)) n)) (words-in (now (job .entry)) literals))) ⌝ }
 {
     let count = literals.count;
     if count != 1 {

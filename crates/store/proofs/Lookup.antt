@@ -27,12 +27,12 @@ use Rattle.theory.proofs.Places.{tree-at}
 use Rattle.theory.proofs.Place.{item-is, agrees, find-from, find, lookup, place, item-says, says-item, found-from, constants-placed, place-tree, tree-place}
 use Rattle.rows.specs.Layout.{missing}
 use Rattle.rows.specs.Rows.{place-from, place-of}
-use Rattle.table.specs.Keys.{record-of, all-places, place-list, place-constant}
-use Rattle.table.specs.Keys.{numbers as number-bytes-of}
+use Rattle.table.specs.Keys.{record-of, words-bytes, all-places, place-list, place-constant}
 use Rattle.rows.proofs.RowLaws.{same-refl, same-sound}
 use Rattle.store.specs.Numbers.{number, numbers, bit-number, bb-number, constant-number}
 use Rattle.store.specs.Store.{records}
-use Rattle.store.proofs.Reading.{numbers-length, numbers-bytes, record-sound, read-plain, read-indexed, read-constant}
+use Rattle.table.proofs.KeyLaws.{words-bytes-length}
+use Rattle.store.proofs.Reading.{words-bytes-small, record-sound, read-plain, read-indexed, read-constant}
 
 -- ---- one record: the lookup by bytes and the lookup by what a record says
 pub bool-ext : (a b : Bool) → (T a → T b) → (T b → T a) → a ≡ b
@@ -174,20 +174,20 @@ module _ (list : Plain) (w : WellKept list) where
           absurd (g (says-count (x .0 .bytes) o ks s))
 
   -- the number of a gate whose arguments have these numbers
-  listed : (o : Op) (ks : List ℕ) → kind o < 100 → (kind o < 2 → ⊥) → shape-of (kind o) ≡ some (plain o) → (T (takes (arity o) (length ks)) → length ks ≤ 64)
-      → T (all-places ks) → place-of (record-of (kind o) (number-bytes-of ks)) (records list) ≡ number (find list o ks)
-  listed o ks h f e small p = go (takes (arity o) (length ks)) refl
+  gate-found : (o : Op) (ks : List ℕ) → kind o < 100 → (kind o < 2 → ⊥) → shape-of (kind o) ≡ some (plain o) → (T (takes (arity o) (length ks)) → length ks ≤ 64)
+      → T (all-places ks) → place-of (record-of (kind o) (words-bytes ks)) (records list) ≡ number (find list o ks)
+  gate-found o ks h f e small p = go (takes (arity o) (length ks)) refl
     where
-      go : (b : Bool) → takes (arity o) (length ks) ≡ b → place-of (record-of (kind o) (number-bytes-of ks)) (records list) ≡ number (find list o ks)
+      go : (b : Bool) → takes (arity o) (length ks) ≡ b → place-of (record-of (kind o) (words-bytes ks)) (records list) ≡ number (find list o ks)
       go true c =
           let l = small (is-T _ c) in
-          let n = numbers-length ks in
-          place-find (record-of (kind o) (number-bytes-of ks)) o ks (record-sound (kind o) (number-bytes-of ks) (omega arith) (numbers-bytes ks))
+          let n = words-bytes-length ks in
+          place-find (record-of (kind o) (words-bytes ks)) o ks (record-sound (kind o) (words-bytes ks) (omega arith) (words-bytes-small ks))
           (read-plain o ks h e p ∙ ap (λ (b : Bool). cond b (term o ks) misfit) c)
       go false c =
           let q = parts-of list refl in
-          ap (λ (l : Plain). place-of (record-of (kind o) (number-bytes-of ks)) (records l)) (q .whole)
-          ∙ place-none (record-of (kind o) (number-bytes-of ks)) (read-plain o ks h e p ∙ ap (λ (b : Bool). cond b (term o ks) misfit) c) first-terms (q .rest) (kept-says q)
+          ap (λ (l : Plain). place-of (record-of (kind o) (words-bytes ks)) (records l)) (q .whole)
+          ∙ place-none (record-of (kind o) (words-bytes ks)) (read-plain o ks h e p ∙ ap (λ (b : Bool). cond b (term o ks) misfit) c) first-terms (q .rest) (kept-says q)
           ∙ ap number (sym (find-unfit o ks f (λ t. subst T c t)))
 
 -- ---- numbers that may be missing
@@ -237,14 +237,14 @@ module _ (list : Plain) (w : WellKept list) (few : length list ≤ max-terms) wh
   gate-number o h f e ps small q = go (collect ps) (collect-some ps q) (collect-none ps)
     where
       go : (c : Option (List ℕ)) → ((ks : List ℕ) → c ≡ some ks → (map number ps ≡ ks) × T (all-places ks)) → (c ≡ none → all-places (map number ps) ≡ false)
-          → cond (all-places (map number ps)) (place-of (record-of (kind o) (number-bytes-of (map number ps))) (records list)) missing ≡ number (either none (find list o) c)
-      go none a b = ap (λ (t : Bool). cond t (place-of (record-of (kind o) (number-bytes-of (map number ps))) (records list)) missing) (b refl)
+          → cond (all-places (map number ps)) (place-of (record-of (kind o) (words-bytes (map number ps))) (records list)) missing ≡ number (either none (find list o) c)
+      go none a b = ap (λ (t : Bool). cond t (place-of (record-of (kind o) (words-bytes (map number ps))) (records list)) missing) (b refl)
       go (some ks) a b =
           let r = a ks refl in
           let l : length ks ≡ length ps = ap length (sym (r .0)) ∙ length-map ps number in
-          ap (λ (js : List ℕ). cond (all-places js) (place-of (record-of (kind o) (number-bytes-of js)) (records list)) missing) (r .0)
-          ∙ ap (λ (t : Bool). cond t (place-of (record-of (kind o) (number-bytes-of ks)) (records list)) missing) (T-is (all-places ks) (r .1))
-          ∙ listed list w o ks h f e (λ t. let m = small (subst (λ (n : ℕ). T (takes (arity o) n)) l t) in omega arith) (r .1)
+          ap (λ (js : List ℕ). cond (all-places js) (place-of (record-of (kind o) (words-bytes js)) (records list)) missing) (r .0)
+          ∙ ap (λ (t : Bool). cond t (place-of (record-of (kind o) (words-bytes ks)) (records list)) missing) (T-is (all-places ks) (r .1))
+          ∙ gate-found list w o ks h f e (λ t. let m = small (subst (λ (n : ℕ). T (takes (arity o) n)) l t) in omega arith) (r .1)
 
   -- a place that is found is one
   find-place : (o : Op) (ks : List ℕ) (k : ℕ) → find list o ks ≡ some k → k < length list
@@ -311,7 +311,7 @@ module _ (list : Plain) (w : WellKept list) (few : length list ≤ max-terms) wh
   -- a bit of a term
   bit-missing : (i : ℕ) → bit-number (records list) i missing ≡ missing
   unfolding place-list all-places
-  bit-missing i = go (ltb i max-terms) (place-of (record-of 30 (number-bytes-of (i ∷ missing ∷ []))) (records list))
+  bit-missing i = go (ltb i max-terms) (place-of (record-of 30 (words-bytes (i ∷ missing ∷ []))) (records list))
     where
       go : (b : Bool) (x : ℕ) → cond (b && false) x missing ≡ missing
       go true x = refl
@@ -321,10 +321,10 @@ module _ (list : Plain) (w : WellKept list) (few : length list ≤ max-terms) wh
   unfolding place-list all-places shape-of
   bit-found i k h l =
       let p : T (all-places (i ∷ k ∷ [])) = and-i (ltb i max-terms) (ltb k max-terms && true) (lt→ltb i max-terms (omega arith)) (and-i (ltb k max-terms) true (lt→ltb k max-terms l) tt) in
-      let n = numbers-length (i ∷ k ∷ []) in
-      ap (λ (b : Bool). cond b (place-of (record-of 30 (number-bytes-of (i ∷ k ∷ []))) (records list)) missing) (T-is (all-places (i ∷ k ∷ [])) p)
-      ∙ place-find list w (record-of 30 (number-bytes-of (i ∷ k ∷ []))) (BvBitOf i) (k ∷ [])
-      (record-sound 30 (number-bytes-of (i ∷ k ∷ [])) (omega arith) (numbers-bytes (i ∷ k ∷ [])))
+      let n = words-bytes-length (i ∷ k ∷ []) in
+      ap (λ (b : Bool). cond b (place-of (record-of 30 (words-bytes (i ∷ k ∷ []))) (records list)) missing) (T-is (all-places (i ∷ k ∷ [])) p)
+      ∙ place-find list w (record-of 30 (words-bytes (i ∷ k ∷ []))) (BvBitOf i) (k ∷ [])
+      (record-sound 30 (words-bytes (i ∷ k ∷ [])) (omega arith) (words-bytes-small (i ∷ k ∷ [])))
       (read-indexed BvBitOf i k (omega arith) refl refl p)
 
   pub bit-hom : (i : ℕ) → i < 64 → (t : Term) → number-of (node (BvBitOf i) (cons t nil)) ≡ bit-number (records list) i (number-of t)

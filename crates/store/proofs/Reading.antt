@@ -14,31 +14,27 @@ use Rattle.theory.specs.Kind.{Op, Const, kind, Arity, exactly, arity, takes}
 use Rattle.theory.specs.Record.{Bytes, little-endian, word, words, bytes-of, kind-of, body-of, fits, arguments, Shape, plain, indexed, valued, shape-of, term, misfit, read-term, read-step, read-back, read}
 use Rattle.theory.proofs.Blast.{T-true}
 use Rattle.theory.proofs.Bytes.{AllBytes, Sound}
-use Rattle.table.specs.Keys.{record-of, numbers, all-places}
+use Rattle.table.specs.Keys.{record-of, words-bytes, all-places}
+use Rattle.table.proofs.KeyLaws.{words-bytes-length}
 
 -- ---- numbers as bytes
-pub numbers-length : (xs : List ℕ) → length (numbers xs) ≡ 2 * length xs
-unfolding numbers
-numbers-length [] = refl
-numbers-length (x ∷ xs) = omega (arith, numbers-length xs)
-
 word-of : (x : ℕ) (more : Bytes) → x < 65536 → word (x % 256 ∷ x / 256 % 256 ∷ more) ≡ x
 word-of x more h = omega arith
 
-pub words-numbers : (xs : List ℕ) → T (all-places xs) → words (length xs) (numbers xs) ≡ xs
-unfolding numbers all-places
-words-numbers [] h = refl
-words-numbers (x ∷ xs) h =
+pub words-of-bytes : (xs : List ℕ) → T (all-places xs) → words (length xs) (words-bytes xs) ≡ xs
+unfolding words-bytes all-places
+words-of-bytes [] h = refl
+words-of-bytes (x ∷ xs) h =
     let l : x < 65535 = ltb→lt x max-terms (and-l (ltb x max-terms) _ h) in
-    ap₂ (λ (y : ℕ) (ys : List ℕ). y ∷ ys) (word-of x (numbers xs) (omega arith)) (words-numbers xs (and-r (ltb x max-terms) _ h))
+    ap₂ (λ (y : ℕ) (ys : List ℕ). y ∷ ys) (word-of x (words-bytes xs) (omega arith)) (words-of-bytes xs (and-r (ltb x max-terms) _ h))
 
 bytes-small : (x : ℕ) (more : Bytes) → AllBytes more → AllBytes (bytes-of 2 x ++ more)
 bytes-small x more h = (omega arith, (omega arith, h))
 
-pub numbers-bytes : (xs : List ℕ) → AllBytes (numbers xs)
-unfolding numbers
-numbers-bytes [] = tt
-numbers-bytes (x ∷ xs) = bytes-small x (numbers xs) (numbers-bytes xs)
+pub words-bytes-small : (xs : List ℕ) → AllBytes (words-bytes xs)
+unfolding words-bytes
+words-bytes-small [] = tt
+words-bytes-small (x ∷ xs) = bytes-small x (words-bytes xs) (words-bytes-small xs)
 
 -- ---- a record's parts
 pub record-kind : (k : ℕ) (body : Bytes) → k < 65536 → kind-of (record-of k body) ≡ k
@@ -75,14 +71,14 @@ read-as k s body h e =
     by-kind false false f g = refl
 
 -- ---- a body: some bytes, then arguments
-front-length : (pre : Bytes) (ks : List ℕ) → length (pre ++ numbers ks) ≡ length pre + 2 * length ks
-front-length pre ks = length-append pre (numbers ks) ∙ ap (λ (n : ℕ). length pre + n) (numbers-length ks)
+front-length : (pre : Bytes) (ks : List ℕ) → length (pre ++ words-bytes ks) ≡ length pre + length ks * 2
+front-length pre ks = length-append pre (words-bytes ks) ∙ ap (λ (n : ℕ). length pre + n) (words-bytes-length ks)
 
-fits-front : (pre : Bytes) (ks : List ℕ) (allowed : ℕ → Bool) → fits (length pre) allowed (pre ++ numbers ks) ≡ allowed (length ks)
+fits-front : (pre : Bytes) (ks : List ℕ) (allowed : ℕ → Bool) → fits (length pre) allowed (pre ++ words-bytes ks) ≡ allowed (length ks)
 fits-front pre ks allowed =
-    go (length (pre ++ numbers ks)) (front-length pre ks)
+    go (length (pre ++ words-bytes ks)) (front-length pre ks)
   where
-    go : (l : ℕ) → l ≡ length pre + 2 * length ks
+    go : (l : ℕ) → l ≡ length pre + length ks * 2
         → leb (length pre) l && (eqb ((l - length pre) % 2) 0 && allowed ((l - length pre) / 2)) ≡ allowed (length ks)
     go l e =
         let a : leb (length pre) l ≡ true = T-true (leb (length pre) l) (le→leb (length pre) l (omega arith)) in
@@ -90,32 +86,32 @@ fits-front pre ks allowed =
         let c : (l - length pre) / 2 ≡ length ks = omega arith in
         rw (a, b, c)
 
-arguments-front : (pre : Bytes) (ks : List ℕ) → T (all-places ks) → arguments (length pre) (pre ++ numbers ks) ≡ ks
+arguments-front : (pre : Bytes) (ks : List ℕ) → T (all-places ks) → arguments (length pre) (pre ++ words-bytes ks) ≡ ks
 arguments-front pre ks h =
     let l = front-length pre ks in
-    let c : (length (pre ++ numbers ks) - length pre) / 2 ≡ length ks = omega arith in
-    ap₂ words c (drop-at pre (numbers ks) (length pre) refl) ∙ words-numbers ks h
+    let c : (length (pre ++ words-bytes ks) - length pre) / 2 ≡ length ks = omega arith in
+    ap₂ words c (drop-at pre (words-bytes ks) (length pre) refl) ∙ words-of-bytes ks h
 
 -- what a record of kind o with these arguments says
 abbrev pub Says : Bytes → Op → List ℕ → Type 0
 Says r o ks = read r ≡ cond (takes (arity o) (length ks)) (term o ks) misfit
 
 -- a kind without indices
-pub read-plain : (o : Op) (ks : List ℕ) → kind o < 100 → shape-of (kind o) ≡ some (plain o) → T (all-places ks) → Says (record-of (kind o) (numbers ks)) o ks
+pub read-plain : (o : Op) (ks : List ℕ) → kind o < 100 → shape-of (kind o) ≡ some (plain o) → T (all-places ks) → Says (record-of (kind o) (words-bytes ks)) o ks
 read-plain o ks h e p =
-    read-as (kind o) (plain o) (numbers ks) h e
+    read-as (kind o) (plain o) (words-bytes ks) h e
     ∙ ap₂ (λ (b : Bool) (js : List ℕ). cond b (term o js) misfit) (fits-front [] ks (takes (arity o))) (arguments-front [] ks p)
 
 -- a kind with one index, which stands before the argument
 pub read-indexed : (f : ℕ → Op) (i x : ℕ) → kind (f i) < 100 → shape-of (kind (f i)) ≡ some (indexed f) → arity (f i) ≡ exactly 1
-    → T (all-places (i ∷ x ∷ [])) → read (record-of (kind (f i)) (numbers (i ∷ x ∷ []))) ≡ term (f i) (x ∷ [])
-unfolding numbers all-places
+    → T (all-places (i ∷ x ∷ [])) → read (record-of (kind (f i)) (words-bytes (i ∷ x ∷ []))) ≡ term (f i) (x ∷ [])
+unfolding words-bytes all-places
 read-indexed f i x h e a p =
     let l : i < 65535 = ltb→lt i max-terms (and-l (ltb i max-terms) _ p) in
-    let w : word (numbers (i ∷ x ∷ [])) ≡ i = word-of i (numbers (x ∷ [])) (omega arith) in
-    read-as (kind (f i)) (indexed f) (numbers (i ∷ x ∷ [])) h e
-    ∙ ap₂ (λ (b : Bool) (js : List ℕ). cond b (term (f (word (numbers (i ∷ x ∷ [])))) js) misfit)
-    (fits-front (bytes-of 2 i) (x ∷ []) (takes (arity (f (word (numbers (i ∷ x ∷ [])))))) ∙ ap (λ (j : ℕ). takes (arity (f j)) 1) w ∙ ap (λ (r : Arity). takes r 1) a)
+    let w : word (words-bytes (i ∷ x ∷ [])) ≡ i = word-of i (words-bytes (x ∷ [])) (omega arith) in
+    read-as (kind (f i)) (indexed f) (words-bytes (i ∷ x ∷ [])) h e
+    ∙ ap₂ (λ (b : Bool) (js : List ℕ). cond b (term (f (word (words-bytes (i ∷ x ∷ [])))) js) misfit)
+    (fits-front (bytes-of 2 i) (x ∷ []) (takes (arity (f (word (words-bytes (i ∷ x ∷ [])))))) ∙ ap (λ (j : ℕ). takes (arity (f j)) 1) w ∙ ap (λ (r : Arity). takes r 1) a)
     (arguments-front (bytes-of 2 i) (x ∷ []) (and-r (ltb i max-terms) _ p))
     ∙ ap (λ (j : ℕ). term (f j) (x ∷ [])) w
 

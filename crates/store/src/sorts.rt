@@ -1,8 +1,8 @@
 // Sorts, and the sort and the depth of a term at a place.
 ghost use mathlib.Core.Path.{_≡_};
-ghost use Prim.Native.Nat.{_+_, _-_, _<_};
+ghost use Prim.Native.Nat.{_+_, _<_};
 ghost use Rattle.theory.specs.Limit.{first-terms};
-ghost use Rattle.theory.specs.Sort.{width, sort-width, sort-of};
+ghost use Rattle.theory.specs.Sort.{sort-width, sort-of};
 ghost use Rattle.theory.specs.Depth.{depth};
 ghost use Rattle.theory.proofs.Places.{tree-at};
 ghost use Rattle.rows.specs.Layout.{Bounded, number-end};

@@ -12,7 +12,7 @@ use Rattle.terms.specs.Framing.{record-at}
 use Rattle.rows.specs.Layout.{missing, number-at, number-end, max-rows}
 use Rattle.rows.specs.Rows.{depths, kept, place-of, widths}
 use Rattle.table.specs.Slots.{Table, TableOf, added-row, seek-of, slot-count, start-of}
-use Rattle.table.specs.Promise.{Grown, answer-to, count-after, list-after, room-for}
+use Rattle.table.specs.Promise.{Grown, added-for, count-after, list-after, room-for}
 use Rattle.rows.proofs.RowLaws.{and-first, and-second, length-kept}
 use Rattle.table.proofs.SlotLaws.{FreeAt, place-in, seek-is-at, seek-is-free, seek-is-place, start-below, turn-below}
 use Rattle.table.proofs.TableLaws.{never-full}
@@ -96,8 +96,8 @@ module _ (job work : Bytes) (n c : ℕ) (table : TableOf job work n c) (slot : r
   place-sought q e = sym (seek-is-place job work n c table x) ∙ ap place-in e
 
   spent-or-new : (q : Seek) → place-in q ≡ missing → seek-of job work c x ≡ q
-      → answer-to x (kept job work n) (length work) ≡ cond (room-for n (length work)) (Added.New (2 + n)) Added.Spent
-  unfolding answer-to
+      → added-for x (kept job work n) (length work) ≡ cond (room-for n (length work)) (Added.New (2 + n)) Added.Spent
+  unfolding added-for
   spent-or-new q m e = rw (eq-eqb (place-of x (kept job work n)) missing (place-sought q e ∙ m), length-kept job work n)
 
   answer-full : (room : Bool) → room-for n (length work) ≡ room → seek-of job work c x ≡ Seek.Full
@@ -105,11 +105,11 @@ module _ (job work : Bytes) (n c : ℕ) (table : TableOf job work n c) (slot : r
   answer-full true f e = absurd (never-full job work n c table x (slot f) e)
   answer-full false f e = refl
 
-  found-is : (p : ℕ) → place-of x (kept job work n) ≡ p → (p ≡ missing → ⊥) → Added.Found p ≡ answer-to x (kept job work n) (length work)
-  unfolding answer-to
+  found-is : (p : ℕ) → place-of x (kept job work n) ≡ p → (p ≡ missing → ⊥) → Added.Found p ≡ added-for x (kept job work n) (length work)
+  unfolding added-for
   found-is p r f = rw (r, ne-eqb p missing f)
 
-  answer-is : (q : Seek) → seek-of job work c x ≡ q → answer-for q (room-for n (length work)) n ≡ answer-to x (kept job work n) (length work)
+  answer-is : (q : Seek) → seek-of job work c x ≡ q → answer-for q (room-for n (length work)) n ≡ added-for x (kept job work n) (length work)
   unfolding answer-for place-in
   answer-is (Seek.At p) e =
       let small : p ≤ n + 1 = seek-is-at job work c x n p (table .slots .low) e in
@@ -136,7 +136,7 @@ module _ (job work : Bytes) (n c at depth width : ℕ) (table : TableOf job work
 
   grown-same : (r : Added) → count-after r n ≡ n → list-after r (record-at job at) (kept job work n) ≡ kept job work n
       → list-after r depth (depths work n) ≡ depths work n → list-after r width (widths work n) ≡ widths work n
-      → r ≡ answer-to (record-at job at) (kept job work n) (length work) → Grown job work work n at depth width r
+      → r ≡ added-for (record-at job at) (kept job work n) (length work) → Grown job work work n at depth width r
   grown-same r a b d e f = record {
     answer-is = f;
     table = rw a (retable work n refl table);
@@ -146,7 +146,7 @@ module _ (job work : Bytes) (n c at depth width : ℕ) (table : TableOf job work
   }
 
   grown-free : (t : ℕ) → seek-of job work c (record-at job at) ≡ Seek.Free t → (room : Bool) → room-for n (length work) ≡ room
-      → cond room (Added.New (2 + n)) Added.Spent ≡ answer-to (record-at job at) (kept job work n) (length work)
+      → cond room (Added.New (2 + n)) Added.Spent ≡ added-for (record-at job at) (kept job work n) (length work)
       → Grown job work (cond room (added-row work n t at depth width) work) n at depth width (cond room (Added.New (2 + n)) Added.Spent)
   unfolding count-after list-after
   grown-free t e true f g =
@@ -162,7 +162,7 @@ module _ (job work : Bytes) (n c at depth width : ℕ) (table : TableOf job work
   grown-free t e false f g = grown-same Added.Spent refl refl refl refl g
 
   grown-is : (q : Seek) → seek-of job work c (record-at job at) ≡ q
-      → answer-for q (room-for n (length work)) n ≡ answer-to (record-at job at) (kept job work n) (length work)
+      → answer-for q (room-for n (length work)) n ≡ added-for (record-at job at) (kept job work n) (length work)
       → Grown job work (memory-for q (room-for n (length work)) work n at depth width) n at depth width (answer-for q (room-for n (length work)) n)
   unfolding memory-for answer-for count-after list-after
   grown-is (Seek.At p) e g = grown-same (Added.Found p) refl refl refl refl g

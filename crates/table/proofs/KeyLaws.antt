@@ -13,7 +13,7 @@ use borrow.Author.Tests.{le-ltb, lt-ltb}
 use Rattle.theory.specs.Record.{Bytes, bytes-of}
 use Rattle.rows.specs.Layout.{missing, key-bytes}
 use Rattle.rows.specs.Rows.{place-of}
-use Rattle.table.specs.Keys.{all-places, numbers, place-constant, place-list, record-of}
+use Rattle.table.specs.Keys.{all-places, words-bytes, place-constant, place-list, record-of}
 use Rattle.rows.proofs.RowLaws.{and-first, and-second}
 use Rattle.theory.specs.Limit.{max-terms, number-bytes, value-bytes}
 
@@ -47,20 +47,20 @@ written-more {key} {p} {at} w k x h e =
 
 -- ---- a list of numbers
 
-numbers-append : (xs ys : List ℕ) → numbers (xs ++ ys) ≡ numbers xs ++ numbers ys
-unfolding numbers
-numbers-append [] ys = refl
-numbers-append (x ∷ xs) ys =
-    ap (λ (l : Bytes). bytes-of number-bytes x ++ l) (numbers-append xs ys) ∙ sym (append-assoc (bytes-of number-bytes x) (numbers xs) (numbers ys))
+words-bytes-append : (xs ys : List ℕ) → words-bytes (xs ++ ys) ≡ words-bytes xs ++ words-bytes ys
+unfolding words-bytes
+words-bytes-append [] ys = refl
+words-bytes-append (x ∷ xs) ys =
+    ap (λ (l : Bytes). bytes-of number-bytes x ++ l) (words-bytes-append xs ys) ∙ sym (append-assoc (bytes-of number-bytes x) (words-bytes xs) (words-bytes ys))
 
-numbers-one : (x : ℕ) → numbers (x ∷ []) ≡ bytes-of number-bytes x
-unfolding numbers
-numbers-one x = refl
+words-bytes-one : (x : ℕ) → words-bytes (x ∷ []) ≡ bytes-of number-bytes x
+unfolding words-bytes
+words-bytes-one x = refl
 
-length-numbers : (xs : List ℕ) → length (numbers xs) ≡ length xs * 2
-unfolding numbers
-length-numbers [] = refl
-length-numbers (x ∷ xs) = omega (arith, length-numbers xs)
+pub words-bytes-length : (xs : List ℕ) → length (words-bytes xs) ≡ length xs * 2
+unfolding words-bytes
+words-bytes-length [] = refl
+words-bytes-length (x ∷ xs) = omega (arith, words-bytes-length xs)
 
 places-more : (xs : List ℕ) (x : ℕ) → all-places xs ≡ true → x < max-terms → all-places (xs ++ (x ∷ [])) ≡ true
 unfolding all-places
@@ -80,12 +80,12 @@ pub record Building (kind : ℕ) (xs : List ℕ) (key : Bytes) (at i : ℕ) : Ty
   pub many : i ≤ length xs
   pub far : at ≡ 4 + i * 2
   pub places : all-places (take i xs) ≡ true
-  pub written : Written key ((bytes-of number-bytes (2 + length (numbers xs)) ++ bytes-of number-bytes kind) ++ numbers (take i xs)) at
+  pub written : Written key ((bytes-of number-bytes (2 + length (words-bytes xs)) ++ bytes-of number-bytes kind) ++ words-bytes (take i xs)) at
 
 pub building-start : (kind : ℕ) (xs : List ℕ) {key : Bytes} → Written key (([] ++ bytes-of number-bytes (2 + length xs * 2)) ++ bytes-of number-bytes kind) 4
     → Building kind xs key 4 0
-unfolding numbers all-places
-building-start kind xs w = record { many = omega arith; far = refl; places = refl; written = rw (length-numbers xs) w }
+unfolding words-bytes all-places
+building-start kind xs w = record { many = omega arith; far = refl; places = refl; written = rw (words-bytes-length xs) w }
 
 pub building-turn : {kind : ℕ} {xs : List ℕ} {key : Bytes} {at i : ℕ} → Building kind xs key at i → length xs ≤ 64 → i < length xs
     → (x : ℕ) → x ≡ getD xs i 0 → x < max-terms → {after : Bytes} → after ≡ sets key at (bytes-of number-bytes x) → Building kind xs after (at + 2) (i + 1)
@@ -93,7 +93,7 @@ building-turn {kind} {xs} {key} {at} {i} b few h x e low {after} stored = record
   many = omega arith;
   far = omega (arith, b .far);
   places = rw more (places-more (take i xs) x (b .places) low);
-  written = rw (more, numbers-append, numbers-one) (rw append-assoc at (written-more (b .written) 2 x (omega (arith, b .far)) stored));
+  written = rw (more, words-bytes-append, words-bytes-one) (rw append-assoc at (written-more (b .written) 2 x (omega (arith, b .far)) stored));
 }
   where
     more : take (i + 1) xs ≡ take i xs ++ (x ∷ [])

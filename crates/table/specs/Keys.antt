@@ -1,11 +1,11 @@
 -- The place of a record that is given by its parts.
-use mathlib.Core.Bool.{Bool, true, _&&_, cond}
+use mathlib.Core.Bool.{Bool, cond}
 use mathlib.Core.List.{List, [], _∷_, _++_}
 use Prim.Native.Nat.{ℕ, _+_}
 use lib.ListN.{length}
-use lib.Dec.{ltb}
 use Rattle.theory.specs.Limit.{number-bytes, value-bytes, max-terms}
 use Rattle.theory.specs.Record.{Bytes, bytes-of}
+use Rattle.theory.specs.Codes.{all-below}
 use Rattle.rows.specs.Layout.{missing}
 use Rattle.rows.specs.Rows.{place-of}
 
@@ -14,18 +14,17 @@ unfoldable pub record-of : ℕ → Bytes → Bytes
 record-of kind body = (bytes-of number-bytes (number-bytes + length body) ++ bytes-of number-bytes kind) ++ body
 
 -- the bytes of numbers in a row
-unfoldable pub numbers : List ℕ → Bytes
-numbers [] = []
-numbers (x ∷ xs) = bytes-of number-bytes x ++ numbers xs
+unfoldable pub words-bytes : List ℕ → Bytes
+words-bytes [] = []
+words-bytes (x ∷ xs) = bytes-of number-bytes x ++ words-bytes xs
 
 -- each of them can be a place
 unfoldable pub all-places : List ℕ → Bool
-all-places [] = true
-all-places (x ∷ xs) = ltb x max-terms && all-places xs
+all-places xs = all-below max-terms xs
 
 -- the place of the record of a kind whose body is numbers: arguments, or an index and an argument. Missing where one of them can't be a place
 unfoldable pub place-list : ℕ → List ℕ → List Bytes → ℕ
-place-list kind xs rows = cond (all-places xs) (place-of (record-of kind (numbers xs)) rows) missing
+place-list kind xs rows = cond (all-places xs) (place-of (record-of kind (words-bytes xs)) rows) missing
 
 -- the place of the record of a kind whose body is a number and a value: a constant, by its width and value
 unfoldable pub place-constant : ℕ → ℕ → ℕ → List Bytes → ℕ

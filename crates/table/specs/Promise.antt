@@ -21,8 +21,8 @@ room-for n len = leb (term-bytes * suc n) len && ltb (first-terms + n) max-terms
 
 -- the answer to record x where `rows` are kept in len bytes: the place of the kept record that equals it, or the place after the last, or that
 -- there is no room
-unfoldable pub answer-to : Bytes → List Bytes → ℕ → Added
-answer-to x rows len =
+unfoldable pub added-for : Bytes → List Bytes → ℕ → Added
+added-for x rows len =
     cond (eqb (place-of x rows) missing) (cond (room-for (length rows) len) (New (first-terms + length rows)) Spent) (Found (place-of x rows))
 
 -- the number of rows after an answer
@@ -39,7 +39,7 @@ list-after Spent x rows = rows
 
 -- the record at `at` was added to n rows, with a depth and a width: the answer, and what the work memory keeps then
 pub record Grown (job work after : Bytes) (n at depth width : ℕ) (answer : Added) : Type 0 where
-  pub answer-is : answer ≡ answer-to (record-at job at) (kept job work n) (length work)
+  pub answer-is : answer ≡ added-for (record-at job at) (kept job work n) (length work)
   pub table : Table job after (count-after answer n)
   pub kept-is : kept job after (count-after answer n) ≡ list-after answer (record-at job at) (kept job work n)
   pub depths-are : depths after (count-after answer n) ≡ list-after answer depth (depths work n)

@@ -1,11 +1,10 @@
 -- Counting the codes of answers, one answer at a time.
 use mathlib.Core.Path.{_≡_, sym, ap, _∙_}
 use mathlib.Core.Bool.{Bool, true, false, cond}
-use mathlib.Core.List.{_∷_}
 use Prim.Native.Nat.{ℕ, suc, _+_, _*_, _-_, _≤_, _<_}
 use native.Mathlib.Omega.{arith}
-use lib.ListN.{length, drop, getD}
-use lib.Seq.{drop-cons, drop-drop}
+use lib.ListN.{drop}
+use lib.Seq.{drop-drop}
 use Rattle.theory.specs.Limit.{number-bytes, answer-bytes}
 use Rattle.theory.specs.Record.{Bytes, word}
 use Rattle.theory.specs.Answer.{decode-answer, decode-answers}

@@ -1,12 +1,12 @@
 // The tally that a host lends: what the jobs of its service came to, counted field by field.
 ghost use mathlib.Core.Path.{_≡_};
 ghost use mathlib.Core.Bool.{cond};
-ghost use Prim.Native.Nat.{_+_, _*_, _<_, _≤_};
+ghost use Prim.Native.Nat.{_+_, _*_, _≤_};
 ghost use lib.ListN.{length, drop};
 ghost use Rattle.theory.specs.Answer.{decode-answer, decode-answers};
 ghost use Rattle.theory.specs.Limit.{answer-bytes};
-ghost use Rattle.theory.specs.Tally.{up as held-up, how-many, tally-after};
-ghost use Rattle.tally.specs.Counted.{as-tally, in-class, whole-answers, answers-in};
+ghost use Rattle.theory.specs.Tally.{up as held-up, how-many};
+ghost use Rattle.tally.specs.Counted.{in-class, whole-answers, answers-in};
 use terms::ANSWER_BYTES;
 use terms::Term;
 

@@ -17,7 +17,7 @@ use Rattle.terms.specs.declared.Args.{Args}
 use Rattle.terms.specs.declared.Term.{Term}
 use Rattle.terms.specs.declared.Operands.{Operands}
 use Rattle.terms.specs.declared.Operands.the-variants.{List as Listed}
-use Rattle.terms.specs.Decoded.{Inside, OperandsPlaced, listed, operands-of, numbers-of, arguments-of}
+use Rattle.terms.specs.Decoded.{Inside, OperandsPlaced, words-in, operands-of, numbers-of, arguments-of}
 
 -- ---- argument i is the number at its place
 words-at : (k : ℕ) (bs : Bytes) (i : ℕ) → i < k → getD (words k bs) i 0 ≡ word (drop (number-bytes * i) bs)
@@ -27,11 +27,11 @@ words-at (suc k) bs (suc i) h =
     let e : number-bytes + number-bytes * i ≡ number-bytes * suc i = omega arith in
     words-at k (drop number-bytes bs) i (omega arith) ∙ rw (drop-drop, e)
 
-pub argument-is : (job : Bytes) (a : Args) (i : ℕ) → i < a .count → {x : ℕ} → x ≡ word (drop (a .at + number-bytes * i) job) → x ≡ getD (listed job a) i 0
+pub argument-is : (job : Bytes) (a : Args) (i : ℕ) → i < a .count → {x : ℕ} → x ≡ word (drop (a .at + number-bytes * i) job) → x ≡ getD (words-in job a) i 0
 argument-is job a i h e = e ∙ sym (words-at (a .count) (drop (a .at) job) i h ∙ rw drop-drop)
 
-pub listed-length : (job : Bytes) (a : Args) → length (listed job a) ≡ a .count
-listed-length job a = words-length (a .count) (drop (a .at) job)
+pub words-in-length : (job : Bytes) (a : Args) → length (words-in job a) ≡ a .count
+words-in-length job a = words-length (a .count) (drop (a .at) job)
 
 -- ---- one number is tested
 pub below-on : {n x : ℕ} (xs : List ℕ) → x < n → all-below n (x ∷ xs) ≡ all-below n xs

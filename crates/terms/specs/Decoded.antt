@@ -18,8 +18,8 @@ use Rattle.terms.specs.declared.Item.the-variants as I
 
 -- ---- argument lists
 -- the numbers of a list
-abbrev pub listed : Bytes → Args → List ℕ
-listed job a = words (a .count) (drop (a .at) job)
+abbrev pub words-in : Bytes → Args → List ℕ
+words-in job a = words (a .count) (drop (a .at) job)
 
 -- a list lies in the job, and is not too long
 pub record Inside (job : Bytes) (a : Args) : Type 0 where
@@ -103,7 +103,7 @@ numbers-of job None = []
 numbers-of job (One x) = x ∷ []
 numbers-of job (Two x y) = x ∷ y ∷ []
 numbers-of job (Three x y z) = x ∷ y ∷ z ∷ []
-numbers-of job (Listed a) = listed job a
+numbers-of job (Listed a) = words-in job a
 
 -- the numbers of its arguments, read in the job
 abbrev pub arguments-of : Bytes → Term → List ℕ
@@ -113,7 +113,7 @@ arguments-of job t = numbers-of job (operands-of t)
 -- what it says
 abbrev pub item-of : Bytes → Item → R.Item
 item-of job (I.Term t) = R.term (op-of t) (arguments-of job t)
-item-of job (I.Step n a) = R.step n (listed job a)
+item-of job (I.Step n a) = R.step n (words-in job a)
 item-of job (I.Back n) = R.back n
 item-of job I.Unknown = R.unknown
 item-of job I.Misfit = R.misfit

@@ -1,13 +1,13 @@
 // A job's bytes as decoded records: the numbers in them, where a record ends, and what it says.
 ghost use mathlib.Core.Path.{_≡_};
 ghost use mathlib.Core.Bool.{true};
-ghost use Prim.Native.Nat.{_+_, _*_, _^_, _<_, _≤_};
+ghost use Prim.Native.Nat.{_+_, _^_, _<_, _≤_};
 ghost use lib.ListN.{length, take, drop, getD};
 ghost use Rattle.theory.specs.Limit.{number-bytes, value-bytes};
 ghost use Rattle.theory.specs.Record.{little-endian, word, whole, shape-of, read, read-term, read-step, read-back};
 ghost use Rattle.theory.specs.Codes.{all-below};
 ghost use Rattle.terms.specs.Framing.{part, record-at, frame-of};
-ghost use Rattle.terms.specs.Decoded.{Inside, OperandsPlaced, Placed, Says, listed, item-of, operands-of, arguments-of};
+ghost use Rattle.terms.specs.Decoded.{Inside, OperandsPlaced, Placed, Says, words-in, item-of, operands-of, arguments-of};
 ghost use Rattle.terms.specs.Bodies.{Body, form-of, sized, made};
 
 // The bytes of an answer: its length, its kind, a rule, a code and a depth.
@@ -346,7 +346,7 @@ impl Term {
     // Argument i of a list.
     pub fn argument(job: &[u8], list: Args, i: usize) -> u32
         requires { ⌜ Inside (now job) list × (i < list .count) ⌝ }
-        ensures { λ r. ⌜ r ≡ getD (listed (now (job .entry)) list) i 0 ⌝ }
+        ensures { λ r. ⌜ r ≡ getD (words-in (now (job .entry)) list) i 0 ⌝ }
     {
         let at = list.at;
         Term::number(job, at + Term::NUMBER_BYTES * i)
@@ -355,7 +355,7 @@ impl Term {
     // Is each number of a list below n?
     pub fn all_below(job: &[u8], list: Args, n: u32) -> bool
         requires { ⌜ Inside (now job) list ⌝ }
-        ensures { λ r. ⌜ r ≡ all-below n (listed (now (job .entry)) list) ⌝ }
+        ensures { λ r. ⌜ r ≡ all-below n (words-in (now (job .entry)) list) ⌝ }
     {
         let count = list.count;
         let mut i = 0;

@@ -20,7 +20,7 @@ pub(super) fn damage(m: &mut Maker) -> String {
                 m.bytes[k] = match m.rng.below(3) {
                     0 => m.bytes[k] ^ (1 << m.rng.below(8)),
                     1 => m.rng.below(70) as u8,
-                    _ => m.rng.next() as u8,
+                    _ => m.rng.number() as u8,
                 };
             }
             "bytes changed".to_owned()

@@ -25,7 +25,7 @@ pub(super) const COUNT: usize = KINDS.len() * BODY_COUNT + CUTS + WORKS + ROOMS;
 /// Writes a job of the sort that the limits above are for: claims of width 1 or 2, and a back now and then.
 fn short_job(m: &mut Maker) {
     loop {
-        let mut job = Maker::new(m.rng.next());
+        let mut job = Maker::new(m.rng.number());
         for _ in 0..job.rng.range(2, 5) {
             let rule = job.rng.range(1, 22) as u16;
             let w = job.rng.range(1, 2);

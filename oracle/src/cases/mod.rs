@@ -60,7 +60,7 @@ pub fn fixed() -> usize {
 /// Case number `i` of a seed.
 pub fn case(seed: u64, i: usize) -> Case {
     let mut m = Maker::new(seed.wrapping_mul(0x1_0000_0001).wrapping_add(i as u64 + 1));
-    m.rng.next();
+    m.rng.number();
     let mut i = i;
     for (count, make) in sorts() {
         if i < count {
@@ -130,7 +130,7 @@ fn random(m: &mut Maker, i: usize) -> Case {
             let byte = match m.rng.below(3) {
                 0 => 0,
                 1 => m.rng.below(12) as u8,
-                _ => m.rng.next() as u8,
+                _ => m.rng.number() as u8,
             };
             m.bytes.push(byte);
         }

@@ -53,7 +53,7 @@ impl Maker {
             1 => u64::MAX,
             2 => self.rng.below(4) as u64,
             3 => 1 << self.rng.below(64),
-            _ => self.rng.next(),
+            _ => self.rng.number(),
         }
     }
 

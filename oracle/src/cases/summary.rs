@@ -1,7 +1,7 @@
 //! What the cases reach, and a spot check of accepted steps on random assignments.
 use super::Case;
 use crate::job;
-use crate::maker::Rng;
+use crate::rng::Rng;
 use crate::sem;
 use std::collections::BTreeMap;
 use std::fmt::Write as _;
@@ -21,7 +21,7 @@ pub struct Summary {
 impl Summary {
     /// Runs a case once more, looking at each answered step.
     pub fn look(&mut self, i: usize, c: &Case) {
-        let mut rng = Rng(i as u64);
+        let mut rng = Rng::new(i as u64);
         let mut k = 0;
         let out = job::run_traced(&c.job, c.work, c.room, |s| {
             k += 1;
@@ -37,13 +37,13 @@ impl Summary {
             let tries = if terms.len() > 3_000 { 4 } else { 16 };
             let mut differ = false;
             for _ in 0..tries {
-                let salt = rng.next();
+                let salt = rng.number();
                 let style = rng.below(4);
                 let var = |bytes: &[u8]| {
-                    let mut h = Rng(bytes.iter().fold(salt, |a, &b| a.wrapping_mul(257).wrapping_add(b.into())));
+                    let mut h = Rng::new(bytes.iter().fold(salt, |a, &b| a.wrapping_mul(257).wrapping_add(b.into())));
                     match style {
-                        0 => h.next(),
-                        1 => h.next() >> h.below(64),
+                        0 => h.number(),
+                        1 => h.number() >> h.below(64),
                         2 => *h.clone().pick(&[0, 1, u64::MAX, h.0 % 8]),
                         _ => u64::MAX << h.below(64),
                     }

@@ -1,5 +1,4 @@
 -- One case for each way out.
-use native.Mathlib.Omega.{arith}
 use borrow.Author.Needs.{needs}
 use denote.Ref.{now}
 use Rattle.terms.proofs.Numbers.{all-bytes}

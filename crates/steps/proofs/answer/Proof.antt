@@ -6,7 +6,7 @@ use lib.ListN.{drop}
 use denote.Ref.{now}
 use Rattle.theory.specs.Limit.{first-terms}
 use Rattle.theory.proofs.Bytes.{words-length}
-use Rattle.terms.specs.Decoded.{listed as numbers}
+use Rattle.terms.specs.Decoded.{words-in}
 use Rattle.store.specs.Store.{listed}
 use Rattle.operand_rules.specs.Rules.{tree}
 use Rattle.steps.proofs.Judging.{others-unjudged, one-below, one-judged, of-rule}
@@ -21,13 +21,13 @@ returns c =
 verdict-requires : tie.Need-verdict-requires
 verdict-requires c κs =
     let s = c .before .before .before .before in
-    (s .pre .store, one-below (first-terms + s .args .n) (numbers (now (s .args .job)) (s .args .literals)) (words-length (s .args .literals .count) (drop (s .args .literals .at) (now (s .args .job))) ∙ c .before .if1 .left) (s .pre .below) (c .argument .ensures))
+    (s .pre .store, one-below (first-terms + s .args .n) (words-in (now (s .args .job)) (s .args .literals)) (words-length (s .args .literals .count) (drop (s .args .literals .at) (now (s .args .job))) ∙ c .before .if1 .left) (s .pre .below) (c .argument .ensures))
 
 judge-requires : tie.Need-judge-requires
 judge-requires c κs =
     let a = c .before in
     let s = a .before .before .before .before in
-    (s .pre .store, one-below (first-terms + s .args .n) (numbers (now (s .args .job)) (s .args .literals)) (words-length (s .args .literals .count) (drop (s .args .literals .at) (now (s .args .job))) ∙ a .before .if1 .left) (s .pre .below) (a .argument .ensures))
+    (s .pre .store, one-below (first-terms + s .args .n) (words-in (now (s .args .job)) (s .args .literals)) (words-length (s .args .literals .count) (drop (s .args .literals .at) (now (s .args .job))) ∙ a .before .if1 .left) (s .pre .below) (a .argument .ensures))
 
 returns-2 : tie.Need-returns-2
 returns-2 c =

@@ -6,8 +6,8 @@ use native.Mathlib.Omega.{arith}
 use lib.ListN.{take}
 use denote.Ref.{now}
 use Rattle.theory.specs.Bits.{get-term-bits}
-use Rattle.terms.specs.Decoded.{listed}
-use Rattle.terms.proofs.Lists.{listed-length}
+use Rattle.terms.specs.Decoded.{words-in}
+use Rattle.terms.proofs.Lists.{words-in-length}
 use Rattle.rows.specs.Rows.{kept}
 use Rattle.store.specs.Numbers.{numbers}
 use Rattle.operand_rules.specs.Rules.{number-in, tree}
@@ -18,7 +18,7 @@ use Rattle.list_rules.proofs.folds.fold_arguments.Statement.{statement}
 use Rattle.list_rules.proofs.folds.fold_arguments.Tie as tie
 
 abbrev Inv-loop : tie.InvT-loop
-Inv-loop job work n op list w count bits₀ i₀ bits i = Folding (numbers (kept job work n)) (number-in job work n) (tree job work n) op (listed job list) (take w bits) i
+Inv-loop job work n op list w count bits₀ i₀ bits i = Folding (numbers (kept job work n)) (number-in job work n) (tree job work n) op (words-in job list) (take w bits) i
 
 abbrev μ-loop : tie.MeasureT-loop
 μ-loop job work n op list w count bits₀ i₀ bits i = count - i
@@ -37,7 +37,7 @@ get-term-bits-requires c κs = let s = c .before .before .before in operand-at (
 loop-holds : tie.Need-loop-holds Inv-loop μ-loop
 loop-holds c =
     let s = c .before .before .before .before in let a = s .args in
-    fold-start (store-hom (first-of (s .pre) .store)) (listed (now (a .job)) (a .list)) (omega (arith, listed-length (now (a .job)) (a .list), s .pre .some))
+    fold-start (store-hom (first-of (s .pre) .store)) (words-in (now (a .job)) (a .list)) (omega (arith, words-in-length (now (a .job)) (a .list), s .pre .some))
     (c .get-term-bits .ensures ∙ ap (bits-at s) (c .before .argument .ensures))
 
 get-term-bits-requires-2 : tie.Need-get-term-bits-requires-2 Inv-loop μ-loop
@@ -49,13 +49,13 @@ combine-requires c κs = let s = c .before .before .before .before .before .befo
 loop-again : tie.Need-loop-again Inv-loop μ-loop
 loop-again c =
     let l = c .before .before .before .before in let s = l .before .before .before .before .before in let a = s .args in
-    fold-turn (l .loop .inv) (omega (arith, listed-length (now (a .job)) (a .list), c .before .before .before .loop-test .taken))
+    fold-turn (l .loop .inv) (omega (arith, words-in-length (now (a .job)) (a .list), c .before .before .before .loop-test .taken))
     (c .before .get-term-bits2 .ensures ∙ ap (bits-at s) (c .before .before .argument2 .ensures)) (c .combine .ensures)
 
 returns : tie.Need-returns Inv-loop μ-loop
 returns c =
     let a = c .before .before .before .before .before .before .args in
-    fold-end (c .before .loop .inv) (omega (arith, listed-length (now (a .job)) (a .list), c .loop-test .left))
+    fold-end (c .before .loop .inv) (omega (arith, words-in-length (now (a .job)) (a .list), c .loop-test .left))
 
 pub fold-arguments-spec : {M : Type 1} → statement M
 fold-arguments-spec =

@@ -3,13 +3,13 @@ use mathlib.Core.Path.{refl}
 use Prim.Native.Nat.{_-_}
 use Rattle.theory.specs.Alethe.{bit-of}
 use Rattle.theory.proofs.Bytes.{words-length}
-use Rattle.terms.specs.Decoded.{listed}
+use Rattle.terms.specs.Decoded.{words-in}
 use Rattle.circuits.proofs.FillLaws.{Filling, fill-start, fill-turn, reached}
 use Rattle.operand_rules.proofs.bits.argument_bits.Statement.{statement}
 use Rattle.operand_rules.proofs.bits.argument_bits.Tie as tie
 
 abbrev Inv-loop : tie.InvT-loop
-Inv-loop job list count out₀ i₀ out i = Filling (bit-of 0 (listed job list)) count out i
+Inv-loop job list count out₀ i₀ out i = Filling (bit-of 0 (words-in job list)) count out i
 
 abbrev μ-loop : tie.MeasureT-loop
 μ-loop job list count out₀ i₀ out i = count - i

@@ -6,7 +6,7 @@ use Rattle.theory.specs.Kind.{BvBbTerm}
 use Rattle.theory.specs.RuleTable.{by-value}
 use Rattle.theory.specs.Rule.{value-bits, literal-bits, on-sides}
 use Rattle.terms.specs.declared.Operands.the-variants.{List as Listed}
-use Rattle.terms.specs.Decoded.{op-of, operands-of, listed}
+use Rattle.terms.specs.Decoded.{op-of, operands-of, words-in}
 use Rattle.operand_rules.specs.Rules.{tree}
 use Rattle.operand_rules.proofs.Forms.{no-equation, sides, no-case, args-form, left-below, right-below, list-inside}
 use Rattle.slice_rules.proofs.Fitting.{list-given}
@@ -52,7 +52,7 @@ returns-4 c =
     let below = right-below (t .term-at .ensures) _ _ _ (ap operands-of (l .l .given .1)) (s .pre .1) in
     c .value-check .ensures
     ∙ ap (value-bits _) (numbers-literal (list-given (u .term-at2 .ensures) (s .pre .0) below _ d))
-    ∙ constant-form (v .term-at3 .ensures) _ _ (ap op-of (k .number .given .1)) (ap operands-of (k .number .given .1)) (λ x. value-bits x (literal-bits (map (tree (now (a .job)) (now (a .work)) (a .n)) (listed (now (a .job)) (b .bits .given .0 .0)))))
+    ∙ constant-form (v .term-at3 .ensures) _ _ (ap op-of (k .number .given .1)) (ap operands-of (k .number .given .1)) (λ x. value-bits x (literal-bits (map (tree (now (a .job)) (now (a .work)) (a .n)) (words-in (now (a .job)) (b .bits .given .0 .0)))))
     ∙ sym (args-form (u .term-at2 .ensures) BvBbTerm (Listed _) (ap op-of (b .bits .given .1)) d _)
     ∙ sides (t .term-at .ensures) by-value (l .l .given .1)
 

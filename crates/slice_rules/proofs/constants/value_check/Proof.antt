@@ -4,14 +4,14 @@ use Prim.Native.Nat.{ℕ, _+_, _-_, _*_, _<_}
 use native.Mathlib.Omega.{arith}
 use denote.Ref.{now}
 use Rattle.terms.specs.declared.Operands.the-variants.{List as Listed}
-use Rattle.terms.specs.Decoded.{listed}
+use Rattle.terms.specs.Decoded.{words-in}
 use Rattle.store.proofs.Arguments.{count-length}
 use Rattle.slice_rules.proofs.Literals.{Summing, sum-start, sum-small, sum-turn, sum-lost, sum-same, sum-other}
 use Rattle.slice_rules.proofs.constants.value_check.Statement.{statement}
 use Rattle.slice_rules.proofs.constants.value_check.Tie as tie
 
 abbrev Inv-loop : tie.InvT-loop
-Inv-loop job list value sum₀ i₀ sum i = Summing (listed job list) sum i
+Inv-loop job list value sum₀ i₀ sum i = Summing (words-in job list) sum i
 
 abbrev μ-loop : tie.MeasureT-loop
 μ-loop job list value sum₀ i₀ sum i = i
@@ -19,7 +19,7 @@ abbrev μ-loop : tie.MeasureT-loop
 loop-holds : tie.Need-loop-holds Inv-loop μ-loop
 loop-holds c = let a = c .before .args in
     let l = count-length (now (a .job)) (Listed (a .list)) in
-    subst (λ (i : ℕ). Summing (listed (now (a .job)) (a .list)) 0 i) l (sum-start (omega (arith, c .before .pre .few)))
+    subst (λ (i : ℕ). Summing (words-in (now (a .job)) (a .list)) 0 i) l (sum-start (omega (arith, c .before .pre .few)))
 
 -- there is an argument i - 1
 more : (c : tie.In-loop Inv-loop μ-loop) → c .before .loop .i - 1 < c .before .before .before .args .list .count

@@ -8,7 +8,7 @@ use denote.Ref.{now}
 use Rattle.theory.specs.Bits.{concat-bits}
 use Rattle.theory.specs.Verdict.{held}
 use Rattle.terms.specs.declared.Operands.the-variants.{List as Listed}
-use Rattle.terms.specs.Decoded.{listed}
+use Rattle.terms.specs.Decoded.{words-in}
 use Rattle.store.proofs.Arguments.{count-length}
 use Rattle.operand_rules.specs.Rules.{Operand, tree, width-in}
 use Rattle.operand_rules.proofs.Numbers.{operand-as, bits-end}
@@ -17,14 +17,14 @@ use Rattle.slice_rules.proofs.parts.concat_check.Statement.{statement}
 use Rattle.slice_rules.proofs.parts.concat_check.Tie as tie
 
 abbrev Inv-loop : tie.InvT-loop
-Inv-loop job work n list claim bits₀ w₀ i₀ bits w i = Joining job work n (listed job list) bits w i
+Inv-loop job work n list claim bits₀ w₀ i₀ bits w i = Joining job work n (words-in job list) bits w i
 
 abbrev μ-loop : tie.MeasureT-loop
 μ-loop job work n list claim bits₀ w₀ i₀ bits w i = i
 
 loop-holds : tie.Need-loop-holds Inv-loop μ-loop
 loop-holds c = let a = c .before .before .args in
-    subst (λ (i : ℕ). Joining (now (a .job)) (now (a .work)) (a .n) (listed (now (a .job)) (a .list)) (replicate 64 0) 0 i) (count-length (now (a .job)) (Listed (a .list))) (join-start refl)
+    subst (λ (i : ℕ). Joining (now (a .job)) (now (a .work)) (a .n) (words-in (now (a .job)) (a .list)) (replicate 64 0) 0 i) (count-length (now (a .job)) (Listed (a .list))) (join-start refl)
 
 -- there is an argument i - 1
 more : (c : tie.In-loop Inv-loop μ-loop) → c .before .loop .i - 1 < c .before .before .before .before .args .list .count
@@ -50,7 +50,7 @@ loop-again c = let b = c .before in let v = b .before in let l = v .before .befo
 
 returns : tie.Need-returns Inv-loop μ-loop
 returns c = let l = c .before .before in let s = l .before .before .before in let a = s .args in
-    bits-end held (s .pre .arguments .store) (s .pre .claimed) (concat-bits (map (tree (now (a .job)) (now (a .work)) (a .n)) (listed (now (a .job)) (a .list))))
+    bits-end held (s .pre .arguments .store) (s .pre .claimed) (concat-bits (map (tree (now (a .job)) (now (a .work)) (a .n)) (words-in (now (a .job)) (a .list))))
     (join-end (l .loop .inv) (search needs)) (c .compare-bits .ensures)
 
 pub concat-check-spec : {M : Type 1} → statement M

@@ -6,14 +6,14 @@ use lib.ListN.{length}
 use denote.Ref.{now}
 use Rattle.theory.specs.Sort.{sort-width}
 use Rattle.terms.specs.declared.Operands.the-variants.{List as Listed}
-use Rattle.terms.specs.Decoded.{listed}
+use Rattle.terms.specs.Decoded.{words-in}
 use Rattle.store.proofs.Arguments.{count-length, operand-below}
 use Rattle.slice_rules.proofs.SliceLaws.{Slicing, slices-start, slices-turn, slices-refused, slices-end}
 use Rattle.slice_rules.proofs.slicing.slices_check.Statement.{statement}
 use Rattle.slice_rules.proofs.slicing.slices_check.Tie as tie
 
 abbrev Inv-loop : tie.InvT-loop
-Inv-loop job work n a c list done₀ count i₀ done i = Slicing job work n a c (listed job list) done i
+Inv-loop job work n a c list done₀ count i₀ done i = Slicing job work n a c (words-in job list) done i
 
 abbrev μ-loop : tie.MeasureT-loop
 μ-loop job work n a c list done₀ count i₀ done i = count - i
@@ -22,7 +22,7 @@ loop-holds : tie.Need-loop-holds Inv-loop μ-loop
 loop-holds c = slices-start (c .width-of .ensures ∙ ap sort-width (c .before .sort-at .ensures))
 
 -- there is an argument i
-more : (c : tie.In-loop Inv-loop μ-loop) → let a = c .before .before .before .before .before .before .args in c .before .loop .i < length (listed (now (a .job)) (a .list))
+more : (c : tie.In-loop Inv-loop μ-loop) → let a = c .before .before .before .before .before .before .args in c .before .loop .i < length (words-in (now (a .job)) (a .list))
 more c = let a = c .before .before .before .before .before .before .args in omega (arith, count-length (now (a .job)) (Listed (a .list)), c .loop-test .taken)
 
 next-slice-requires : tie.Need-next-slice-requires Inv-loop μ-loop
