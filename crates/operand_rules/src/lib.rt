@@ -2,9 +2,7 @@
 pub mod bits;
 pub mod bitwise;
 pub mod comparisons;
-pub mod division;
 pub mod equations;
-pub mod shifts;
 pub mod variables;
 
 ghost use mathlib.Core.Path.{_≡_};

@@ -9,11 +9,11 @@ ghost use Rattle.theory.specs.Circuit.{udiv, urem};
 ghost use Rattle.theory.specs.RuleTable.{by-udiv, by-urem};
 ghost use Rattle.theory.specs.Rule.{compare, verdict};
 ghost use Rattle.store.specs.Store.{Store};
 ghost use Rattle.operand_rules.specs.Rules.{Two, tree, verdict-of};
-use crate::Verdict;
-use crate::bits::compare_bits_form;
-use crate::bits::get_term_bits;
-use crate::bits::width_at;
+use operand_rules::Verdict;
+use operand_rules::bits::compare_bits_form;
+use operand_rules::bits::get_term_bits;
+use operand_rules::bits::width_at;
 use store::terms_at::term_at;
 use terms::Term;
 

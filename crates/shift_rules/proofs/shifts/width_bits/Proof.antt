@@ -1,7 +1,7 @@
 use borrow.Author.Needs.{needs}
 use Rattle.operand_rules.proofs.Sorts.{width-numbers}
-use Rattle.operand_rules.proofs.shifts.width_bits.Statement.{statement}
-use Rattle.operand_rules.proofs.shifts.width_bits.Tie as tie
+use Rattle.shift_rules.proofs.shifts.width_bits.Statement.{statement}
+use Rattle.shift_rules.proofs.shifts.width_bits.Tie as tie
 
 returns : tie.Need-returns
 returns c = let s = c .before .before .before .before in

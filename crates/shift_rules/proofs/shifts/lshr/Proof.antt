@@ -1,15 +1,15 @@
 use borrow.Author.Needs.{needs}
 use mathlib.Core.Path.{refl, ap, sym, _∙_}
-use Rattle.theory.specs.Kind.{BvShl}
-use Rattle.theory.specs.RuleTable.{by-shl}
+use Rattle.theory.specs.Kind.{BvLShr}
+use Rattle.theory.specs.RuleTable.{by-lshr}
 use Rattle.theory.specs.Rule.{on-sides}
 use Rattle.terms.specs.Decoded.{op-of, operands-of}
 use Rattle.operand_rules.proofs.Forms.{no-equation, sides, no-case, two-form, left-below, right-below, two-given}
-use Rattle.operand_rules.proofs.shifts.shl.Statement.{statement}
-use Rattle.operand_rules.proofs.shifts.shl.Tie as tie
+use Rattle.shift_rules.proofs.shifts.lshr.Statement.{statement}
+use Rattle.shift_rules.proofs.shifts.lshr.Tie as tie
 
 returns : tie.Need-returns
-returns c = no-equation (c .before .term-at .ensures) by-shl (c .match .keys2)
+returns c = no-equation (c .before .term-at .ensures) by-lshr (c .match .keys2)
 
 term-at-requires-2 : tie.Need-term-at-requires-2
 term-at-requires-2 c κs = let t = c .before .before .before in let s = t .before .before .before in
@@ -18,24 +18,24 @@ term-at-requires-2 c κs = let t = c .before .before .before in let s = t .befor
 returns-2 : tie.Need-returns-2
 unfolding on-sides
 returns-2 c = let l = c .before .before .before in
-    no-case (c .before .term-at2 .ensures) 24 (c .match2 .keys2) tt _ ∙ sides (l .before .before .term-at .ensures) by-shl (l .l .given .1)
+    no-case (c .before .term-at2 .ensures) 25 (c .match2 .keys2) tt _ ∙ sides (l .before .before .term-at .ensures) by-lshr (l .l .given .1)
 
-shl-check-requires : tie.Need-shl-check-requires
-shl-check-requires c κs =
+lshr-check-requires : tie.Need-lshr-check-requires
+lshr-check-requires c κs =
     let x = c .before in let u = x .before .before in let l = u .before .before in let t = l .before .before in let s = t .before .before .before in
     let d = ap operands-of (l .l .given .1) in
-    two-given (u .term-at2 .ensures) (s .pre .0) (left-below (t .term-at .ensures) _ _ _ d (s .pre .1)) BvShl (λ ss. refl) _ _ _
+    two-given (u .term-at2 .ensures) (s .pre .0) (left-below (t .term-at .ensures) _ _ _ d (s .pre .1)) BvLShr (λ ss. refl) _ _ _
     (ap op-of (x .x .given .1)) (ap operands-of (x .x .given .1)) (right-below (t .term-at .ensures) _ _ _ d (s .pre .1))
 
 returns-3 : tie.Need-returns-3
 unfolding on-sides
 returns-3 c =
     let x = c .before .before in let u = x .before .before in let l = u .before .before in
-    c .shl-check .ensures ∙ sym (two-form (u .term-at2 .ensures) BvShl _ _ (ap op-of (x .x .given .1)) (ap operands-of (x .x .given .1)) _)
-    ∙ sides (l .before .before .term-at .ensures) by-shl (l .l .given .1)
+    c .lshr-check .ensures ∙ sym (two-form (u .term-at2 .ensures) BvLShr _ _ (ap op-of (x .x .given .1)) (ap operands-of (x .x .given .1)) _)
+    ∙ sides (l .before .before .term-at .ensures) by-lshr (l .l .given .1)
 
-pub shl-spec : {M : Type 1} → statement M
-shl-spec =
+pub lshr-spec : {M : Type 1} → statement M
+lshr-spec =
     tie.close
     (tie.spec
     (λ c κs. search needs)
@@ -44,5 +44,5 @@ shl-spec =
     term-at-requires-2
     (λ c. search needs)
     returns-2
-    shl-check-requires
+    lshr-check-requires
     returns-3)

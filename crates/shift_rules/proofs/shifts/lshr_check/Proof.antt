@@ -5,14 +5,14 @@ use Prim.Native.Nat.{ℕ}
 use denote.Ref.{now}
 use Rattle.theory.specs.Gates.{term-gates}
 use Rattle.theory.specs.Bits.{get-term-bits}
-use Rattle.theory.specs.Circuit.{ashr}
-use Rattle.theory.specs.Verdict.{form-only}
-use Rattle.theory.proofs.Divider.{ashr-hom}
+use Rattle.theory.specs.Circuit.{lshr}
+use Rattle.theory.specs.Verdict.{held}
+use Rattle.theory.proofs.Shift.{lshr-hom}
 use Rattle.operand_rules.specs.Rules.{tree, number-in, width-in, width-bits}
 use Rattle.operand_rules.proofs.Numbers.{operand-as, store-hom, bits-end}
 use Rattle.operand_rules.proofs.Sorts.{three}
-use Rattle.operand_rules.proofs.shifts.ashr_check.Statement.{statement}
-use Rattle.operand_rules.proofs.shifts.ashr_check.Tie as tie
+use Rattle.shift_rules.proofs.shifts.lshr_check.Statement.{statement}
+use Rattle.shift_rules.proofs.shifts.lshr_check.Tie as tie
 
 get-term-bits-requires : tie.Need-get-term-bits-requires
 get-term-bits-requires c κs = operand-as (c .before .before .before .pre .left) (c .width-at .ensures .0)
@@ -31,12 +31,12 @@ returns c =
     let xs = get-term-bits (tree (now (a .job)) (now (a .work)) (a .n) (a .x)) in
     let ys = get-term-bits (tree (now (a .job)) (now (a .work)) (a .n) (a .y)) in
     let e = g .width-bits .ensures ∙ ap (λ (w : ℕ). map (number-in (now (a .job)) (now (a .work)) (a .n)) (width-bits w)) (b .before .before .width-at .ensures .0) in
-    bits-end form-only st (s .pre .claimed) (ashr term-gates size xs ys)
-    (c .before .ashr .ensures ∙ three (ashr _) e (b .before .get-term-bits .ensures) (b .get-term-bits2 .ensures) ∙ sym (ashr-hom (store-hom st) size xs ys))
-    (c .compare-bits-form .ensures)
+    bits-end held st (s .pre .claimed) (lshr term-gates size xs ys)
+    (c .before .lshr .ensures ∙ three (lshr _) e (b .before .get-term-bits .ensures) (b .get-term-bits2 .ensures) ∙ sym (lshr-hom (store-hom st) size xs ys))
+    (c .compare-bits .ensures)
 
-pub ashr-check-spec : {M : Type 1} → statement M
-ashr-check-spec =
+pub lshr-check-spec : {M : Type 1} → statement M
+lshr-check-spec =
     tie.close
     (tie.spec
     (λ c κs. search needs)

@@ -4,15 +4,15 @@ use denote.Ref.{now}
 use Rattle.theory.specs.Gates.{term-gates}
 use Rattle.theory.specs.Bits.{get-term-bits}
 use Rattle.theory.specs.Bits.{literally-false}
-use Rattle.theory.specs.Circuit.{udiv}
-use Rattle.theory.proofs.Divider.{udiv-hom}
+use Rattle.theory.specs.Circuit.{urem}
+use Rattle.theory.proofs.Divider.{urem-hom}
 use Rattle.store.specs.Numbers.{is-false-number}
 use Rattle.operand_rules.proofs.Numbers.{false-test}
 use Rattle.theory.specs.Verdict.{form-only}
 use Rattle.operand_rules.specs.Rules.{tree}
 use Rattle.operand_rules.proofs.Numbers.{operand-as, store-hom, bits-end}
-use Rattle.operand_rules.proofs.division.udiv_check.Statement.{statement}
-use Rattle.operand_rules.proofs.division.udiv_check.Tie as tie
+use Rattle.shift_rules.proofs.division.urem_check.Statement.{statement}
+use Rattle.shift_rules.proofs.division.urem_check.Tie as tie
 
 get-term-bits-requires : tie.Need-get-term-bits-requires
 get-term-bits-requires c κs = operand-as (c .before .before .before .pre .left) (c .width-at .ensures .0)
@@ -29,12 +29,12 @@ returns c =
     let h = store-hom st in
     let xs = get-term-bits (tree (now (a .job)) (now (a .work)) (a .n) (a .x)) in
     let ys = get-term-bits (tree (now (a .job)) (now (a .work)) (a .n) (a .y)) in
-    bits-end form-only st (s .pre .claimed) (udiv term-gates literally-false xs ys)
-    (c .before .udiv .ensures ∙ ap₂ (udiv _ is-false-number) (b .before .get-term-bits .ensures) (b .get-term-bits2 .ensures) ∙ sym (udiv-hom h literally-false is-false-number (false-test st) xs ys))
+    bits-end form-only st (s .pre .claimed) (urem term-gates literally-false xs ys)
+    (c .before .urem .ensures ∙ ap₂ (urem _ is-false-number) (b .before .get-term-bits .ensures) (b .get-term-bits2 .ensures) ∙ sym (urem-hom h literally-false is-false-number (false-test st) xs ys))
     (c .compare-bits-form .ensures)
 
-pub udiv-check-spec : {M : Type 1} → statement M
-udiv-check-spec =
+pub urem-check-spec : {M : Type 1} → statement M
+urem-check-spec =
     tie.close
     (tie.spec
     (λ c κs. search needs)
