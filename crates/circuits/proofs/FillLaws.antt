@@ -9,7 +9,7 @@ use lib.ListN.{length, take, getD, set, length-set, replicate}
 use lib.Seq.{take-suc-set, length-take-le, getD-take}
 use Rattle.theory.specs.Circuit.{zip-with}
 use Rattle.theory.specs.Alethe.{bits, bit-of}
-use Rattle.theory.proofs.Indexed.{bits-by, listed, map-bits, zip-bits}
+use Rattle.theory.proofs.Indexed.{bits-by, list-bits, map-bits, zip-bits}
 
 -- ---- an array that is to have f 0 to f (n - 1): the first i are stored
 pub record Filling {T : Type 0} (f : ℕ → T) (n : ℕ) (out : List T) (i : ℕ) : Type 0 where
@@ -47,7 +47,7 @@ take-short xs n h k = rw (length-take-le n xs h) k
 
 -- ---- a target list, given as what stands at each of its places
 pub reached : {n : ℕ} {out l : List ℕ} {i : ℕ} → Filling (bit-of 0 l) n out i → n ≤ i → length l ≡ n → take n out ≡ l
-reached {l} inv h e = fill-end inv h ∙ sym (listed 0 l e)
+reached {l} inv h e = fill-end inv h ∙ sym (list-bits 0 l e)
 
 -- ---- a gate at each bit of an array
 pub record Mapping (f : ℕ → ℕ) (xs : List ℕ) (n : ℕ) (out : List ℕ) (i : ℕ) : Type 0 where

@@ -1,6 +1,6 @@
 -- The arguments of a term: argument i, and the loops over them.
 use mathlib.Core.Path.{_≡_, refl, sym, ap, ap₂, subst, _∙_}
-use mathlib.Core.Bool.{Bool, true, false, _&&_}
+use mathlib.Core.Bool.{Bool, true, false, _&&_, and-false}
 use mathlib.Core.List.{List, [], _∷_}
 use Prim.Native.Nat.{ℕ, suc, _+_, _-_, _<_, _≤_, max}
 use native.Mathlib.Numerals.{add-one}
@@ -21,7 +21,7 @@ use Rattle.terms.specs.declared.Operands.{Operands}
 use Rattle.terms.specs.declared.Operands.the-variants.{None, One, Two, Three, List as Listed}
 use Rattle.terms.specs.Decoded.{Inside, OperandsPlaced, words-in, numbers-of}
 use Rattle.store.specs.Sorts.{sorts-at, deepest-at, count-of}
-use Rattle.intern.proofs.Guarding.{and-no, fails, width-high, no-width, some-width}
+use Rattle.intern.proofs.Guarding.{fails, width-high, no-width, some-width}
 
 -- ---- argument i
 pub count-few : (job : Bytes) (ops : Operands) → OperandsPlaced job ops → count-of ops ≤ max-arguments
@@ -151,7 +151,7 @@ module _ {list : Plain} {ks : List ℕ} where
         let t = next-total in
         let m = p .small in
         let x = sum-widths (sorts-at list ks) in
-        fails (all-bv (sorts-at list ks) && width x) (bv x) (ap (λ (b : Bool). all-bv (sorts-at list ks) && b) (width-high x (omega arith)) ∙ and-no (all-bv (sorts-at list ks)))
+        fails (all-bv (sorts-at list ks) && width x) (bv x) (ap (λ (b : Bool). all-bv (sorts-at list ks) && b) (width-high x (omega arith)) ∙ and-false (all-bv (sorts-at list ks)))
 
   pub sum-end : {sum i : ℕ} → Summing list ks sum i → length ks ≤ i → {s : Sort} → s ≡ guard (width sum) (bv sum) → s ≡ joined-sort (sorts-at list ks)
   sum-end {sum} {i} p h e =

@@ -1,7 +1,7 @@
 -- The store starts, is cut back and grows: the list that the rows build does the same.
 use mathlib.Core.Path.{_≡_, refl, sym, ap, subst, _∙_}
 use mathlib.Core.Bool.{Bool, true, false, cond}
-use mathlib.Core.List.{List, [], _∷_, _++_, map, foldl}
+use mathlib.Core.List.{List, [], _∷_, _++_, foldl}
 use mathlib.Core.Option.{Option, none, some}
 use Prim.Native.Nat.{ℕ, zero, suc, _+_, _-_, _<_, _≤_}
 use native.Mathlib.Omega.{arith}
@@ -22,10 +22,12 @@ use Rattle.theory.proofs.Run.{AllGood}
 use Rattle.theory.proofs.Distinct.{WellKept}
 use Rattle.rows.specs.Rows.{kept, column, depths, widths}
 use Rattle.table.specs.Promise.{Wiped, Cut}
-use Rattle.table.proofs.Face.{kept-length, kept-at, depths-at, widths-at}
+use Rattle.table.proofs.Face.{kept-at, depths-at, widths-at}
 use Rattle.store.specs.Store.{Store, listed, records}
 use Rattle.intern.specs.Interning.{Started, CutBack}
 use Rattle.store.proofs.Keeping.{row-kept, row-says}
+use Rattle.theory.proofs.Slices.{map-take}
+use Rattle.rows.proofs.RowLaws.{length-kept}
 
 -- ---- the start
 pub started : {job work after : Bytes} → length job ≤ max-job → Wiped work after → Started job work after
@@ -109,26 +111,21 @@ say-from (r ∷ rs) f = (f 0 (omega arith), say-from rs (λ k h. f (suc k) (omeg
 kept-say : {job work : Bytes} {n : ℕ} → Store job work n → AllSay (kept job work n)
 kept-say {job} {work} {n} s =
     say-from (kept job work n) (λ k h.
-    let l : k < n = (let q = kept-length job work n in omega arith) in
+    let l : k < n = (let q = length-kept job work n in omega arith) in
     record { op = row-kept s k l .op; args = row-kept s k l .args; says = ap read (kept-at job work n k l) ∙ row-says s k l })
 
 -- ---- the records of a part
-map-part : {A B : Type 0} (f : A → B) (m : ℕ) (l : List A) → map f (take m l) ≡ take m (map f l)
-map-part f zero l = refl
-map-part f (suc m) [] = refl
-map-part {A} {B} f (suc m) (x ∷ l) = ap (λ (r : List B). f x ∷ r) (map-part f m l)
-
 records-part : (m : ℕ) (list : Plain) → records (take (suc (suc m)) list) ≡ take m (records list)
 records-part m [] = sym (take-nil m)
 records-part m (e ∷ []) = sym (take-nil m)
-records-part m (e ∷ d ∷ list) = map-part (λ (x : Entry). x .bytes) m list
+records-part m (e ∷ d ∷ list) = map-take (λ (x : Entry). x .bytes) m list
 
 -- ---- the store cut back
 module _ {job work after : Bytes} {n count : ℕ} (s : Store job work n) (low : first-terms ≤ count) (high : count ≤ first-terms + n)
     (c : Cut job work after n (count - first-terms)) where
   cut-listed : listed job after (count - first-terms) ≡ take count (listed job work n)
   cut-listed =
-      let l = kept-length job work n in
+      let l = length-kept job work n in
       let z : length P.start + (count - first-terms) ≡ count = omega arith in
       ap (foldl feed P.start) (c .kept-is)
       ∙ sym (fed-part P.start (kept job work n) (kept-say s) (s .count ∙ omega arith) (count - first-terms) (omega arith))

@@ -1,6 +1,6 @@
 -- A sort behind a test: the tests on widths, values, bits and extensions.
 use mathlib.Core.Path.{_≡_, refl, sym, ap, _∙_}
-use mathlib.Core.Bool.{Bool, true, false, _&&_}
+use mathlib.Core.Bool.{Bool, true, false, _&&_, and-false}
 use Prim.Native.Nat.{ℕ, _+_, _-_, _*_, _%_, _^_, _<_, _≤_}
 use native.Mathlib.Nat.{one-mul}
 use native.Mathlib.Omega.{arith}
@@ -11,10 +11,6 @@ use borrow.Author.Tests.{lt-ltb, le-ltb, le-leb, lt-leb}
 use Rattle.theory.specs.Limit.{max-width}
 use Rattle.theory.specs.Sort.{Sort, bad, bool, bv, guard, width, is-bv-sort, sort-width}
 use Rattle.theory.proofs.Sorts.{sized}
-
-pub and-no : (b : Bool) → b && false ≡ false
-and-no true = refl
-and-no false = refl
 
 -- a sort behind a test
 pub passes : (b : Bool) (s : Sort) → b ≡ true → s ≡ guard b s
@@ -32,7 +28,7 @@ module _ (n : ℕ) where
   width-low h = rw (lt-leb 1 n h)
 
   pub width-high : max-width < n → width n ≡ false
-  width-high l = rw (lt-leb n max-width l) (and-no (leb 1 n))
+  width-high l = rw (lt-leb n max-width l) (and-false (leb 1 n))
 
   pub width-fits : 1 ≤ n → n ≤ max-width → width n ≡ true
   width-fits h l = rw (le-leb 1 n h, le-leb n max-width l)
@@ -44,7 +40,7 @@ module _ (n : ℕ) where
   value-fits x m h l k = rw (le-leb 1 n h, le-leb n max-width l, lt-ltb x m k)
 
   pub value-beyond : (x m : ℕ) → m ≤ x → width n && ltb x m ≡ false
-  value-beyond x m k = rw (le-ltb x m k) (and-no (width n))
+  value-beyond x m k = rw (le-ltb x m k) (and-false (width n))
 
 -- 1 shifted up
 pub shifted : (n : ℕ) → n < 64 → (1 * 2 ^ n) % 2 ^ 64 ≡ 2 ^ n
@@ -61,8 +57,8 @@ bit-test bool i = sym (le-ltb i 0 (omega arith))
 bit-test (bv n) i = refl
 
 extract-test : (s : Sort) (i j : ℕ) → is-bv-sort s && (leb j i && ltb i (sort-width s)) ≡ leb j i && ltb i (sort-width s)
-extract-test bad i j = sym (rw (le-ltb i 0 (omega arith)) (and-no (leb j i)))
-extract-test bool i j = sym (rw (le-ltb i 0 (omega arith)) (and-no (leb j i)))
+extract-test bad i j = sym (rw (le-ltb i 0 (omega arith)) (and-false (leb j i)))
+extract-test bool i j = sym (rw (le-ltb i 0 (omega arith)) (and-false (leb j i)))
 extract-test (bv n) i j = refl
 
 module _ (s : Sort) (i : ℕ) {w : ℕ} (e : w ≡ sort-width s) where
@@ -76,7 +72,7 @@ module _ (s : Sort) (i : ℕ) {w : ℕ} (e : w ≡ sort-width s) where
   part-there j l h = extract-test s i j ∙ rw (le-leb j i l) (lt-ltb i (sort-width s) (omega arith))
 
   pub part-beyond : (j : ℕ) → w ≤ i → is-bv-sort s && (leb j i && ltb i (sort-width s)) ≡ false
-  part-beyond j h = extract-test s i j ∙ ap (λ (b : Bool). leb j i && b) (le-ltb i (sort-width s) (omega arith)) ∙ and-no (leb j i)
+  part-beyond j h = extract-test s i j ∙ ap (λ (b : Bool). leb j i && b) (le-ltb i (sort-width s) (omega arith)) ∙ and-false (leb j i)
 
 pub part-crossed : (s : Sort) (i j : ℕ) → i < j → is-bv-sort s && (leb j i && ltb i (sort-width s)) ≡ false
 part-crossed s i j h = extract-test s i j ∙ rw (lt-leb j i h)

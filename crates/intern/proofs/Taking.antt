@@ -3,11 +3,11 @@ use mathlib.Core.Path.{_≡_, refl, sym, ap, ap₂, subst, _∙_}
 use mathlib.Core.Bool.{Bool, true, false, _&&_, _||_, cond}
 use mathlib.Core.List.{List, [], _∷_, _++_, map, map-append}
 use mathlib.Core.Option.{some}
-use Prim.Native.Nat.{ℕ, zero, suc, _+_, _-_, _*_, _<_, _≤_, max}
+use Prim.Native.Nat.{ℕ, zero, suc, _+_, _-_, _*_, _<_, _≤_}
 use native.Mathlib.Omega.{arith}
 use native.Mathlib.Decide.{ℕ-discrete}
-use lib.Dec.{T, leb, ltb, eqb, ltb→lt, leb→le}
-use lib.Ieee.Fits.{and-l, and-r}
+use lib.Dec.{T, leb, ltb, eqb, leb→le}
+use lib.Ieee.Fits.{and-r}
 use lib.ListN.{length, take, drop, getD, getElem?, length-take, length-append, length-drop, List·getD-append}
 use lib.Seq.{take-take, getD-append-seam, drop-append-le}
 use borrow.Author.Tests.{eqb-true, eqb-false}
@@ -23,9 +23,8 @@ use Rattle.theory.specs.Codes.{all-below, first-fault, well-sorted, room}
 use Rattle.theory.proofs.Run.{good-snoc}
 use Rattle.theory.proofs.Distinct.{has-at, snoc-well}
 use Rattle.theory.proofs.Bytes.{take-bytes, drop-bytes}
-use Rattle.theory.proofs.Bounds.{depth-step}
-use Rattle.theory.proofs.Basics.{some-inj, foldl-append, getElem-of}
-use Rattle.theory.proofs.Blast.{T-true}
+use Rattle.theory.proofs.Bounds.{depth-step, deepest-le}
+use Rattle.theory.proofs.Basics.{some-inj, foldl-append, getElem-of, T-true}
 use Rattle.theory.proofs.Same.{same-numbers-eq}
 use Rattle.theory.proofs.Bytes.{AllBytes, Sound, says-term}
 use Rattle.theory.proofs.Sorts.{sized, sorts-sized}
@@ -40,8 +39,8 @@ use Rattle.table.specs.Slots.{Table}
 use Rattle.table.specs.Promise.{Grown, room-for, added-for, count-after, list-after}
 use Rattle.table.specs.declared.kept.Added.{Added}
 use Rattle.table.specs.declared.kept.Added.the-variants as A
-use Rattle.table.proofs.Face.{kept-length, depths-at, widths-at, place-stands, place-absent}
-use Rattle.rows.proofs.RowLaws.{length-column}
+use Rattle.table.proofs.Face.{depths-at, widths-at, place-stands, place-absent}
+use Rattle.rows.proofs.RowLaws.{length-column, length-kept}
 use Rattle.terms.specs.declared.Term.{Term as Decoded}
 use Rattle.terms.specs.Decoded.{op-of, arguments-of}
 use Rattle.store.specs.Store.{Store, stored, listed, records}
@@ -94,7 +93,7 @@ module _ {job work : Bytes} {n : ℕ} (s : Store job work n) (r : Bytes) where
       let q = place-stands r (kept job work n) f in
       let k = q .index in
       let b = q .below in
-      let l : first-terms + k < length list = (let x = kept-length job work n in let y = s .count in omega arith) in
+      let l : first-terms + k < length list = (let x = length-kept job work n in let y = s .count in omega arith) in
       T-true _ (has-at list (first-terms + k) (entry-at list (first-terms + k)) r (getElem-of list (first-terms + k) (entry (node True nil) []) l)
       (sym (records-at list k) ∙ ap (λ (rs : List Bytes). getD rs k []) (s .records-are) ∙ q .equal))
 
@@ -108,7 +107,7 @@ module _ {job work : Bytes} {n : ℕ} (s : Store job work n) (r : Bytes) where
       go zero l g = let z = ap length (sym (bytes-of 0 _ (s .well .is-true) l) ∙ g) in omega arith
       go (suc zero) l g = let z = ap length (sym (bytes-of 1 _ (s .well .is-false) l) ∙ g) in omega arith
       go (suc (suc k)) l g =
-          let x = kept-length job work n in
+          let x = length-kept job work n in
           let y = s .count in
           let few = s .table .slots .rows .few in
           let two : first-terms + k ≡ suc (suc k) = omega arith in
@@ -215,17 +214,6 @@ module _ {job work : Bytes} {n : ℕ} (s : Store job work n) (r : Bytes) (o : Op
         }
 
 -- ---- depths and widths fit into a row
-deepest-le : (list : Plain) (m : ℕ) → ((k : ℕ) → k < suc m → depth (tree-at list k) ≤ k) → (ks : List ℕ) → T (all-below (suc m) ks)
-    → deepest-at list ks ≤ m
-unfolding depth
-deepest-le list m f [] b = omega arith
-deepest-le list m f (k ∷ ks) b =
-    let l = ltb→lt k (suc m) (and-l (ltb k (suc m)) _ b) in
-    both (f k l) l (deepest-le list m f ks (and-r (ltb k (suc m)) _ b))
-  where
-    both : {d e : ℕ} → d ≤ k → k < suc m → e ≤ m → max d e ≤ m
-    both p q r = omega arith
-
 width-step : (s : Sort) → T (sized s) → sort-width s ≤ 64
 width-step bad h = omega arith
 width-step bool h = omega arith
@@ -356,7 +344,7 @@ module _ {job work : Bytes} {n at : ℕ} {t : Decoded} (o : Offered job work n a
         let s = o .arguments .store in
         let m = spent-means (record-at job at) (kept job work n) (length work) (h .answer-is) in
         let there = missing-there s (record-at job at) (sound-it .long) (m .0) in
-        let none-left : room (length work) (listed job work n) ≡ false = room-is ∙ ap (λ (k : ℕ). room-for k (length work)) (sym (kept-length job work n)) ∙ m .1 in
+        let none-left : room (length work) (listed job work n) ≡ false = room-is ∙ ap (λ (k : ℕ). room-for k (length work)) (sym (length-kept job work n)) ∙ m .1 in
         taken (decided sorted-true there none-left) (store-same s (h .table) (h .kept-is) (h .depths-are) (h .widths-are)) (ap stored (h .kept-is))
 
     pub taken-new : {p : ℕ} → a ≡ A.New p → Taken job work after n at t (I.New (n + 1))
@@ -366,7 +354,7 @@ module _ {job work : Bytes} {n at : ℕ} {t : Decoded} (o : Offered job work n a
         let st = o .arguments .store in
         let m = new-means (record-at job at) (kept job work n) (length work) (h .answer-is) in
         let there = missing-there st (record-at job at) (sound-it .long) (m .0) in
-        let some-left : room (length work) (listed job work n) ≡ true = room-is ∙ ap (λ (k : ℕ). room-for k (length work)) (sym (kept-length job work n)) ∙ m .1 in
+        let some-left : room (length work) (listed job work n) ≡ true = room-is ∙ ap (λ (k : ℕ). room-for k (length work)) (sym (length-kept job work n)) ∙ m .1 in
         let ds = h .depths-are ∙ ap (λ (x : ℕ). depths work n ++ (x ∷ [])) de in
         let ws = h .widths-are ∙ ap (λ (x : ℕ). widths work n ++ (x ∷ [])) (we ∙ ap sort-width e) in
         taken (decided sorted-true there some-left)

@@ -31,11 +31,12 @@ use Rattle.store.specs.Sorts.{Arguments}
 use Rattle.store.specs.Terms.{TermAt}
 use Rattle.store.proofs.Arguments.{operand-below}
 use Rattle.operand_rules.specs.Rules.{tree}
-use Rattle.operand_rules.proofs.Forms.{good-guard, same-is, is-T, no-form, args-form, list-inside, below-of, fits, left-below, right-below, sides}
-use Rattle.operand_rules.proofs.Tests.{is-true}
+use Rattle.operand_rules.proofs.Forms.{good-guard, no-form, args-form, list-inside, below-of, fits, left-below, right-below, sides}
 use Rattle.list_rules.specs.declared.folds.Operation.{Operation}
 use Rattle.list_rules.specs.declared.folds.Operation.the-variants.{And, Or, Xor, Mult, Add}
 use Rattle.list_rules.specs.Lists.{Many, argument, arguments, expected}
+use Rattle.theory.proofs.Basics.{T-true, true-T}
+use Rattle.theory.proofs.Sound.{same-sort-eq}
 
 -- ---- what the rules differ in
 -- the rule of an operation
@@ -108,7 +109,7 @@ on-list Add l r = refl
 -- where all are s, the one at i is
 each-sort : (s : Sort) (f : ℕ → Term) (ks : List ℕ) (i : ℕ) → T (all-are s (map sort-of (map f ks))) → i < length ks → sort-of (f (getD ks i 0)) ≡ s
 each-sort s f [] i h l = absurd (omega arith)
-each-sort s f (k ∷ ks) zero h l = sym (same-is s (sort-of (f k)) (and-l (same-sort s (sort-of (f k))) _ h))
+each-sort s f (k ∷ ks) zero h l = sym (same-sort-eq s (sort-of (f k)) (and-l (same-sort s (sort-of (f k))) _ h))
 each-sort s f (k ∷ ks) (suc i) h l = each-sort s f ks i (and-r (same-sort s (sort-of (f k))) _ h) (omega arith)
 
 -- where all are alike, each is the first one's, a bit-vector's
@@ -155,10 +156,10 @@ module _ (op : Operation) {job work : Bytes} {n p l r : ℕ} {t u : Decoded} (s 
         let size = words-in-length job a in
         let b : T (all-below l ks) = below-of q (Listed a) its-list in
         let inside = list-inside q a its-list in
-        let count : T (takes many (length ks)) = is-T _ (ap (λ (x : Arity). takes x (length ks)) (sym (takes-many op))
+        let count : T (takes many (length ks)) = true-T _ (ap (λ (x : Arity). takes x (length ks)) (sym (takes-many op))
         ∙ ap₂ (λ (o : Op) (x : Operands). takes (arity o) (length (numbers-of job x))) (sym its-kind) (sym its-list) ∙ q .number) in
         let some = leb→le 1 (length ks) (and-l (leb 1 (length ks)) _ count) in
-        let given : Arguments job work n (Listed a) = record { store = store; placed = inside; below = is-true _ (more-below l (first-terms + n) (omega arith) ks b) } in
+        let given : Arguments job work n (Listed a) = record { store = store; placed = inside; below = T-true _ (more-below l (first-terms + n) (omega arith) ks b) } in
         let sorts = all-alike (tree job work n) ks (fits-alike op (map (tree job work n) ks) (fits q store left (kind-of op) (Listed a) its-kind its-list)) in
         record {
           alike = record {

@@ -1,11 +1,11 @@
 -- `let V(..) = term_at(..) else { .. }`: what theory's definitions make of the term at a place, by what it was decoded as.
-use mathlib.Core.Path.{_≡_, refl, sym, ap, ap₂, subst, _∙_}
+use mathlib.Core.Path.{_≡_, sym, ap, ap₂, subst, _∙_}
 use mathlib.Core.Bool.{Bool, true, false, _&&_, cond}
 use mathlib.Core.List.{List, [], _∷_, map}
 use mathlib.Core.Option.{none, some}
 use Prim.Native.Nat.{ℕ, _+_, _<_}
 use native.Mathlib.Omega.{arith}
-use lib.Dec.{T, eqb, eqb→eq, ltb, ltb→lt}
+use lib.Dec.{T, eqb, ltb, ltb→lt}
 use lib.Ieee.Fits.{and-l, and-r}
 use lib.ListN.{length, getD}
 use types.Run.{OneOf}
@@ -13,7 +13,7 @@ use denote.Enum.Declared.{tagOf}
 use Rattle.theory.specs.Limit.{first-terms}
 use Rattle.theory.specs.Kind.{Op, Equals, kind, arity, takes}
 use Rattle.theory.specs.Term.{Term, node, nil, cons, fold, to-list, from-list}
-use Rattle.theory.specs.Sort.{Sort, bad, bool, bv, guard, good, all-are, alike, fitting, result-sort, same-sort, is-bv-sort, sort-of}
+use Rattle.theory.specs.Sort.{Sort, bool, guard, good, all-are, alike, fitting, result-sort, same-sort, is-bv-sort, sort-of}
 use Rattle.theory.specs.Record.{Bytes}
 use Rattle.theory.specs.Codes.{all-below}
 use Rattle.theory.specs.Verdict.{Verdict, wrong-form}
@@ -35,20 +35,14 @@ use Rattle.store.specs.Store.{Store, listed}
 use Rattle.store.specs.Terms.{TermAt}
 use Rattle.operand_rules.specs.Rules.{One, Two, Same, tree}
 use Rattle.operand_rules.proofs.Tests.{same-eqb}
+use Rattle.theory.proofs.Basics.{true-T}
+use Rattle.theory.proofs.Sound.{same-sort-eq}
 
 -- ---- sorts
 pub good-guard : (b : Bool) (s : Sort) → T (good (guard b s)) → T b
 unfolding guard
 good-guard true s h = tt
 good-guard false s h = absurd h
-
-pub same-is : (a b : Sort) → T (same-sort a b) → a ≡ b
-same-is bad bad h = refl
-same-is bool bool h = refl
-same-is (bv m) (bv n) h = ap bv (eqb→eq m n h)
-
-pub is-T : (b : Bool) → b ≡ true → T b
-is-T b e = subst T (sym e) tt
 
 -- ---- the else of a pattern, by the pattern's number among the cases
 abbrev without : ℕ → List ℕ → List ℕ
@@ -83,7 +77,7 @@ module _ {job work : Bytes} {n p : ℕ} {t : Decoded} (s : TermAt job work n p t
   made-of o ops e d = s .made ∙ ap₂ (λ (q : Op) (r : Operands). tree-of (listed job work n) q (numbers-of job r)) e d
 
   pub below-of : (ops : Operands) → operands-of t ≡ ops → T (all-below p (numbers-of job ops))
-  below-of ops d = is-T _ (sym (ap (λ (r : Operands). all-below p (numbers-of job r)) d) ∙ s .below)
+  below-of ops d = true-T _ (sym (ap (λ (r : Operands). all-below p (numbers-of job r)) d) ∙ s .below)
 
   -- ---- any arguments: the term is of kind o, and these are its arguments
   pub args-form : (o : Op) (ops : Operands) → op-of t ≡ o → operands-of t ≡ ops → (f : List Term → Verdict)
@@ -139,7 +133,7 @@ module _ {job work : Bytes} {n p : ℕ} {t : Decoded} (s : TermAt job work n p t
         let ss = sort-of a ∷ sort-of b ∷ [] in
         let h = subst T (asks ss) (and-r (takes (arity o) (length ss)) _ (good-guard (takes (arity o) (length ss) && fitting o ss) (result-sort o ss) g)) in (
           and-l (is-bv-sort (sort-of a)) _ h,
-          same-is (sort-of a) (sort-of b) (and-l (same-sort (sort-of a) (sort-of b)) _ (and-r (same-sort (sort-of a) (sort-of a)) _ (and-r (is-bv-sort (sort-of a)) _ h))),
+          same-sort-eq (sort-of a) (sort-of b) (and-l (same-sort (sort-of a) (sort-of b)) _ (and-r (same-sort (sort-of a) (sort-of a)) _ (and-r (is-bv-sort (sort-of a)) _ h))),
         )
 
     -- what the check of an operation of one bit-vector may take for granted
@@ -166,7 +160,7 @@ module _ {job work : Bytes} {n p : ℕ} {t : Decoded} (s : TermAt job work n p t
   same-two a b g =
       let ss = sort-of a ∷ sort-of b ∷ [] in
       let h = good-guard (good (sort-of a) && all-are (sort-of a) ss) bool g in
-      same-is (sort-of a) (sort-of b) (and-l (same-sort (sort-of a) (sort-of b)) _ (and-r (same-sort (sort-of a) (sort-of a)) _ (and-r (good (sort-of a)) _ h)))
+      same-sort-eq (sort-of a) (sort-of b) (and-l (same-sort (sort-of a) (sort-of b)) _ (and-r (same-sort (sort-of a) (sort-of a)) _ (and-r (good (sort-of a)) _ h)))
 
   pub same-given : Store job work n → p < first-terms + n → (x y claim : ℕ) → op-of t ≡ Equals → operands-of t ≡ TwoArgs x y → claim < first-terms + n → Same job work n x y claim
   same-given store there x y claim e d c = record {

@@ -33,16 +33,14 @@ use Rattle.rows.specs.Rows.{kept}
 use Rattle.store.specs.Numbers.{numbers, bit-number, bb-number, is-false-number}
 use Rattle.store.specs.Store.{Store, listed}
 use Rattle.store.specs.Terms.{TermAt}
-use Rattle.store.proofs.Lookup.{bool-ext, number-hom, number-exact, bb-hom}
+use Rattle.store.proofs.Lookup.{number-hom, number-exact, bb-hom}
 use Rattle.store.proofs.Claims.{own-numbers, select-numbers, compare-number}
 use Rattle.operand_rules.specs.Rules.{Operand, tree, number-in}
+use Rattle.theory.proofs.Basics.{true-T, T-same}
 
 -- the width of a bit-vector is 1 to 64
 pub sized-bv : (s : Sort) (w : ℕ) → T (sized s) → s ≡ bv w → (1 ≤ w) × (w ≤ 64)
 sized-bv s w h e = let k = subst (λ (x : Sort). T (sized x)) e h in (leb→le 1 w (and-l (leb 1 w) (leb w 64) k), leb→le w 64 (and-r (leb 1 w) (leb w 64) k))
-
-is-T : {b : Bool} → b ≡ true → T b
-is-T e = subst T (sym e) tt
 
 abbrev is-bv-number : Sort → ℕ
 is-bv-number bad = 0
@@ -94,7 +92,7 @@ module _ {job work : Bytes} {n : ℕ} where
   false-test s t =
       let e : tree job work n 1 ≡ node False nil = tree-1 (listed job work n) (s .well) in
       let g = number-exact (listed job work n) (s .well) (few s) 1 (there s (omega arith)) t in
-      bool-ext (same-term t (node False nil)) (eqb (number-in job work n t) 1)
+      T-same (same-term t (node False nil)) (eqb (number-in job work n t) 1)
       (λ h. subst (λ (k : ℕ). T (eqb k 1)) (sym (g .1 (e ∙ sym (same-eq t (node False nil) h)))) tt)
       (λ h. eq-same t (node False nil) (sym (g .0 (eqb→eq (number-in job work n t) 1 h)) ∙ e))
 
@@ -127,7 +125,7 @@ module _ {job work : Bytes} {n : ℕ} where
       let m : tree job work n p ≡ bb us = s .made ∙ ap (λ (q : Decoded). tree-of (listed job work n) (op-of q) (arguments-of job q)) e in
       let l : length us ≡ w = bb-width us w (ap sort-of (sym m) ∙ o .sort) in
       let k : a .count ≡ w = sym (words-length (a .count) (drop (a .at) job)) ∙ sym (length-map ks (tree-at (listed job work n))) ∙ l in
-      let b : T (all-below p ks) = is-T (sym (ap (λ (q : Decoded). all-below p (arguments-of job q)) e) ∙ s .below) in
+      let b : T (all-below p ks) = true-T _ (sym (ap (λ (q : Decoded). all-below p (arguments-of job q)) e) ∙ s .below) in
       let g = there (o .store) (o .there) in
       ap (λ (j : ℕ). take j xs) (sym k) ∙ d
       ∙ sym (ap (map (number-in job work n)) (ap get-term-bits m ∙ bb-bits us)

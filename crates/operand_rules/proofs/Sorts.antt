@@ -29,16 +29,13 @@ use Rattle.store.proofs.sorts.Sort as E
 use Rattle.store.proofs.Lookup.{bit-hom, constant-hom}
 use Rattle.operand_rules.specs.Rules.{Operand, tree, number-in, width-bits}
 use Rattle.operand_rules.proofs.Numbers.{few}
+use Rattle.theory.proofs.Indexed.{bits-same}
 
 -- the else: no bit-vector
 pub not-bits : (u : Term) (v : Verdict) (r : Sort) → OneOf (0 ∷ 1 ∷ []) (tagOf E.the-type r) → sort-read r ≡ sort-of u → not-bit-vector ≡ of-bits u v
 not-bits u v Bad k e = ap (λ (s : Th.Sort). cond (is-bv-sort s) v not-bit-vector) e
 not-bits u v IsBool k e = ap (λ (s : Th.Sort). cond (is-bv-sort s) v not-bit-vector) e
 not-bits u v (Bv w) k e = absurd (miss (0 ∷ 1 ∷ []) 2 tt k)
-
-pub bits-same : (k : ℕ) (f g : ℕ → ℕ) → ((i : ℕ) → f i ≡ g i) → bits k f ≡ bits k g
-bits-same zero f g h = refl
-bits-same (suc k) f g h = ap₂ (λ (x : ℕ) (xs : List ℕ). x ∷ xs) (h 0) (bits-same k (λ i. f (suc i)) (λ i. g (suc i)) (λ i. h (suc i)))
 
 -- a width fits into as many bits
 const-sort : (w : ℕ) → 1 ≤ w → w ≤ 64 → sort-of (node (Const w w) nil) ≡ bv w

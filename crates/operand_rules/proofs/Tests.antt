@@ -3,13 +3,10 @@ use mathlib.Core.Path.{_≡_, refl, sym, ap, _∙_}
 use mathlib.Core.Bool.{Bool, true, false, cond}
 use Prim.Native.Nat.{ℕ}
 use lib.Dec.{T, eqb, eqb→eq, eqb-refl}
-
-pub is-true : (b : Bool) → T b → b ≡ true
-is-true true h = refl
-is-true false h = absurd h
+use Rattle.theory.proofs.Basics.{T-true}
 
 pub same-eqb : (k : ℕ) → eqb k k ≡ true
-same-eqb k = is-true (eqb k k) (eqb-refl k)
+same-eqb k = T-true (eqb k k) (eqb-refl k)
 
 pub eqb-yes : {x y : ℕ} → x ≡ y → eqb x y ≡ true
 eqb-yes {x} e = ap (eqb x) (sym e) ∙ same-eqb x

@@ -31,8 +31,8 @@ use Rattle.steps.specs.declared.answers.Reply.{Reply}
 use Rattle.records.specs.declared.Turn.{Turn}
 use Rattle.steps.specs.Answering.{given, with-answers, Literals}
 use Rattle.records.specs.Turning.{passed, turn, Reading, Turned}
-use Rattle.operand_rules.proofs.Tests.{is-true}
 use Rattle.steps.proofs.Writing.{none-written}
+use Rattle.theory.proofs.Basics.{T-true}
 
 -- a record that was read as an item
 pub reading : {job work : Bytes} {rows at : ℕ} {item k : Item} → Store job work rows → whole (drop at job) ≡ true → item-of job item ≡ read (record-at job at)
@@ -167,7 +167,7 @@ module _ {job work : Bytes} {rows at rule : ℕ} {literals : Args} (g : Reading 
   step-literals z = record {
     store = g .store;
     inside = g .placed;
-    below = ap (λ (n : ℕ). all-below n (words-in job literals)) (sym (g .store .count)) ∙ is-true _ (step-right z .below);
+    below = ap (λ (n : ℕ). all-below n (words-in job literals)) (sym (g .store .count)) ∙ T-true _ (step-right z .below);
   }
 
   -- its answer is written

@@ -11,10 +11,11 @@ use lib.Seq.{length-take-le, getD-take}
 use lib.Dec.{leb}
 use lib.Pow.{pow-mono, shl-exact}
 use Rattle.theory.specs.Gates.{Gates}
-use Rattle.theory.specs.Circuit.{clog2-from, clog2, last, shl-bits, shl-stage, shl-stages, shr-bits, shr-stage, shr-stages, bitblast-ult, choose, bounded, shl, lshr, ashr}
+use Rattle.theory.specs.Circuit.{clog2-from, clog2, last, shl-stage, shl-stages, shr-stage, shr-stages, bitblast-ult, choose, bounded, shl, lshr, ashr}
 use Rattle.theory.specs.Alethe.{bit-of}
 use Rattle.theory.proofs.Indexed.{shl-stage-below, shl-stage-above, shl-stages-take, shr-stage-in, shr-stage-out, shr-stages-take}
 use Rattle.circuits.proofs.FillLaws.{Filling, fill-start, fill-turn, reached, with-right}
+use Rattle.theory.proofs.Shift.{length-shl-bits, length-shr-bits}
 
 -- 2 ^ s, as the code shifts for it
 pub power : (s : ℕ) → s < 64 → 1 * 2 ^ s % 2 ^ 64 ≡ 2 ^ s
@@ -22,19 +23,6 @@ power s h = shl-exact 1 s 64 (omega arith) (omega arith) ∙ one
   where
     one : 1 * 2 ^ s ≡ 2 ^ s
     one = omega arith
-
-module _ (g : Gates ℕ) where
-  length-shl-bits : (y : ℕ) (ps qs : List ℕ) → length ps ≤ length qs → length (shl-bits g y ps qs) ≡ length ps
-  unfolding shl-bits
-  length-shl-bits y [] qs h = refl
-  length-shl-bits y (p ∷ ps) [] h = absurd (omega arith)
-  length-shl-bits y (p ∷ ps) (q ∷ qs) h = ap suc (length-shl-bits y ps qs (omega arith))
-
-  length-shr-bits : (fill y : ℕ) (ps qs : List ℕ) → length (shr-bits g fill y ps qs) ≡ length ps
-  unfolding shr-bits
-  length-shr-bits fill y [] qs = refl
-  length-shr-bits fill y (p ∷ ps) [] = ap suc (length-shr-bits fill y ps [])
-  length-shr-bits fill y (p ∷ ps) (q ∷ qs) = ap suc (length-shr-bits fill y ps qs)
 
 -- ---- a stage to the left, t being 2 ^ s
 pub record Shl-stage (g : Gates ℕ) (s t y : ℕ) (ps : List ℕ) (n : ℕ) (out : List ℕ) (i : ℕ) : Type 0 where

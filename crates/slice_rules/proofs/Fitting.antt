@@ -32,12 +32,12 @@ use Rattle.store.specs.Store.{Store, listed}
 use Rattle.store.specs.Terms.{TermAt}
 use Rattle.store.specs.Sorts.{Arguments}
 use Rattle.store.proofs.Claims.{own-number}
-use Rattle.store.proofs.Lookup.{bool-ext}
 use Rattle.operand_rules.specs.Rules.{One, tree, number-in, width-in}
-use Rattle.operand_rules.proofs.Tests.{is-true, same-eqb, eqb-yes}
+use Rattle.operand_rules.proofs.Tests.{same-eqb, eqb-yes}
 use Rattle.operand_rules.proofs.Numbers.{few, there}
 use Rattle.operand_rules.proofs.Forms.{good-guard, others, not-kind, made-of, one-form, one-below, below-of, list-inside, fits}
 use Rattle.slice_rules.specs.Given.{Extract, Extend, Concat, sorts-in}
+use Rattle.theory.proofs.Basics.{T-true, T-same}
 
 -- a term that fits: so do the sorts of its arguments
 pub fitted : (o : Op) (us : List Term) → T (good (sort-of (node o (from-list us)))) → T (fitting o (map sort-of us))
@@ -54,7 +54,7 @@ own {job} {work} {n} {x} store h = sym (own-number (listed job work n) (store .w
 -- so two kept terms are one exactly where their places are
 pub same-place : {job work : Bytes} {n : ℕ} → Store job work n → (a b : ℕ) → a < first-terms + n → b < first-terms + n → same-term (tree job work n a) (tree job work n b) ≡ eqb a b
 same-place {job} {work} {n} store a b h l =
-    bool-ext (same-term (tree job work n a) (tree job work n b)) (eqb a b)
+    T-same (same-term (tree job work n a) (tree job work n b)) (eqb a b)
     (λ t. subst (λ (k : ℕ). T (eqb a k)) (own store h ∙ ap (number-in job work n) (same-eq (tree job work n a) (tree job work n b) t) ∙ sym (own store l)) (eqb-refl a))
     (λ t. eq-same (tree job work n a) (tree job work n b) (ap (tree job work n) (eqb→eq a b t)))
 
@@ -132,7 +132,7 @@ module _ {job work : Bytes} {n p : ℕ} {t : Decoded} (s : TermAt job work n p t
     list-given a d = record {
       store = store;
       placed = list-inside s a d;
-      below = is-true _ (more-below p (first-terms + n) (omega arith) (words-in job a) (below-of s (Listed a) d));
+      below = T-true _ (more-below p (first-terms + n) (omega arith) (words-in job a) (below-of s (Listed a) d));
     }
 
     -- what the check of concat may take for granted

@@ -33,11 +33,12 @@ use Rattle.store.specs.Store.{Store, listed}
 use Rattle.store.specs.Terms.{TermAt}
 use Rattle.store.specs.Sorts.{Arguments}
 use Rattle.operand_rules.specs.Rules.{tree}
-use Rattle.operand_rules.proofs.Forms.{is-T, others}
+use Rattle.operand_rules.proofs.Forms.{others}
 use Rattle.operand_rules.proofs.Tests.{on-same, on-other}
 use Rattle.slice_rules.specs.Given.{literal-number}
 use Rattle.slice_rules.proofs.Copying.{one-back}
 use Rattle.slice_rules.proofs.Fitting.{same-place, args-are, args-not, index-is}
+use Rattle.theory.proofs.Basics.{true-T}
 
 -- ---- the left side is a constant, or is none
 module _ {job work : Bytes} {n p : ℕ} {t : Decoded} (s : TermAt job work n p t) where
@@ -64,7 +65,7 @@ module _ {job work : Bytes} {n : ℕ} (store : Store job work n) where
 
 pub numbers-literal : {job work : Bytes} {n : ℕ} {a : Args} → Arguments job work n (Listed a) → collect (map literal-number (words-in job a)) ≡ literal-bits (map (tree job work n) (words-in job a))
 unfolding literal-bits
-numbers-literal {a} g = ap collect (sym (each-literal (g .store) (words-in _ a) (is-T _ (g .below))))
+numbers-literal {a} g = ap collect (sym (each-literal (g .store) (words-in _ a) (true-T _ (g .below))))
 
 -- a number that is literal, and one that is none
 literal : (x : ℕ) → x ≤ 1 → (b : Bool) × (literal-number x ≡ some b) × (bit b ≡ 1 - x)

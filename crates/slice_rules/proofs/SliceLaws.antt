@@ -17,7 +17,7 @@ use Rattle.theory.specs.Term.{Term, same-term}
 use Rattle.theory.specs.Optional.{either}
 use Rattle.theory.specs.Record.{Bytes}
 use Rattle.theory.specs.Verdict.{Verdict, held, wrong-form, terms-differ, index-not-next}
-use Rattle.theory.specs.Rule.{args-of, two-of, index-of, form, unary, binary, extract-kind, slice-verdict, slices-verdict}
+use Rattle.theory.specs.Rule.{args-of, two-of, index-of, form, unary, binary, extract-kind, slice-verdict, slices-verdict, parts-verdict}
 use Rattle.terms.specs.declared.Term.{Term as Decoded}
 use Rattle.terms.specs.declared.Operands.the-variants.{One as OneArg, List as Listed}
 use Rattle.terms.specs.declared.Args.{Args}
@@ -99,20 +99,11 @@ module _ {job work : Bytes} {n p : ℕ} {t : Decoded} (s : TermAt job work n p t
         }
 
 -- ---- the tests on a slice
--- on its two terms
-abbrev pub pair-tests : ℕ → Term → Term → (ℕ → Verdict) → Term → Term → Verdict
-pair-tests done a c next p q =
-    unary extract-kind p (λ x.
-    unary extract-kind q (λ y.
-    cond (not (eqb (index-of 0 p) (index-of 0 q) && eqb (index-of 1 p) (index-of 1 q))) wrong-form
-    (cond (not (eqb (suc (index-of 0 p)) done)) index-not-next
-    (cond (not (same-term a x && same-term c y)) terms-differ (next (index-of 1 p))))))
-
 -- where these are bits j to i of x and bits m to k of y, the tests are on numbers
 module _ {job work : Bytes} {n p q : ℕ} {t u : Decoded} (s : TermAt job work n p t) (r : TermAt job work n q u) where
   pub pair-tested : (a c done i j x k m y : ℕ) (next : ℕ → Verdict) → Store job work n → op-of t ≡ BvExtract i j → operands-of t ≡ OneArg x → op-of u ≡ BvExtract k m
       → operands-of u ≡ OneArg y → a < first-terms + n → c < first-terms + n → x < first-terms + n → y < first-terms + n
-      → number-tests a c done i j x k m y next ≡ pair-tests done (tree job work n a) (tree job work n c) next (tree job work n p) (tree job work n q)
+      → number-tests a c done i j x k m y next ≡ parts-verdict done (tree job work n a) (tree job work n c) next (tree job work n p) (tree job work n q)
   pair-tested a c done i j x k m y next store e d f g ha hc hx hy =
       let A = tree job work n a in
       let C = tree job work n c in

@@ -21,13 +21,11 @@ use Rattle.theory.proofs.Distinct.{WellKept}
 use Rattle.theory.proofs.Place.{tree-place}
 use Rattle.store.specs.Numbers.{number, bit-number}
 use Rattle.store.specs.Store.{records}
-use Rattle.store.proofs.Lookup.{bool-ext, number-of, bit-hom, number-exact}
+use Rattle.store.proofs.Lookup.{number-of, bit-hom, number-exact}
 use Rattle.theory.specs.Alethe.{bits}
 use native.Mathlib.Nat.{add-zero, zero-add}
-
-bits-same : (n : ℕ) (f g : ℕ → ℕ) → ((i : ℕ) → f i ≡ g i) → bits n f ≡ bits n g
-bits-same zero f g h = refl
-bits-same (suc n) f g h = ap₂ (λ (x : ℕ) (xs : List ℕ). x ∷ xs) (h 0) (bits-same n (λ i. f (suc i)) (λ i. g (suc i)) (λ i. h (suc i)))
+use Rattle.theory.proofs.Basics.{T-same}
+use Rattle.theory.proofs.Indexed.{bits-same}
 
 module _ (list : Plain) (w : WellKept list) (few : length list ≤ max-terms) where
   -- a term of the list has its place as number
@@ -62,6 +60,6 @@ module _ (list : Plain) (w : WellKept list) (few : length list ≤ max-terms) wh
       → compare ok expected (tree-at list claim) ≡ cond (eqb (number-of list w few expected) claim) ok terms-differ
   compare-number ok expected claim h =
       ap (λ (b : Bool). cond b ok terms-differ)
-      (bool-ext (same-term expected (tree-at list claim)) (eqb (number-of list w few expected) claim)
+      (T-same (same-term expected (tree-at list claim)) (eqb (number-of list w few expected) claim)
       (λ t. subst (λ (k : ℕ). T (eqb k claim)) (sym (number-exact list w few claim h expected .1 (sym (same-eq expected (tree-at list claim) t)))) (eqb-refl claim))
       (λ t. eq-same expected (tree-at list claim) (sym (number-exact list w few claim h expected .0 (eqb→eq (number-of list w few expected) claim t)))))

@@ -14,7 +14,6 @@ use Rattle.theory.specs.Term.{Term, node, nil}
 use Rattle.theory.specs.Record.{Bytes, word, extent, whole, term, read}
 use Rattle.theory.specs.Plain.{Entry, entry, Plain}
 use Rattle.theory.specs.Codes.{all-below}
-use Rattle.theory.proofs.Blast.{T-true}
 use Rattle.theory.proofs.Bytes.{Sound, says-term}
 use Rattle.theory.proofs.Places.{entry-at, tree-at, tree-of}
 use Rattle.theory.proofs.Distinct.{Kept, tree-0, tree-1}
@@ -30,6 +29,7 @@ use Rattle.terms.specs.Decoded.{OperandsPlaced, op-of, operands-of, arguments-o
 use Rattle.store.specs.Store.{Store, listed, records}
 use Rattle.store.specs.Terms.{TermAt}
 use Rattle.store.proofs.Lookup.{says-count}
+use Rattle.theory.proofs.Basics.{T-true}
 
 -- ---- a row's record
 getD-map : {A B : Type 0} (f : A → B) (l : List A) (k : ℕ) (d : A) → getD (map f l) k (f d) ≡ f (getD l k d)

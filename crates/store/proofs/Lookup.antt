@@ -16,7 +16,7 @@ use Rattle.theory.specs.Optional.{either, cons-some, collect}
 use Rattle.theory.specs.Gates.{term-gates}
 use Rattle.theory.specs.Record.{Bytes, bytes-of, term, misfit, plain, shape-of, body-of, read, front}
 use Rattle.theory.specs.Plain.{Entry, entry, Plain}
-use Rattle.theory.proofs.Basics.{none-some, some-inj, cons-some-is, getElem-lt}
+use Rattle.theory.proofs.Basics.{none-some, some-inj, cons-some-is, getElem-lt, T-true, true-T, T-same}
 use Rattle.theory.proofs.Natural.{Hom}
 use Rattle.theory.proofs.Blast.{folds-from-list}
 use Rattle.theory.proofs.Same.{same-op-eq}
@@ -35,19 +35,6 @@ use Rattle.table.proofs.KeyLaws.{words-bytes-length}
 use Rattle.store.proofs.Reading.{words-bytes-small, record-sound, read-plain, read-indexed, read-constant}
 
 -- ---- one record: the lookup by bytes and the lookup by what a record says
-pub bool-ext : (a b : Bool) → (T a → T b) → (T b → T a) → a ≡ b
-bool-ext true true f g = refl
-bool-ext false false f g = refl
-bool-ext true false f g = absurd (f tt)
-bool-ext false true f g = absurd (g tt)
-
-T-is : (b : Bool) → T b → b ≡ true
-T-is true h = refl
-T-is false h = absurd h
-
-is-T : (b : Bool) → b ≡ true → T b
-is-T b e = subst T (sym e) tt
-
 abbrev AllSound : Plain → Type 0
 AllSound [] = Unit {0}
 AllSound (e ∷ rest) = Sound (e .bytes) × AllSound rest
@@ -55,9 +42,9 @@ AllSound (e ∷ rest) = Sound (e .bytes) × AllSound rest
 module _ (x : Bytes) (o : Op) (ks : List ℕ) (s : Sound x) (d : read x ≡ term o ks) where
   same-agrees : (e : Entry) → Sound (e .bytes) → same-numbers x (e .bytes) ≡ agrees e o ks
   same-agrees e h =
-      bool-ext (same-numbers x (e .bytes)) (agrees e o ks)
-      (λ t. says-item o ks e (ap read (sym (same-sound x (e .bytes) (T-is _ t))) ∙ d))
-      (λ t. is-T _ (subst (λ (y : Bytes). same-numbers x y ≡ true) (same-record x (e .bytes) o ks s h d (item-says (read (e .bytes)) o ks t)) (same-refl x)))
+      T-same (same-numbers x (e .bytes)) (agrees e o ks)
+      (λ t. says-item o ks e (ap read (sym (same-sound x (e .bytes) (T-true _ t))) ∙ d))
+      (λ t. true-T _ (subst (λ (y : Bytes). same-numbers x y ≡ true) (same-record x (e .bytes) o ks s h d (item-says (read (e .bytes)) o ks t)) (same-refl x)))
 
   place-rest : (p : ℕ) (rest : Plain) → AllSound rest → place-from p x (map (λ (e : Entry). e .bytes) rest) ≡ number (find-from p rest o ks)
   unfolding place-from find-from
@@ -180,7 +167,7 @@ module _ (list : Plain) (w : WellKept list) where
     where
       go : (b : Bool) → takes (arity o) (length ks) ≡ b → place-of (record-of (kind o) (words-bytes ks)) (records list) ≡ number (find list o ks)
       go true c =
-          let l = small (is-T _ c) in
+          let l = small (true-T _ c) in
           let n = words-bytes-length ks in
           place-find (record-of (kind o) (words-bytes ks)) o ks (record-sound (kind o) (words-bytes ks) (omega arith) (words-bytes-small ks))
           (read-plain o ks h e p ∙ ap (λ (b : Bool). cond b (term o ks) misfit) c)
@@ -243,7 +230,7 @@ module _ (list : Plain) (w : WellKept list) (few : length list ≤ max-terms) wh
           let r = a ks refl in
           let l : length ks ≡ length ps = ap length (sym (r .0)) ∙ length-map ps number in
           ap (λ (js : List ℕ). cond (all-places js) (place-of (record-of (kind o) (words-bytes js)) (records list)) missing) (r .0)
-          ∙ ap (λ (t : Bool). cond t (place-of (record-of (kind o) (words-bytes ks)) (records list)) missing) (T-is (all-places ks) (r .1))
+          ∙ ap (λ (t : Bool). cond t (place-of (record-of (kind o) (words-bytes ks)) (records list)) missing) (T-true (all-places ks) (r .1))
           ∙ gate-found list w o ks h f e (λ t. let m = small (subst (λ (n : ℕ). T (takes (arity o) n)) l t) in omega arith) (r .1)
 
   -- a place that is found is one
@@ -322,7 +309,7 @@ module _ (list : Plain) (w : WellKept list) (few : length list ≤ max-terms) wh
   bit-found i k h l =
       let p : T (all-places (i ∷ k ∷ [])) = and-i (ltb i max-terms) (ltb k max-terms && true) (lt→ltb i max-terms (omega arith)) (and-i (ltb k max-terms) true (lt→ltb k max-terms l) tt) in
       let n = words-bytes-length (i ∷ k ∷ []) in
-      ap (λ (b : Bool). cond b (place-of (record-of 30 (words-bytes (i ∷ k ∷ []))) (records list)) missing) (T-is (all-places (i ∷ k ∷ [])) p)
+      ap (λ (b : Bool). cond b (place-of (record-of 30 (words-bytes (i ∷ k ∷ []))) (records list)) missing) (T-true (all-places (i ∷ k ∷ [])) p)
       ∙ place-find list w (record-of 30 (words-bytes (i ∷ k ∷ []))) (BvBitOf i) (k ∷ [])
       (record-sound 30 (words-bytes (i ∷ k ∷ [])) (omega arith) (words-bytes-small (i ∷ k ∷ [])))
       (read-indexed BvBitOf i k (omega arith) refl refl p)

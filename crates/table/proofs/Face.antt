@@ -12,16 +12,13 @@ use Rattle.terms.specs.Framing.{record-at}
 use Rattle.rows.specs.Layout.{depth-at, max-rows, missing, offset-at, width-at}
 use Rattle.rows.specs.Rows.{depths, kept, place-from, place-of, row-record, widths}
 use Rattle.table.specs.Slots.{Table}
-use Rattle.rows.proofs.RowLaws.{getD-column, getD-kept, length-kept, same-refl, same-sound}
+use Rattle.rows.proofs.RowLaws.{getD-column, getD-kept, same-refl, same-sound}
 use Rattle.table.proofs.SlotLaws.{place-only}
 use Rattle.theory.specs.Term.{same-numbers}
 
 -- ---- the entries of the lists
 
 module _ (job work : Bytes) (n : ℕ) where
-  pub kept-length : length (kept job work n) ≡ n
-  kept-length = length-kept job work n
-
   pub kept-at : (k : ℕ) → k < n → getD (kept job work n) k [] ≡ record-at job (offset-at work k)
   kept-at k h = getD-kept job work n k h
 

@@ -13,7 +13,7 @@ use Rattle.theory.specs.Gates.{Gates}
 use Rattle.theory.specs.Circuit.{zip-with, last, ripple-carry-adder, last-carry, negate, bitblast-ult, slt, gather, equality, shift-add-multiplier}
 use Rattle.theory.specs.Alethe.{bits, bit-of, bitwise, bvnot, carry-at, sum-at, bvadd, bvneg, less-at, bvult, bvslt, bvmul, bvequal, bvcomp, extract, sign-extend, concat-width, concat-at, concat}
 use Rattle.theory.specs.Bits.{get-term-bits, extract-bits, concat-bits, extend-bits}
-use Rattle.theory.proofs.Indexed.{bits-by, listed, map-bits, zip-bits, replicate-bits, append-bits, adder-bits, last-carry-bits, ult-bits, slt-bits}
+use Rattle.theory.proofs.Indexed.{bits-by, list-bits, map-bits, zip-bits, replicate-bits, append-bits, adder-bits, last-carry-bits, ult-bits, slt-bits}
 use Rattle.theory.proofs.Loops.{mult-bits}
 
 -- ---- for bits given by index
@@ -45,7 +45,7 @@ module _ {A : Type 0} (G : Gates A) (x y : ℕ → A) where
 
 -- ---- one list
 map-indexed : {A : Type 0} (d : A) {n : ℕ} (xs : List A) → length xs ≡ n → (f : A → A) → map f xs ≡ bits n (λ i. f (bit-of d xs i))
-map-indexed d {n} xs p f = ap (map f) (listed d xs p) ∙ map-bits f n (bit-of d xs)
+map-indexed d {n} xs p f = ap (map f) (list-bits d xs p) ∙ map-bits f n (bit-of d xs)
 
 module _ {A : Type 0} (G : Gates A) (d : A) {n : ℕ} (xs : List A) (p : length xs ≡ n) where
   -- rule 7
@@ -63,7 +63,7 @@ module _ {A : Type 0} (d : A) {n : ℕ} (xs ys : List A) (p : length xs ≡ n) (
   -- a circuit by its law for bits given by index
   two-lists : {B : Type 0} (circuit : List A → List A → B) (result : (ℕ → A) → (ℕ → A) → B)
       → ((x y : ℕ → A) → circuit (bits n x) (bits n y) ≡ result x y) → circuit xs ys ≡ result (bit-of d xs) (bit-of d ys)
-  two-lists circuit result law = ap₂ circuit (listed d xs p) (listed d ys q) ∙ law (bit-of d xs) (bit-of d ys)
+  two-lists circuit result law = ap₂ circuit (list-bits d xs p) (list-bits d ys q) ∙ law (bit-of d xs) (bit-of d ys)
 
   -- rules 3 to 6: and, or, xor and, with the gate `=`, xnor
   pub bitwise-indexed : (gate : A → A → A) → zip-with gate xs ys ≡ bitwise gate n (bit-of d xs) (bit-of d ys)
@@ -121,7 +121,7 @@ module _ (d : Term) where
   unfolding concat-bits
   concat-indexed [] = refl
   concat-indexed (t ∷ ts) =
-      ap₂ (λ (l r : List Term). l ++ r) (concat-indexed ts) (listed d (get-term-bits t) refl)
+      ap₂ (λ (l r : List Term). l ++ r) (concat-indexed ts) (list-bits d (get-term-bits t) refl)
       ∙ append-bits d (concat-width (map vector ts)) (length (get-term-bits t)) (concat-at d (map vector ts)) (bit-of d (get-term-bits t))
 
   -- the last bit is bit n of n + 1 bits
@@ -136,7 +136,7 @@ module _ (d : Term) where
   -- rule 17
   pub extend-indexed : {n : ℕ} (k : ℕ) (xs : List Term) → length xs ≡ suc n → extend-bits k xs ≡ sign-extend k (suc n) (bit-of d xs)
   extend-indexed {n} k xs p =
-      ap₂ (λ (l r : List Term). l ++ r) (listed d xs p) (ap (replicate k) top ∙ replicate-bits k (bit-of d xs (suc n - 1)))
+      ap₂ (λ (l r : List Term). l ++ r) (list-bits d xs p) (ap (replicate k) top ∙ replicate-bits k (bit-of d xs (suc n - 1)))
       ∙ append-bits d (suc n) k (bit-of d xs) (λ i. bit-of d xs (suc n - 1))
     where
       place : n ≡ suc n - 1

@@ -1,5 +1,5 @@
 -- Small facts on optional values, tests and lists, used all over.
-use mathlib.Core.Path.{_≡_, refl, sym, ap}
+use mathlib.Core.Path.{_≡_, refl, sym, ap, subst}
 use mathlib.Core.Bool.{Bool, true, false, cond, _||_}
 use mathlib.Core.List.{List, [], _∷_, _++_, foldl}
 use mathlib.Core.Option.{Option, none, some}
@@ -22,7 +22,21 @@ cons-some-is none q xs e = absurd (none-some xs e)
 cons-some-is (some x) none xs e = absurd (none-some xs e)
 cons-some-is (some x) (some ys) xs e = (x, ys, refl, refl, sym (some-inj (x ∷ ys) xs e))
 
--- ---- tests: the test passed, and what comes after it gave 0
+-- ---- tests: one that passed is true, and the other way; two that pass together are one
+pub T-true : (b : Bool) → T b → b ≡ true
+T-true true h = refl
+T-true false h = absurd h
+
+pub true-T : (b : Bool) → b ≡ true → T b
+true-T b e = subst T (sym e) tt
+
+pub T-same : (a b : Bool) → (T a → T b) → (T b → T a) → a ≡ b
+T-same true true f g = refl
+T-same true false f g = absurd (f tt)
+T-same false true f g = absurd (g tt)
+T-same false false f g = refl
+
+-- the test passed, and what comes after it gave 0
 pub taken : (b : Bool) (k z : ℕ) → cond b z (suc k) ≡ 0 → T b × (z ≡ 0)
 taken true k z e = (tt, e)
 taken false k z e = absurd (omega arith)

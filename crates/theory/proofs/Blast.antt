@@ -127,9 +127,6 @@ pub record Bits (ρ : Assign) (t : Term) (n : ℕ) : Type 0 where
   pub size : length bits ≡ n
   pub means : value ρ t ≡ number n (to-number bits)
 
-pub T-true : (b : Bool) → T b → b ≡ true
-T-true true h = refl
-
 pub guard-yes : (b : Bool) (s r : Sort) → T (good r) → guard b s ≡ r → T b × (s ≡ r)
 unfolding guard
 guard-yes true s r g e = (tt, e)

@@ -18,9 +18,10 @@ use Rattle.theory.specs.Verdict.{Verdict, held, accepted}
 use Rattle.theory.specs.RuleTable.{Rule, by-ult, by-slt, by-neg, by-add}
 use Rattle.theory.specs.Rule.{verdict, compare, on-one, on-two, on-many, on-sides}
 use Rattle.theory.specs.Claim.{NoBbTerm, HasBound, rule-8, rule-9, rule-10, rule-12, DepthBound}
-use Rattle.theory.proofs.Blast.{T-true, not-bb, is-bb, to-from-list}
+use Rattle.theory.proofs.Blast.{not-bb, is-bb, to-from-list}
 use Rattle.theory.proofs.Same.{decode}
 use Rattle.theory.proofs.Form.{code-held, same-of, unary-held, binary-held, many-held}
+use Rattle.theory.proofs.Basics.{T-true}
 
 -- a bit: a Bool of depth 0
 abbrev AllBits : List Term → Type 0

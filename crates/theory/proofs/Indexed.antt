@@ -1,5 +1,5 @@
 -- Circuits bit by bit: lists as the bits 0 to n - 1, what the adder and the comparisons make of such lists, and the stages of the shifter.
-use mathlib.Core.Path.{_≡_, refl, sym, ap, _∙_}
+use mathlib.Core.Path.{_≡_, refl, sym, ap, ap₂, _∙_}
 use mathlib.Core.Bool.{Bool, true, false, cond}
 use mathlib.Core.List.{List, [], _∷_, _++_, map}
 use Prim.Native.Nat.{ℕ, zero, suc, _+_, _-_, _^_, _≤_, _<_}
@@ -38,8 +38,13 @@ module _ {A : Type 0} where
       ext-getD d l (bits n f) (e ∙ sym (length-bits n f)) (λ i k. h i (omega arith) ∙ sym (getD-bits n f d i (omega arith)))
 
   -- a list is the list of its bits
-  pub listed : {n : ℕ} (d : A) (l : List A) → length l ≡ n → l ≡ bits n (bit-of d l)
-  listed d l e = bits-by d l (bit-of d l) e (λ i h. refl)
+  pub list-bits : {n : ℕ} (d : A) (l : List A) → length l ≡ n → l ≡ bits n (bit-of d l)
+  list-bits d l e = bits-by d l (bit-of d l) e (λ i h. refl)
+
+  -- bits that agree at every place
+  pub bits-same : (n : ℕ) (f g : ℕ → A) → ((i : ℕ) → f i ≡ g i) → bits n f ≡ bits n g
+  bits-same zero f g h = refl
+  bits-same (suc n) f g h = ap₂ (λ (x : A) (xs : List A). x ∷ xs) (h 0) (bits-same n (λ i. f (suc i)) (λ i. g (suc i)) (λ i. h (suc i)))
 
   pub map-bits : {B : Type 0} (g : A → B) (n : ℕ) (f : ℕ → A) → map g (bits n f) ≡ bits n (λ i. g (f i))
   map-bits g zero f = refl

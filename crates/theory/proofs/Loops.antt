@@ -10,7 +10,7 @@ use borrow.Author.Tests.{le-leb, lt-leb}
 use Rattle.theory.specs.Gates.{Gates}
 use Rattle.theory.specs.Circuit.{ripple-carry-adder, next-carry, sum-bit, partial-products, add-rows, shift-add-multiplier}
 use Rattle.theory.specs.Alethe.{bits, bit-of, ripple, sh, res, carry}
-use Rattle.theory.proofs.Indexed.{cond-true, cond-false, getD-bits, listed, map-bits, adder-bits}
+use Rattle.theory.proofs.Indexed.{cond-true, cond-false, getD-bits, list-bits, map-bits, adder-bits}
 
 -- ---- the three tables of bitvectors.rs, as its loops fill them: for n bits, at every row j < n and place i < n. A row's number is written `suc j` where it is not 0
 
@@ -177,7 +177,7 @@ pub tables-mult : {T : Type 0} (G : Gates T) (d : T) (n : ℕ) (xs ys : List T) 
     → (i : ℕ) → i < suc n → result n i ≡ getD (shift-add-multiplier G xs ys) i d
 tables-mult {T} G d n xs ys shift carries result t p q i h =
     result-same G (bit-of d xs) (bit-of d ys) (suc n) shift carries result t n i (le-refl (suc n)) h
-    ∙ sym (ap (λ (l : List T). getD l i d) (ap₂ (shift-add-multiplier G) (listed d xs p) (listed d ys q) ∙ mult-bits G (bit-of d xs) (bit-of d ys) n) ∙ getD-bits (suc n) (res G (bit-of d xs) (bit-of d ys) n) d i h)
+    ∙ sym (ap (λ (l : List T). getD l i d) (ap₂ (shift-add-multiplier G) (list-bits d xs p) (list-bits d ys q) ∙ mult-bits G (bit-of d xs) (bit-of d ys) n) ∙ getD-bits (suc n) (res G (bit-of d xs) (bit-of d ys) n) d i h)
 
 -- and there are such tables
 pub tables-hold : {T : Type 0} (G : Gates T) (x y : ℕ → T) (n : ℕ) → Tables G x y n (sh G x y) (carry G x y) (res G x y)

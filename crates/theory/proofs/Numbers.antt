@@ -17,6 +17,7 @@ use Rattle.theory.specs.Gates.{Gates, bool-gates}
 use Rattle.theory.specs.Circuit.{ripple-carry-adder, negate, ult-from, bitblast-ult, slt-from, slt, zip-with, gather, equality, sum-bit, next-carry, less-step, sign-step}
 use Rattle.theory.proofs.Sound.{to-number-lt}
 use Rattle.theory.proofs.Natural.{carry-out}
+use Rattle.theory.proofs.Basics.{T-same}
 
 -- two lists of one length
 pub data Pair {A B : Type 0} : List A → List B → Type 0 where
@@ -30,12 +31,6 @@ pair (x ∷ xs) [] e = absurd (omega arith)
 pair (x ∷ xs) (y ∷ ys) e = next (pair xs ys (omega arith))
 
 -- ---- Boolean tests of numbers
-pub T-same : (a b : Bool) → (T a → T b) → (T b → T a) → a ≡ b
-T-same true true f g = refl
-T-same true false f g = absurd (f tt)
-T-same false true f g = absurd (g tt)
-T-same false false f g = refl
-
 pub ltb-same : (a b c d : ℕ) → (a < b → c < d) → (c < d → a < b) → ltb a b ≡ ltb c d
 ltb-same a b c d f g =
     T-same (ltb a b) (ltb c d) (λ t. lt→ltb c d (f (ltb→lt a b t))) (λ t. lt→ltb a b (g (ltb→lt c d t)))

@@ -20,7 +20,7 @@ use Rattle.theory.specs.Record.{Bytes, Item, term, step, back, unknown, 
 use Rattle.theory.specs.Plain.{Entry, entry, Plain, plain-after}
 use Rattle.theory.specs.Codes.{all-below}
 use Rattle.theory.specs.Job.{run}
-use Rattle.theory.proofs.Basics.{none-some, some-inj, cons-some-is, getElem-of, getElem-lt}
+use Rattle.theory.proofs.Basics.{none-some, some-inj, cons-some-is, getElem-of, getElem-lt, T-same}
 use Rattle.theory.proofs.Natural.{Hom}
 use Rattle.theory.proofs.Blast.{fold-hom}
 use Rattle.theory.proofs.Same.{same-numbers-eq, same-numbers-refl, same-op-eq, same-op-refl, same-eq, eq-same}
@@ -228,14 +228,8 @@ one-is : (p : Option ℕ) → T (is-one p) → p ≡ some 1
 one-is none h = absurd h
 one-is (some k) h = ap some (eqb→eq k 1 h)
 
-same-truth : (a b : Bool) → (T a → T b) → (T b → T a) → a ≡ b
-same-truth true true f g = refl
-same-truth false false f g = refl
-same-truth true false f g = absurd (f tt)
-same-truth false true f g = absurd (g tt)
-
 pub false-place : (list : Plain) → WellKept list → (t : Term) → literally-false t ≡ is-one (place list t)
 false-place list w t =
-    same-truth (literally-false t) (is-one (place list t))
+    T-same (literally-false t) (is-one (place list t))
     (λ h. subst (λ (p : Option ℕ). T (is-one p)) (sym (ap (place list) (same-eq t (node False nil) h) ∙ constants-placed list .1)) tt)
     (λ h. eq-same t (node False nil) (sym (place-tree list w t 1 (one-is (place list t) h)) ∙ tree-1 list w))

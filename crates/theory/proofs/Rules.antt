@@ -18,7 +18,8 @@ use Rattle.theory.specs.Bits.{get-term-bits, bb, zipped, fold-terms, add
 use Rattle.theory.proofs.Sound.{same-sort-eq}
 use Rattle.theory.proofs.Natural.{map-not-hom}
 use Rattle.theory.proofs.Numbers.{negate-length, Pair, pair, adder-mod, adder-length, zip-and, zip-or, zip-xor, zip-xnor, map-not, zip-length, negate-mod, ult-lt, slt-lt, equality-eq}
-use Rattle.theory.proofs.Blast.{truth-hom, and-one, or-one, vals, fold-hom, Bits, bits-of, bb-bits, bb-value, guard-yes, T-true, adder-reads, negate-reads, ult-reads, slt-reads, equality-reads, zip-reads}
+use Rattle.theory.proofs.Blast.{truth-hom, and-one, or-one, vals, fold-hom, Bits, bits-of, bb-bits, bb-value, guard-yes, adder-reads, negate-reads, ult-reads, slt-reads, equality-reads, zip-reads}
+use Rattle.theory.proofs.Basics.{T-true}
 
 -- ---- the rules
 module _ (ρ : Assign) (x y : Term) (n : ℕ) (sx : sort-of x ≡ bv n) (sy : sort-of y ≡ bv n) where

@@ -18,12 +18,9 @@ use Rattle.theory.specs.Circuit.{bitblast-ult, clog2, clog2-from, shl-bi
 use Rattle.theory.specs.Bits.{get-term-bits, size-bits, shifted}
 use Rattle.theory.proofs.Natural.{Hom, ult-hom}
 use Rattle.theory.proofs.Numbers.{pair, ult-lt}
-use Rattle.theory.proofs.Blast.{truth-hom, fold-hom, bits-of, bb-value, T-true}
-use Rattle.theory.proofs.Slices.{to-number-append, to-number-take, to-number-drop, map-append, map-take, map-drop}
-
-map-replicate : {A B : Type 0} (f : A → B) (k : ℕ) (x : A) → map f (replicate k x) ≡ replicate k (f x)
-map-replicate f zero x = refl
-map-replicate {B = B} f (suc k) x = ap (λ (ys : List B). f x ∷ ys) (map-replicate f k x)
+use Rattle.theory.proofs.Blast.{truth-hom, fold-hom, bits-of, bb-value}
+use Rattle.theory.proofs.Slices.{to-number-append, to-number-take, to-number-drop, map-append, map-take, map-drop, map-replicate}
+use Rattle.theory.proofs.Basics.{T-true}
 
 -- ---- the gates
 module _ {A B : Type 0} {G : Gates A} {H : Gates B} {h : A → B} (M : Hom G H h) where
@@ -85,7 +82,7 @@ module _ {A B : Type 0} {G : Gates A} {H : Gates B} {h : A → B} (M : Hom G H h
 
 -- ---- lengths
 module _ {A : Type 0} (G : Gates A) where
-  length-shl-bits : (y : A) (ps qs : List A) → length ps ≤ length qs → length (shl-bits G y ps qs) ≡ length ps
+  pub length-shl-bits : (y : A) (ps qs : List A) → length ps ≤ length qs → length (shl-bits G y ps qs) ≡ length ps
   unfolding shl-bits
   length-shl-bits y [] qs e = refl
   length-shl-bits y (p ∷ ps) [] e = absurd (omega arith)
@@ -98,7 +95,7 @@ module _ {A : Type 0} (G : Gates A) where
       length-shl-stages (suc s) ys (shl-stage G s y ps)
       ∙ length-shl-bits y ps (replicate (2 ^ s) (G .false-gate) ++ ps) (simp length-append (omega arith))
 
-  length-shr-bits : (fill y : A) (ps qs : List A) → length (shr-bits G fill y ps qs) ≡ length ps
+  pub length-shr-bits : (fill y : A) (ps qs : List A) → length (shr-bits G fill y ps qs) ≡ length ps
   unfolding shr-bits
   length-shr-bits fill y [] qs = refl
   length-shr-bits fill y (p ∷ ps) [] = ap suc (length-shr-bits fill y ps [])

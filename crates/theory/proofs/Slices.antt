@@ -164,7 +164,7 @@ last-top [] = refl
 last-top (x ∷ []) = refl
 last-top (x ∷ x′ ∷ xs) = last-top (x′ ∷ xs)
 
-map-replicate : {A B : Type 0} (f : A → B) (k : ℕ) (x : A) → map f (replicate k x) ≡ replicate k (f x)
+pub map-replicate : {A B : Type 0} (f : A → B) (k : ℕ) (x : A) → map f (replicate k x) ≡ replicate k (f x)
 map-replicate f zero x = refl
 map-replicate {B = B} f (suc k) x = ap (λ (ys : List B). f x ∷ ys) (map-replicate f k x)
 

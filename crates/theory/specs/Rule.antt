@@ -113,15 +113,18 @@ abbrev pub of-bits : Term → Verdict → Verdict
 of-bits x v = cond (is-bv-sort (sort-of x)) v not-bit-vector
 
 -- ---- rule 23: (= (bvand a c) (concat ..)), slice by slice
--- a slice: (bvand ((_ extract i j) a) ((_ extract i j) c)), with i the next index from the top
-abbrev pub slice-verdict : ℕ → Term → Term → Term → (ℕ → Verdict) → Verdict
-slice-verdict done a c slice next =
-    binary (kind BvAnd) slice (λ p q.
+-- the two parts of a slice: ((_ extract i j) a) and ((_ extract i j) c), with i the next index from the top
+abbrev pub parts-verdict : ℕ → Term → Term → (ℕ → Verdict) → Term → Term → Verdict
+parts-verdict done a c next p q =
     unary extract-kind p (λ x.
     unary extract-kind q (λ y.
     cond (not (eqb (index-of 0 p) (index-of 0 q) && eqb (index-of 1 p) (index-of 1 q))) wrong-form
     (cond (not (eqb (suc (index-of 0 p)) done)) index-not-next
-    (cond (not (same-term a x && same-term c y)) terms-differ (next (index-of 1 p)))))))
+    (cond (not (same-term a x && same-term c y)) terms-differ (next (index-of 1 p))))))
+
+-- a slice: bvand of two such parts
+abbrev pub slice-verdict : ℕ → Term → Term → Term → (ℕ → Verdict) → Verdict
+slice-verdict done a c slice next = binary (kind BvAnd) slice (parts-verdict done a c next)
 
 -- `done` is the lowest index so far. Rust last asks that it is 0: both sides have one width, so it is
 unfoldable pub slices-verdict : Term → Term → ℕ → List Term → Verdict
