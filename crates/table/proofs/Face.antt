@@ -10,10 +10,8 @@ use Rattle.theory.specs.Limit.{first-terms}
 use Rattle.theory.specs.Record.{Bytes}
 use Rattle.terms.specs.Framing.{record-at}
 use Rattle.rows.specs.Layout.{depth-at, max-rows, missing, offset-at, width-at}
-use Rattle.rows.specs.Rows.{depths, kept, place-from, place-of, row-record, widths}
-use Rattle.table.specs.Slots.{Table}
+use Rattle.rows.specs.Rows.{depths, kept, place-from, place-of, widths}
 use Rattle.rows.proofs.RowLaws.{getD-column, getD-kept, same-refl, same-sound}
-use Rattle.table.proofs.SlotLaws.{place-only}
 use Rattle.theory.specs.Term.{same-numbers}
 
 -- ---- the entries of the lists
@@ -74,9 +72,3 @@ absent-from first x (y ∷ ys) few e k h q = go (same-numbers x y) refl (absent-
 pub place-absent : (x : Bytes) (rows : List Bytes) → length rows ≤ max-rows → place-of x rows ≡ missing
     → (k : ℕ) → k < length rows → getD rows k [] ≡ x → ⊥
 place-absent x rows few e k h q = absent-from first-terms x rows (omega arith) e k h q
-
--- each kept record has its own place
-pub place-row : (job work : Bytes) (n k : ℕ) → Table job work n → k < n → place-of (row-record job work k) (kept job work n) ≡ k + first-terms
-place-row job work n k table h =
-    place-only job work n (row-record job work k) k h refl
-    (λ j l e. let q : k ≡ j = table .distinct k j h (omega arith) e in omega arith)

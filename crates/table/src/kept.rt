@@ -4,7 +4,6 @@ ghost use Prim.Native.Nat.{_+_, _*_, _≤_, _<_};
 ghost use lib.ListN.{length, drop};
 ghost use Rattle.theory.specs.Limit.{term-bytes};
 ghost use Rattle.theory.specs.Record.{extent};
-ghost use Rattle.terms.specs.Framing.{record-at};
 ghost use Rattle.rows.specs.Layout.{number-end};
 ghost use Rattle.rows.specs.Rows.{kept, place-of};
 ghost use Rattle.table.specs.Slots.{Table, TableOf, added-row, dropped-row};
@@ -41,15 +40,6 @@ pub fn find_record(job: &[u8], work: &[u8], n: usize, wanted: &[u8]) -> u32
         Seek::Free(_) => MISSING,
         Seek::Full => MISSING,
     }
-}
-
-// The place of the record that stands at `at` in the job among n kept ones, or MISSING.
-pub fn find_at(job: &[u8], work: &[u8], n: usize, at: usize) -> u32
-    requires { ⌜ Table (now job) (now work) n × (at + extent (drop at (now job)) ≤ length (now job)) ⌝ }
-    ensures { λ r. ⌜ r ≡ place-of (record-at (now (job .entry)) at) (kept (now (job .entry)) (now (work .entry)) n) ⌝ }
-{
-    let end = at + number(job, at) + Term::NUMBER_BYTES;
-    find_record(job, work, n, &job[at..end])
 }
 
 // What adding a record answers: the place of the kept record that equals it, the place of the new row, or that there is no room for one.

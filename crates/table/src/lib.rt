@@ -11,7 +11,6 @@ mod slots;
 pub use kept::Added;
 pub use kept::add;
 pub use kept::drop_rows;
-pub use kept::find_at;
 pub use kept::find_record;
 pub use keys::find_constant;
 pub use keys::find_list;

@@ -41,12 +41,6 @@ module _ {A B : Type 0} {G : Gates A} {H : Gates B} {h : A → B} (M : Hom G H h
   adder-hom c (x ∷ xs) (y ∷ ys) =
       rw (← sum-hom x y c, ← carry-hom x y c) (ap (λ (zs : List B). h (sum-bit G x y c) ∷ zs) (adder-hom (next-carry G x y c) xs ys))
 
-  pub carry-out-hom : (c : A) (xs ys : List A) → h (carry-out G c xs ys) ≡ carry-out H (h c) (map h xs) (map h ys)
-  unfolding carry-out
-  carry-out-hom c [] ys = refl
-  carry-out-hom c (x ∷ xs) [] = refl
-  carry-out-hom c (x ∷ xs) (y ∷ ys) = rw (← carry-hom x y c) (carry-out-hom (next-carry G x y c) xs ys)
-
   pub last-carry-hom : (c : A) (xs ys : List A) → h (last-carry G c xs ys) ≡ last-carry H (h c) (map h xs) (map h ys)
   unfolding last-carry
   last-carry-hom c [] ys = refl
