@@ -15,7 +15,7 @@ use Rattle.theory.proofs.Bytes.{AllBytes}
 use Rattle.theory.proofs.Bounds.{run-fits}
 use Rattle.theory.proofs.Written.{answers-read, answers-kept}
 use Rattle.report.specs.Text.{head-space, line-space, report-text, too-long, written}
-use Rattle.console.specs.Shown.{text-space, shown}
+use Rattle.console.specs.Shown.{text-space, shown, Printed}
 
 -- the two cases of `bbcheck`
 module _ (input : Bytes) where
@@ -75,3 +75,10 @@ module _ (input old : Bytes) where
   job-shown work answers bytes w a h l e f =
       ap₂ (λ (r : Returned) (n : Bytes). report-text (r .stop) (r .terms) (r .answers) n (length old)) e f
       ∙ run-shown work answers bytes (sym w) (sym a) h l
+
+-- an input that was read, and its text in a memory that is long enough
+pub printed : (input : Bytes) (space : ℕ) {size : ℕ} → space ≡ text-space → length input ≤ memory + 1 → size ≡ length (shown input space) → Printed size
+unfolding shown
+printed input space h l e =
+    let whole : length (shown input space) ≡ length (bbcheck input) = rw (le-leb text-space space (omega arith)) refl in
+    record { input = input; short = l; size-is = e ∙ whole }

@@ -1,8 +1,10 @@
 -- What `bbcheck` writes into a memory.
+use mathlib.Core.Path.{_≡_}
 use mathlib.Core.Bool.{cond}
 use mathlib.Core.List.{[]}
-use Prim.Native.Nat.{ℕ, _+_, _*_, _/_}
+use Prim.Native.Nat.{ℕ, _+_, _*_, _/_, _≤_}
 use lib.Dec.{leb}
+use lib.ListN.{length}
 use Rattle.theory.specs.Limit.{answer-bytes}
 use Rattle.theory.specs.Record.{Bytes}
 use Rattle.theory.specs.Program.{memory, bbcheck}
@@ -15,3 +17,9 @@ text-space = head-space + memory / answer-bytes * line-space
 -- the text, where a memory of `space` bytes is long enough for any
 unfoldable pub shown : Bytes → ℕ → Bytes
 shown input space = cond (leb text-space space) (bbcheck input) []
+
+-- so many bytes are the text of some input, which is at most one byte longer than the longest job
+pub record Printed (size : ℕ) : Type 0 where
+  pub input : Bytes
+  pub short : length input ≤ memory + 1
+  pub size-is : size ≡ length (bbcheck input)

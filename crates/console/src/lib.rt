@@ -3,7 +3,7 @@ ghost use mathlib.Core.Path.{_≡_};
 ghost use Prim.Native.Nat.{_≤_};
 ghost use lib.ListN.{length};
 ghost use Rattle.report.specs.Text.{written};
-ghost use Rattle.console.specs.Shown.{shown, text-space};
+ghost use Rattle.console.specs.Shown.{shown, Printed};
 use bitblast::bb_job;
 use libc::STDIN_FILENO;
 use libc::STDOUT_FILENO;
@@ -39,7 +39,7 @@ pub fn bbcheck_text(input: &[u8], out: &mut [u8]) -> usize
 // Reads the input, of which one byte more than the longest job tells that it is too long, prints the text, and answers how many bytes
 // that is.
 pub fn check_input() -> usize
-    ensures { λ r. ⌜ r ≤ text-space ⌝ }
+    ensures { λ r. ⌜ Printed r ⌝ }
 {
     let mut input = [0u8; MEMORY + 1];
     let n = io::read_full(STDIN_FILENO, &mut input);
