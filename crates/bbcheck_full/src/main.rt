@@ -1,4 +1,4 @@
-// Reads a job from standard input, and prints what it came to.
+// `bbcheck`, on exactly 65,536 bytes.
 fn main() {
     console::check_input();
 }

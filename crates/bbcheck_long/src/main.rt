@@ -1,4 +1,4 @@
-// Reads a job from standard input, and prints what it came to.
+// `bbcheck`, on one byte more than it takes.
 fn main() {
     console::check_input();
 }

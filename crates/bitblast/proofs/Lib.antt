@@ -3,3 +3,4 @@ pub mod Walks
 pub mod Calls
 pub mod Fresh
 pub mod Enough
+pub mod Tallied

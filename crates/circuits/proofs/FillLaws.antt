@@ -1,13 +1,13 @@
 -- Loops that store one bit at a time into an array.
 use mathlib.Core.Path.{_≡_, refl, sym, ap, ap₂, _∙_}
 use mathlib.Core.List.{List, [], _∷_, _++_, map}
-use Prim.Native.Nat.{ℕ, zero, suc, _+_, _<_, _≤_}
+use Prim.Native.Nat.{ℕ, zero, suc, _+_, _-_, _<_, _≤_}
 use native.Mathlib.Nat.{le-antisymm, le-of-suc-le-suc, not-suc-le-zero}
 use native.Mathlib.Numerals.{add-one}
 use native.Mathlib.Omega.{arith}
 use lib.ListN.{length, take, getD, set, length-set, replicate}
 use lib.Seq.{take-suc-set, length-take-le, getD-take}
-use Rattle.theory.specs.Circuit.{zip-with}
+use Rattle.theory.specs.Circuit.{zip-with, last}
 use Rattle.theory.specs.Alethe.{bits, bit-of}
 use Rattle.theory.proofs.Indexed.{bits-by, list-bits, map-bits, zip-bits}
 
@@ -101,3 +101,14 @@ module _ (f : ℕ → ℕ → ℕ) (a : ℕ) where
 
   pub with-right : (xs : List ℕ) (n : ℕ) → n ≤ length xs → n ≤ 64 → zip-with f (take n xs) (take n (replicate 64 a)) ≡ map (λ x. f x a) (take n xs)
   with-right xs n h k = ap (λ (t : List ℕ). zip-with f (take n xs) t) (repeated a xs n 64 h k) ∙ zip-right (take n xs)
+
+-- the top bit
+pub top-bit : (xs : List ℕ) (n d : ℕ) → 1 ≤ n → n ≤ length xs → getD xs (n - 1) 0 ≡ last d (take n xs)
+unfolding last
+top-bit xs zero d h l = absurd (omega arith)
+top-bit [] (suc n) d h l = absurd (omega arith)
+top-bit (x ∷ xs) (suc zero) d h l = refl
+top-bit (x ∷ []) (suc (suc n)) d h l = absurd (omega arith)
+top-bit (x ∷ x′ ∷ xs) (suc (suc n)) d h l =
+    let z : suc (suc n) - 1 ≡ suc (suc n - 1) = omega arith in
+    rw z (top-bit (x′ ∷ xs) (suc n) d (omega arith) (omega arith))

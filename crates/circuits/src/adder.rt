@@ -1,7 +1,7 @@
 // Addition, and what is built of it.
-use crate::bits::FALSE;
-use crate::bits::TRUE;
 use crate::bits::nots;
+use store::gates::FALSE;
+use store::gates::TRUE;
 use store::gates::and2;
 use store::gates::or2;
 use store::gates::xor2;

@@ -16,11 +16,6 @@ ghost use Rattle.rows.specs.Rows.{kept};
 ghost use Rattle.table.specs.Slots.{Table};
 ghost use Rattle.store.specs.Numbers.{numbers, bit-number};
 
-// The numbers of the terms `true` and `false`.
-pub const TRUE: u32 = 0;
-
-pub const FALSE: u32 = 1;
-
 // get_term_bits: the bits 0 to w - 1 of term t, for a term that is no BvBbTerm.
 pub fn select_bits(job: &[u8], work: &[u8], n: usize, t: u32, w: usize) -> [u32; 64]
     requires { ⌜ Table (now job) (now work) n ⌝ }

@@ -1,8 +1,8 @@
 // Multiplication by rows: row j is x, j places up, where bit j of y is set.
 use crate::adder::carry_bit;
 use crate::adder::sum_bit;
-use crate::bits::FALSE;
 use crate::bits::ands;
+use store::gates::FALSE;
 use store::gates::and2;
 ghost use mathlib.Core.Path.{_≡_};
 ghost use mathlib.Core.List.{_++_};

@@ -18,7 +18,7 @@ text-space = head-space + memory / answer-bytes * line-space
 unfoldable pub shown : Bytes → ℕ → Bytes
 shown input space = cond (leb text-space space) (bbcheck input) []
 
--- so many bytes are the text of some input, which is at most one byte longer than the longest job
+-- so many bytes are the text of some input, which is at most one byte longer than the memory that is lent for a job
 pub record Printed (size : ℕ) : Type 0 where
   pub input : Bytes
   pub short : length input ≤ memory + 1

@@ -36,7 +36,7 @@ pub fn bbcheck_text(input: &[u8], out: &mut [u8]) -> usize
     report::report(o.stop, o.terms, o.answers, &answers, out)
 }
 
-// Reads the input, of which one byte more than the longest job tells that it is too long, prints the text, and answers how many bytes
+// Reads the input, of which one byte more than is lent for a job tells that it is too long, prints the text, and answers how many bytes
 // that is.
 pub fn check_input() -> usize
     ensures { λ r. ⌜ Printed r ⌝ }

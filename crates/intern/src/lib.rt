@@ -1,4 +1,4 @@
-// The store of terms: emptied at the start of a job, grown by a record's term, cut back to a count of terms.
+// Keeps and drops terms: the store is emptied at the start of a job, grown by a record's term, and cut back to a count of terms.
 mod arguments;
 mod guards;
 mod kinds;

@@ -11,7 +11,6 @@ ghost use Rattle.store.specs.Numbers.{numbers};
 ghost use Rattle.operand_rules.specs.Rules.{number-in, tree, verdict-of};
 ghost use Rattle.list_rules.specs.Lists.{Alike, Many, circuit, least, folded-bits, expected, arguments};
 use circuits::adder::ripple_carry_adder;
-use circuits::bits::FALSE;
 use circuits::bits::ands;
 use circuits::bits::ors;
 use circuits::bits::xors;
@@ -21,6 +20,7 @@ use operand_rules::bits::compare_bits;
 use operand_rules::bits::get_term_bits;
 use operand_rules::bits::width_at;
 use operand_rules::compare;
+use store::gates::FALSE;
 use terms::Args;
 use terms::Term;
 

@@ -23,7 +23,7 @@ use store::terms_at::term_at;
 use terms::Args;
 use terms::Term;
 
-// The width of a bit-vector.
+// The width of the bit-vector at a place.
 pub fn width_at(job: &[u8], work: &[u8], n: usize, place: u32) -> usize
     requires { ⌜ Operand (now job) (now work) n place (width-in (now job) (now work) n place) ⌝ }
     ensures value { λ r. ⌜ r ≡ width-in (now (job .entry)) (now (work .entry)) n place ⌝ }

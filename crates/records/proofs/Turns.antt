@@ -8,6 +8,7 @@ use native.Mathlib.Omega.{arith}
 use lib.ListN.{length, drop}
 use borrow.Author.Tests.{le-leb, lt-leb}
 use Rattle.theory.specs.Limit.{first-terms}
+use Rattle.theory.specs.Optional.{is-some}
 use Rattle.theory.specs.RuleTable.{Rule, rule-at}
 use Rattle.theory.specs.Record.{Bytes, whole, read}
 use Rattle.theory.specs.Record as R
@@ -83,7 +84,7 @@ module _ {job work : Bytes} {rows at : ℕ} {item : Item} (g : Reading job work 
   stopped (suc c) h e = unanswered e (g .store) refl refl
 
 -- ---- a term
--- what the store asks of a term that it is offered
+-- what `intern` asks of a term that it is offered
 pub offered : {job work : Bytes} {rows at : ℕ} {t : Term} → Reading job work rows at (I.Term t) → all-below (rows + first-terms) (arguments-of job t) ≡ true → Offered job work rows at t
 offered {job} {work} {rows} {at} {t} g e =
     let same : first-terms + rows ≡ rows + first-terms = omega arith in
@@ -105,7 +106,7 @@ module _ {job work : Bytes} {rows at : ℕ} {t : Term} (g : Reading job work row
   pub not-below : all-below (rows + first-terms) (arguments-of job t) ≡ false → Turned job work answers rows answered (record-at job at) work answers (turn 6 answered rows)
   not-below e = stopped g answers answered 6 (λ z. omega arith) (rw (first-test e))
 
-  -- the term is offered to the store, and the store's answer says the rest
+  -- the term is offered to `intern`, whose answer says the rest
   pub term-turned : {after : Bytes} {a : Interned} → all-below (rows + first-terms) (arguments-of job t) ≡ true → Taken job work after rows at t a
       → {u : Turn} → u ≡ turn (code-of a) answered (rows-after a rows) → Turned job work answers rows answered (record-at job at) after answers u
   term-turned {after} {a} e k d =
@@ -163,12 +164,16 @@ module _ {job work : Bytes} {rows at rule : ℕ} {literals : Args} (g : Reading 
   step-right z = step-passed (length work) (length answers) (listed job work rows) answered (record-at job at) rule (words-in job literals) (sym same-code ∙ z)
 
   -- so they may be answered
-  pub step-literals : c ≡ 0 → Literals job work rows literals
-  step-literals z = record {
-    store = g .store;
-    inside = g .placed;
-    below = ap (λ (n : ℕ). all-below n (words-in job literals)) (sym (g .store .count)) ∙ T-true _ (step-right z .below);
-  }
+  pub step-literals : c ≡ 0 → Literals job work rows literals × (is-some (rule-at rule) ≡ true)
+  step-literals z =
+      let p = step-right z in (
+        record {
+          store = g .store;
+          inside = g .placed;
+          below = ap (λ (n : ℕ). all-below n (words-in job literals)) (sym (g .store .count)) ∙ T-true _ (p .below);
+        },
+        ap is-some (p .rule-is),
+      )
 
   -- its answer is written
   pub step-turned : c ≡ 0 → {reply : Reply} {after : Bytes}

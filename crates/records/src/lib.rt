@@ -33,7 +33,7 @@ pub struct Turn {
     pub rows: usize,
 }
 
-// What became of a term that the store was offered: 7 where it has no sort, 8 where there is no room for it.
+// What became of a term that `intern` was offered: 7 where it has no sort, 8 where there is no room for it.
 fn kept_turn(kept: Interned, answered: usize, rows: usize) -> Turn
     ensures { λ r. ⌜ r ≡ turn (code-of kept) answered (rows-after kept rows) ⌝ }
 {
@@ -61,7 +61,7 @@ fn kept_turn(kept: Interned, answered: usize, rows: usize) -> Turn
     }
 }
 
-// A term: 6 where an argument is not kept; else the store is offered it.
+// A term: 6 where an argument is not kept; else `intern` is offered it.
 fn term_record(
     job: &[u8],
     work: &mut [u8],

@@ -7,6 +7,7 @@ ghost use mathlib.Core.Path.{_≡_};
 ghost use Prim.Native.Nat.{_≤_, _<_};
 ghost use lib.ListN.{length};
 use libc::STDOUT_FILENO;
+use terms::ANSWER_BYTES;
 
 // The digits of a number, and the space after them.
 const FIELD: usize = 9;
@@ -125,7 +126,7 @@ fn run(job: &[u8], work: &mut [u8], answers: &mut [u8]) {
     print_number(o.records);
     print_number(o.answers);
     print_number(o.terms);
-    print_bytes(answers, o.answers as usize * 10);
+    print_bytes(answers, o.answers as usize * ANSWER_BYTES);
 }
 
 // Reads the next line of the file and runs its job; answers whether there was one.

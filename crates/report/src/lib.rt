@@ -9,6 +9,9 @@ ghost use Rattle.theory.specs.Answer.{decode-answer, decode-answers};
 ghost use Rattle.theory.specs.Program.{decimal, answer-lines};
 ghost use Rattle.report.specs.Text.{Wrote, line-space, head-space, line, head, report-text, too-long, written};
 use terms::ANSWER_BYTES;
+use terms::CODE_AT;
+use terms::DEPTH_AT;
+use terms::RULE_AT;
 use terms::Term;
 
 // No first line is longer than this.
@@ -103,9 +106,9 @@ fn put_line(answers: &[u8], k: u32, out: &mut [u8], at: usize) -> usize
 {
     let i = k as usize * ANSWER_BYTES;
     let a = put_ended(k + 1, SPACE, out, at);
-    let b = put_field(answers, i + 4, SPACE, out, a);
-    let c = put_field(answers, i + 6, SPACE, out, b);
-    put_field(answers, i + 8, NEWLINE, out, c)
+    let b = put_field(answers, i + RULE_AT, SPACE, out, a);
+    let c = put_field(answers, i + CODE_AT, SPACE, out, b);
+    put_field(answers, i + DEPTH_AT, NEWLINE, out, c)
 }
 
 // Writes the lines of the first `count` answers.

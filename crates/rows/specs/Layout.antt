@@ -2,7 +2,7 @@
 use mathlib.Core.Path.{_≡_}
 use Prim.Native.Nat.{ℕ, _+_, _*_, _-_, _^_, _<_}
 use lib.ListN.{getD, take, drop}
-use Rattle.theory.specs.Limit.{number-bytes, term-bytes, max-terms, first-terms, max-arguments}
+use Rattle.theory.specs.Limit.{number-bytes, term-bytes, max-terms, first-terms}
 use Rattle.theory.specs.Record.{Bytes, little-endian, word}
 
 -- ---- sizes
@@ -13,10 +13,6 @@ number-end = 256 ^ number-bytes
 -- the greatest number of rows: `true` and `false` have none
 abbrev pub max-rows : ℕ
 max-rows = max-terms - first-terms
-
--- the most slots that the table has: twice the places that there are
-abbrev pub max-slots : ℕ
-max-slots = 131072
 
 -- what stands for no place
 abbrev pub missing : ℕ
@@ -41,10 +37,6 @@ width-bytes = 1
 -- .. and a slot of the table, a number, at this one
 abbrev pub slot-byte : ℕ
 slot-byte = 6
-
--- an array that is long enough for a record with arguments: its length, its kind, an index, the most arguments
-abbrev pub key-bytes : ℕ
-key-bytes = number-bytes * (3 + max-arguments)
 
 -- ---- reading
 -- the number at a place

@@ -10,12 +10,6 @@ pub const FIRST_PLACE: usize = 2;
 // The greatest number of rows.
 pub const MAX_ROWS: usize = Term::MAX_TERMS - FIRST_PLACE;
 
-// A record is its length, then its kind ..
-pub const KIND_AT: usize = Term::NUMBER_BYTES;
-
-// .. then its body.
-pub const BODY_AT: usize = KIND_AT + Term::NUMBER_BYTES;
-
 // The bytes of a row.
 pub const ROW_BYTES: usize = 8;
 
@@ -33,9 +27,3 @@ pub const WIDTH_BYTES: usize = 1;
 
 // .. and a slot of the table, a number, at this one.
 pub const SLOT_BYTE: usize = 6;
-
-// The most slots that a table has: twice the places that there are.
-pub const MAX_SLOTS: usize = 131072;
-
-// An array that is long enough for a record's length, its kind, an index and the most arguments.
-pub const KEY_BYTES: usize = Term::NUMBER_BYTES * (3 + Term::MAX_ARGUMENTS);

@@ -1,7 +1,7 @@
 -- The loops of the shifts: along a stage, and over the stages.
 use mathlib.Core.Path.{_≡_, refl, sym, ap, _∙_}
 use mathlib.Core.Bool.{Bool, true, false}
-use mathlib.Core.List.{List, [], _∷_, _++_, map}
+use mathlib.Core.List.{List, [], _++_, map}
 use Prim.Native.Nat.{ℕ, zero, suc, _+_, _-_, _*_, _^_, _%_, _<_, _≤_}
 use native.Mathlib.Nat.{le-antisymm}
 use native.Mathlib.Numerals.{add-one}
@@ -165,17 +165,6 @@ module _ {g : Gates ℕ} {fill : ℕ} {xs ys : List ℕ} {n stages : ℕ} where
 
   pub shr-stages-end : {res : List ℕ} {s : ℕ} → Shr-stages g fill xs ys n stages res s → stages ≤ s → take n res ≡ shr-stages g fill 0 (take (clog2 n) (take n ys)) (take n xs)
   shr-stages-end inv h = stages-end (inv .run) h
-
--- the top bit
-pub top-bit : (xs : List ℕ) (n d : ℕ) → 1 ≤ n → n ≤ length xs → getD xs (n - 1) 0 ≡ last d (take n xs)
-unfolding last
-top-bit xs zero d h l = absurd (omega arith)
-top-bit [] (suc n) d h l = absurd (omega arith)
-top-bit (x ∷ xs) (suc zero) d h l = refl
-top-bit (x ∷ []) (suc (suc n)) d h l = absurd (omega arith)
-top-bit (x ∷ x′ ∷ xs) (suc (suc n)) d h l =
-    let z : suc (suc n) - 1 ≡ suc (suc n - 1) = omega arith in
-    rw z (top-bit (x′ ∷ xs) (suc n) d (omega arith) (omega arith))
 
 -- ---- the whole shift: the stages, and then the bound
 module _ (g : Gates ℕ) (size ys : List ℕ) where

@@ -1,10 +1,10 @@
 // Division, bit by bit.
 use circuits::adder::ripple_carry_adder;
-use circuits::bits::FALSE;
-use circuits::bits::TRUE;
 use circuits::bits::eqs;
 use circuits::bits::ites;
 use circuits::bits::nots;
+use store::gates::FALSE;
+use store::gates::TRUE;
 use store::gates::all_of;
 use store::gates::eq2;
 use store::gates::ite3;

@@ -1,7 +1,7 @@
 // Shifts by a bit-vector: stage s shifts by 2^s places where bit s of y is set.
-use circuits::bits::FALSE;
 use circuits::bits::ites;
 use circuits::compare::bitblast_ult;
+use store::gates::FALSE;
 use store::gates::ite3;
 use store::gates::not1;
 use theory::stages::shift_stages;

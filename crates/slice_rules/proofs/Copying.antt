@@ -21,9 +21,9 @@ use Rattle.terms.specs.declared.Operands.the-variants.{List as Listed}
 use Rattle.terms.specs.Decoded.{words-in}
 use Rattle.terms.proofs.Parts.{drop-take}
 use Rattle.store.proofs.Arguments.{count-length, operand-below}
-use Rattle.shift_circuits.proofs.ShiftLaws.{top-bit}
 use Rattle.operand_rules.specs.Rules.{Operand, tree, number-in, width-in}
 use Rattle.slice_rules.specs.Given.{Concat, sorts-in}
+use Rattle.circuits.proofs.FillLaws.{top-bit}
 
 -- ---- the loop: i of the n bits of xs from `from` on stand in d from `start` on
 pub record Copying (d : List ℕ) (start : ℕ) (xs : List ℕ) (from n : ℕ) (out : List ℕ) (i : ℕ) : Type 0 where

@@ -8,6 +8,7 @@ ghost use mathlib.Core.Option.{some};
 ghost use Prim.Native.Nat.{_+_, _<_};
 ghost use Rattle.theory.specs.Limit.{first-terms};
 ghost use Rattle.theory.specs.Verdict.{code-of, accepted};
+ghost use Rattle.theory.specs.Optional.{is-some};
 ghost use Rattle.theory.specs.RuleTable.{Rule, rule-at};
 ghost use Rattle.theory.specs.Rule.{verdict as verdict·of};
 ghost use Rattle.theory.specs.Job.{right-depth, answer-to};
@@ -46,7 +47,7 @@ fn code(v: Verdict) -> u32
 }
 
 // The depth of the right side of a literal that a rule accepts, which is an equation.
-fn right_side(job: &[u8], work: &[u8], n: usize, literal: u32) -> usize
+fn right_depth(job: &[u8], work: &[u8], n: usize, literal: u32) -> usize
     requires { ⌜ Store (now job) (now work) n × (literal < first-terms + n) ⌝ }
     ensures { λ r. ⌜ ((rule : Rule) → accepted (verdict·of rule (tree (now (job .entry)) (now (work .entry)) n literal)) ≡ true → r ≡ right-depth (tree (now (job .entry)) (now (work .entry)) n literal)) ⌝ }
 {
@@ -70,13 +71,13 @@ fn judge(job: &[u8], work: &[u8], n: usize, literal: u32, v: Verdict) -> Reply
     }
     Reply {
         code: code,
-        depth: right_side(job, work, n, literal),
+        depth: right_depth(job, work, n, literal),
     }
 }
 
-// The answer of a rule to a clause.
+// The answer of a rule to a clause; there is such a rule.
 pub fn answer(job: &[u8], work: &[u8], n: usize, rule: u32, literals: Args) -> Reply
-    requires { ⌜ Literals (now job) (now work) n literals ⌝ }
+    requires { ⌜ Literals (now job) (now work) n literals × (is-some (rule-at rule) ≡ true) ⌝ }
     ensures { λ r. ⌜ ((by : Rule) → rule-at rule ≡ some by → given rule r ≡ answer-to rule by (map (tree-at (listed (now (job .entry)) (now (work .entry)) n)) (words-in (now (job .entry)) literals))) ⌝ }
 {
     let count = literals.count;

@@ -7,6 +7,11 @@ ghost use Rattle.rows.specs.Rows.{kept};
 ghost use Rattle.table.specs.Slots.{Table};
 ghost use Rattle.store.specs.Numbers.{numbers, bit-number, bb-number, constant-number};
 
+// The numbers of the terms `true` and `false`.
+pub const TRUE: u32 = 0;
+
+pub const FALSE: u32 = 1;
+
 // The numbers of the kinds that are looked up.
 const NOT: u32 = 20;
 

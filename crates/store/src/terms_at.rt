@@ -3,6 +3,8 @@ ghost use Prim.Native.Nat.{_+_, _<_};
 ghost use Rattle.theory.specs.Limit.{first-terms};
 ghost use Rattle.store.specs.Store.{Store};
 ghost use Rattle.store.specs.Terms.{TermAt};
+use super::gates::FALSE;
+use super::gates::TRUE;
 use terms::Item;
 use terms::Term;
 
@@ -11,14 +13,13 @@ pub fn term_at(job: &[u8], work: &[u8], n: usize, place: u32) -> Term
     requires { ⌜ Store (now job) (now work) n × (place < first-terms + n) ⌝ }
     ensures { λ r. ⌜ TermAt (now (job .entry)) (now (work .entry)) n place r ⌝ }
 {
-    let k = place as usize;
-    if k == 0 {
+    if place == TRUE {
         return Term::True;
     }
-    if k == 1 {
+    if place == FALSE {
         return Term::False;
     }
-    let at = rows::offset_at(work, k - rows::FIRST_PLACE);
+    let at = rows::offset_at(work, place as usize - rows::FIRST_PLACE);
     let item = Term::read(job, at);
     match item {
         Item::Term(t) => t,

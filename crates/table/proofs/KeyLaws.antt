@@ -11,9 +11,9 @@ use lib.ListN.{length-append, length-replicate, drop, getD, length, replicate, t
 use lib.Seq.{sets, sets-eq, length-sets, length-take-le, take-at, take-suc, take-all}
 use borrow.Author.Tests.{le-ltb, lt-ltb}
 use Rattle.theory.specs.Record.{Bytes, bytes-of}
-use Rattle.rows.specs.Layout.{missing, key-bytes}
+use Rattle.rows.specs.Layout.{missing}
 use Rattle.rows.specs.Rows.{place-of}
-use Rattle.table.specs.Keys.{all-places, words-bytes, place-constant, place-list, record-of}
+use Rattle.table.specs.Keys.{key-bytes, all-places, words-bytes, place-constant, place-list, record-of}
 use Rattle.rows.proofs.RowLaws.{and-first, and-second}
 use Rattle.theory.specs.Limit.{max-terms, number-bytes, value-bytes}
 

@@ -15,9 +15,9 @@ use borrow.Author.Tests.{eq-eqb, le-ltb, lt-ltb, ne-eqb}
 use Rattle.theory.specs.Limit.{max-job, term-bytes, number-bytes}
 use Rattle.theory.specs.Record.{Bytes, extent, bytes-of}
 use Rattle.terms.specs.Framing.{record-at}
-use Rattle.rows.specs.Layout.{depth-at, max-slots, number-at, offset-at, width-at, max-rows}
+use Rattle.rows.specs.Layout.{depth-at, number-at, offset-at, width-at, max-rows}
 use Rattle.rows.specs.Rows.{Rows, column, depths, kept, row-record, stored-row, widths}
-use Rattle.table.specs.Slots.{Reach, Table, TableOf, added-row, dropped-row, holder-from, seek-of, slot-at, slot-count, start-of, stored-slot, turn}
+use Rattle.table.specs.Slots.{max-slots, Reach, Table, TableOf, added-row, dropped-row, holder-from, seek-of, slot-at, slot-count, start-of, stored-slot, turn}
 use Rattle.table.specs.Promise.{Cut, Wiped}
 use Rattle.rows.proofs.RowLaws.{after-stored, before-stored, column-added, column-same, column-take, depth-before, depth-stored, length-stored, number-is, offset-before, offset-is, offset-stored, rows-stored, sets-after, sets-before, sets-in, width-before, width-stored}
 use Rattle.table.proofs.SlotLaws.{FreeAt, seek-is-free, start-below, turn-below}

@@ -59,7 +59,7 @@ module _ (job work : Bytes) (c s : ℕ) (x : Bytes) (d : ℕ) where
       seek-next e =
           rw (fuel, ne-eqb (slot-at work (turn c s d)) 0 full, same-differ x (row-record job work (slot-at work (turn c s d) - 1)) e, ← add-one d)
 
--- the same-numbers, of the numbers that the code reads in the turn: the d-th slot from s holds `held`, and the lookup goes on from there
+-- the same, of the numbers that the code reads in the turn: the d-th slot from s holds `held`, and the lookup goes on from there
 pub record AtSlot (job work x : Bytes) (n c s d slot held : ℕ) : Type 0 where
   pub slots : Slots job work n c
   pub near : d < c

@@ -1,13 +1,17 @@
 -- The place of a record that is given by its parts.
 use mathlib.Core.Bool.{Bool, cond}
 use mathlib.Core.List.{List, [], _∷_, _++_}
-use Prim.Native.Nat.{ℕ, _+_}
+use Prim.Native.Nat.{ℕ, _+_, _*_}
 use lib.ListN.{length}
-use Rattle.theory.specs.Limit.{number-bytes, value-bytes, max-terms}
+use Rattle.theory.specs.Limit.{number-bytes, value-bytes, max-terms, max-arguments}
 use Rattle.theory.specs.Record.{Bytes, bytes-of}
 use Rattle.theory.specs.Codes.{all-below}
 use Rattle.rows.specs.Layout.{missing}
 use Rattle.rows.specs.Rows.{place-of}
+
+-- an array that is long enough for a record with arguments: its length, its kind, an index, the most arguments
+abbrev pub key-bytes : ℕ
+key-bytes = number-bytes * (3 + max-arguments)
 
 -- a record: its length, which counts the bytes after it, its kind, its body
 unfoldable pub record-of : ℕ → Bytes → Bytes

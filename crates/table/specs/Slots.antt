@@ -10,11 +10,15 @@ use lib.Seq.{sets}
 use lib.Dec.{eqb, ltb}
 use Rattle.theory.specs.Limit.{number-bytes, term-bytes}
 use Rattle.theory.specs.Record.{Bytes, bytes-of}
-use Rattle.rows.specs.Layout.{max-slots, slot-byte, number-at}
+use Rattle.rows.specs.Layout.{number-end, slot-byte, number-at}
 use Rattle.rows.specs.Rows.{row-record, Rows, stored-row}
 use Rattle.theory.specs.Term.{same-numbers}
 use Rattle.table.specs.declared.slots.Seek.{Seek}
 use Rattle.table.specs.declared.slots.Seek.the-variants.{At, Free, Full}
+
+-- the most slots that the table has: twice the numbers that two bytes hold
+abbrev pub max-slots : ℕ
+max-slots = 2 * number-end
 
 -- ---- the slots
 -- the slots of a work memory of so many bytes

@@ -4,17 +4,22 @@ ghost use mathlib.Core.List.{[], _∷_};
 ghost use Prim.Native.Nat.{_≤_};
 ghost use lib.ListN.{length, take};
 ghost use Rattle.theory.specs.Limit.{max-arguments};
-ghost use Rattle.rows.specs.Layout.{key-bytes};
 ghost use Rattle.rows.specs.Rows.{kept, place-of};
 ghost use Rattle.table.specs.Slots.{Table};
-ghost use Rattle.table.specs.Keys.{place-list, place-constant};
+ghost use Rattle.table.specs.Keys.{key-bytes, place-list, place-constant};
 use super::kept::find_record;
 use rows::bytes::put_number;
-use rows::layout::BODY_AT;
-use rows::layout::KEY_BYTES;
-use rows::layout::KIND_AT;
 use rows::layout::MISSING;
 use terms::Term;
+
+// A record is its length, then its kind ..
+const KIND_AT: usize = Term::NUMBER_BYTES;
+
+// .. then its body.
+const BODY_AT: usize = KIND_AT + Term::NUMBER_BYTES;
+
+// An array that is long enough for a record's length, its kind, an index and the most arguments.
+const KEY_BYTES: usize = Term::NUMBER_BYTES * (3 + Term::MAX_ARGUMENTS);
 
 // The place of the record that is the first `len` bytes of the array, among n kept ones, or MISSING.
 fn find_key(job: &[u8], work: &[u8], n: usize, key: [u8; KEY_BYTES], len: usize) -> u32
@@ -24,7 +29,7 @@ fn find_key(job: &[u8], work: &[u8], n: usize, key: [u8; KEY_BYTES], len: usize)
     find_record(job, work, n, &key[..len])
 }
 
-// The place of the record of a kind with 0 to 64 numbers, or MISSING; so where one of them is MISSING.
+// The place of the record of a kind with 0 to 64 numbers, or MISSING; MISSING too where a number is 65,535 or more, which is no place.
 pub fn find_list(job: &[u8], work: &[u8], n: usize, kind: u32, args: &[u32]) -> u32
     requires { ⌜ Table (now job) (now work) n × (length (now args) ≤ max-arguments) ⌝ }
     ensures { λ r. ⌜ r ≡ place-list kind (now (args .entry)) (kept (now (job .entry)) (now (work .entry)) n) ⌝ }

@@ -4,17 +4,19 @@ ghost use mathlib.Core.Path.{_≡_};
 ghost use Prim.Native.Nat.{_+_, _*_, _≤_, _<_};
 ghost use lib.ListN.{length};
 ghost use Rattle.theory.specs.Limit.{term-bytes};
-ghost use Rattle.rows.specs.Layout.{Bounded, max-slots};
-ghost use Rattle.table.specs.Slots.{slot-count, slot-at, hash-from, start-of, turn, seek-of, Slots, stored-slot, holder-from};
+ghost use Rattle.rows.specs.Layout.{Bounded};
+ghost use Rattle.table.specs.Slots.{max-slots, slot-count, slot-at, hash-from, start-of, turn, seek-of, Slots, stored-slot, holder-from};
 use rows::bytes::number;
 use rows::bytes::put_number;
 use rows::bytes::wide;
 use rows::layout::FIRST_PLACE;
-use rows::layout::MAX_SLOTS;
 use rows::layout::ROW_BYTES;
 use rows::layout::SLOT_BYTE;
 use rows::offset_at;
 use terms::Term;
+
+// The most slots that a table has: twice the numbers that two bytes hold.
+const MAX_SLOTS: usize = 131072;
 
 // What the table has for a record: its place, or the slot that its row is to take, or no slot.
 pub enum Seek {

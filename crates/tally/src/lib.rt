@@ -8,6 +8,7 @@ ghost use Rattle.theory.specs.Limit.{answer-bytes};
 ghost use Rattle.theory.specs.Tally.{up as held-up, how-many};
 ghost use Rattle.tally.specs.Counted.{in-class, whole-answers, answers-in};
 use terms::ANSWER_BYTES;
+use terms::CODE_AT;
 use terms::Term;
 
 // Jobs, and their answers by class of code. Each field holds at its largest number.
@@ -18,9 +19,6 @@ pub struct Tally {
     pub form_only: u64,
     pub refused: u64,
 }
-
-// The place of the code in an answer: after its length, its kind and its rule.
-const CODE_AT: usize = 3 * Term::NUMBER_BYTES;
 
 // The largest number of a field.
 const LARGEST: u64 = 18446744073709551615;
@@ -89,7 +87,8 @@ fn whole_count(size: usize, count: u32) -> usize
     }
 }
 
-// A field counted up by the answers of one class.
+// c, and one more for each answer of the class among the first `count`, or among the whole ones where the memory is shorter; it holds at the
+// largest number.
 pub fn count_up(c: u64, answers: &[u8], count: u32, class: u32) -> u64
     ensures { λ r. ⌜ r ≡ held-up c (how-many (in-class class) (answers-in count (now (answers .entry)))) ⌝ }
 {

@@ -13,6 +13,15 @@ ghost use Rattle.terms.specs.Bodies.{Body, form-of, sized, made};
 // The bytes of an answer: its length, its kind, a rule, a code and a depth.
 pub const ANSWER_BYTES: usize = 5 * Term::NUMBER_BYTES;
 
+// Where an answer's kind stands in it, its rule, its code and its depth; the length stands first.
+pub const ANSWER_KIND_AT: usize = Term::NUMBER_BYTES;
+
+pub const RULE_AT: usize = 2 * Term::NUMBER_BYTES;
+
+pub const CODE_AT: usize = 3 * Term::NUMBER_BYTES;
+
+pub const DEPTH_AT: usize = 4 * Term::NUMBER_BYTES;
+
 // An argument list: its place in the job's bytes, and how many numbers stand there.
 pub struct Args {
     pub at: usize,

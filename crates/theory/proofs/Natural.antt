@@ -15,12 +15,6 @@ pub record Hom {A B : Type 0} (G : Gates A) (H : Gates B) (h : A → B) : Type 0
   pub ite-hom : (c x y : A) → h (G .ite-gate c x y) ≡ H .ite-gate (h c) (h x) (h y)
   pub all-hom : (xs : List A) → h (G .all-gate xs) ≡ H .all-gate (map h xs)
 
--- the carry out of the top bit
-unfoldable pub carry-out : {A : Type 0} → Gates A → A → List A → List A → A
-carry-out G c [] ys = c
-carry-out G c (x ∷ xs) [] = c
-carry-out G c (x ∷ xs) (y ∷ ys) = carry-out G (next-carry G x y c) xs ys
-
 module _ {A B : Type 0} {G : Gates A} {H : Gates B} {h : A → B} (M : Hom G H h) where
   sum-hom : (x y c : A) → h (sum-bit G x y c) ≡ sum-bit H (h x) (h y) (h c)
   sum-hom x y c = simp (M .xor-hom)

@@ -16,7 +16,6 @@ use Rattle.theory.specs.Value.{bit, to-number, bit-at, xor, all-true, si
 use Rattle.theory.specs.Gates.{Gates, bool-gates}
 use Rattle.theory.specs.Circuit.{ripple-carry-adder, negate, ult-from, bitblast-ult, slt-from, slt, zip-with, gather, equality, sum-bit, next-carry, less-step, sign-step}
 use Rattle.theory.proofs.Sound.{to-number-lt}
-use Rattle.theory.proofs.Natural.{carry-out}
 use Rattle.theory.proofs.Basics.{T-same}
 
 -- two lists of one length
@@ -36,6 +35,12 @@ ltb-same a b c d f g =
     T-same (ltb a b) (ltb c d) (λ t. lt→ltb c d (f (ltb→lt a b t))) (λ t. lt→ltb a b (g (ltb→lt c d t)))
 
 -- ---- the adder
+-- the carry out of the top bit
+unfoldable pub carry-out : {A : Type 0} → Gates A → A → List A → List A → A
+carry-out G c [] ys = c
+carry-out G c (x ∷ xs) [] = c
+carry-out G c (x ∷ xs) (y ∷ ys) = carry-out G (next-carry G x y c) xs ys
+
 full : (x y c : Bool) → bit (sum-bit bool-gates x y c) + 2 * bit (next-carry bool-gates x y c) ≡ bit x + bit y + bit c
 full true true true = refl
 full true true false = refl

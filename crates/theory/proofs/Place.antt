@@ -1,32 +1,25 @@
--- Term numbers: looking a term up on the plain list is a fold, so a circuit of looked-up numbers is the number of the circuit's term,
--- and a looked-up number is the claimed one exactly where the claimed term is the expected one.
+-- Term numbers: looking a term up on the plain list is a fold, and a term that stands on the list has its place as number.
 use mathlib.Core.Path.{_≡_, refl, sym, ap, ap₂, subst, _∙_}
-use mathlib.Core.Logic.{_↔_}
 use mathlib.Core.Bool.{Bool, true, false, _&&_, cond}
 use mathlib.Core.List.{List, [], _∷_, map}
 use mathlib.Core.Option.{Option, none, some}
 use Prim.Native.Nat.{ℕ, zero, suc, _+_, _<_, _≤_}
 use native.Mathlib.Omega.{arith}
-use lib.Dec.{T, ltb, ltb→lt, eqb, eqb→eq}
+use lib.Dec.{T, ltb, ltb→lt}
 use lib.Ieee.Fits.{and-l, and-r, and-i}
 use lib.ListN.{length, getElem?}
 use Rattle.theory.specs.Limit.{first-terms}
 use Rattle.theory.specs.Kind.{Op, True, False, kind}
 use Rattle.theory.specs.Term.{Term, Terms, node, nil, cons, fold, folds, from-list, same-numbers, same-op}
 use Rattle.theory.specs.Optional.{either, cons-some, collect}
-use Rattle.theory.specs.Gates.{gates-of, term-gates}
-use Rattle.theory.specs.Bits.{literally-false}
-use Rattle.theory.specs.Record.{Bytes, Item, term, step, back, unknown, misfit, read, shape-of}
-use Rattle.theory.specs.Plain.{Entry, entry, Plain, plain-after}
+use Rattle.theory.specs.Record.{Item, term, step, back, unknown, misfit, read, shape-of}
+use Rattle.theory.specs.Plain.{Entry, entry, Plain}
 use Rattle.theory.specs.Codes.{all-below}
-use Rattle.theory.specs.Job.{run}
-use Rattle.theory.proofs.Basics.{none-some, some-inj, cons-some-is, getElem-of, getElem-lt, T-same}
-use Rattle.theory.proofs.Natural.{Hom}
-use Rattle.theory.proofs.Blast.{fold-hom}
-use Rattle.theory.proofs.Same.{same-numbers-eq, same-numbers-refl, same-op-eq, same-op-refl, same-eq, eq-same}
-use Rattle.theory.proofs.Bytes.{AllBytes, same-record, not-constant}
+use Rattle.theory.proofs.Basics.{none-some, some-inj, cons-some-is, getElem-of, getElem-lt}
+use Rattle.theory.proofs.Same.{same-numbers-eq, same-numbers-refl, same-op-eq, same-op-refl}
+use Rattle.theory.proofs.Bytes.{same-record, not-constant}
 use Rattle.theory.proofs.Places.{entry-at, tree-at, tree-of}
-use Rattle.theory.proofs.Distinct.{Kept, WellKept, plain-well, tree-0, tree-1, kept-at}
+use Rattle.theory.proofs.Distinct.{Kept, WellKept, tree-0, tree-1, kept-at}
 
 -- ---- looking up: the number of the term of kind o whose arguments have the numbers ks
 abbrev pub item-is : Item → Op → List ℕ → Bool
@@ -54,10 +47,6 @@ lookup list o ps = either none (find list o) (collect ps)
 -- the number of a term
 abbrev pub place : Plain → Term → Option ℕ
 place list = fold (lookup list)
-
--- a circuit of looked-up numbers, by `ult-hom`, `adder-hom` .. of this
-pub place-hom : (list : Plain) → Hom term-gates (gates-of (lookup list)) (place list)
-place-hom list = fold-hom (lookup list)
 
 -- ---- what is found
 pub item-says : (i : Item) (o : Op) (ks : List ℕ) → T (item-is i o ks) → i ≡ term o ks
@@ -210,26 +199,3 @@ module _ (list : Plain) (w : WellKept list) where
 
   pub tree-place : (i : ℕ) → i < length list → place list (tree-at list i) ≡ some i
   tree-place i h = placed (suc i) i (omega arith) h
-
--- in a job of bytes, after m records done: a term's looked-up number is k exactly where the term at place k is that term
-pub place-exact : (job : Bytes) → AllBytes job → (work space m : ℕ) → m ≤ run job work space .records → let list = plain-after m job in
-    (k : ℕ) → k < length list → (t : Term) → (place list t ≡ some k) ↔ (tree-at list k ≡ t)
-place-exact job b work space m l k h t =
-    let list = plain-after m job in
-    let w = plain-well job b work space m l in
-    (place-tree list w t k, λ e. ap (place list) (sym e) ∙ tree-place list w k h)
-
--- ---- the divider's test, on looked-up numbers: the number is 1
-abbrev pub is-one : Option ℕ → Bool
-is-one none = false
-is-one (some k) = eqb k 1
-
-one-is : (p : Option ℕ) → T (is-one p) → p ≡ some 1
-one-is none h = absurd h
-one-is (some k) h = ap some (eqb→eq k 1 h)
-
-pub false-place : (list : Plain) → WellKept list → (t : Term) → literally-false t ≡ is-one (place list t)
-false-place list w t =
-    T-same (literally-false t) (is-one (place list t))
-    (λ h. subst (λ (p : Option ℕ). T (is-one p)) (sym (ap (place list) (same-eq t (node False nil) h) ∙ constants-placed list .1)) tt)
-    (λ h. eq-same t (node False nil) (sym (place-tree list w t 1 (one-is (place list t) h)) ∙ tree-1 list w))

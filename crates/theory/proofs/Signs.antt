@@ -1,16 +1,19 @@
 -- The signed value of n bits, by its top bit: what the weight of that bit, −1 shifted up, and the lower bits add up to. Assumes nothing.
-use mathlib.Core.Path.{_≡_, sym, ap, ap₂, subst, _∙_}
-use mathlib.Core.Bool.{Bool, true, false, cond}
+use mathlib.Core.Path.{_≡_, refl, sym, ap, ap₂, subst, _∙_}
+use mathlib.Core.Bool.{Bool, true, false, and-false, cond}
 use Prim.Native.Nat.{ℕ, suc, _+_, _-_, _*_, _/_, _%_, _^_, _≤_, _<_}
 use native.Mathlib.Omega.{arith}
 use native.Mathlib.Nat.{mod-lt, one-mul}
-use lib.Dec.{lit<}
+use lib.Dec.{lit<, leb}
 use lib.IntN.{ℤ, pos, negsuc, subℕ, _+ℤ_}
+use lib.Signed.{ltZ}
 use lib.Pow.{pow-pos, pow-mono, shl-exact, suc-ones, low}
 use mir.Syntax.{w64}
 use mir.Val.{SFits, toZ}
 use mir.Facts.{toZ-pos, toZ-neg}
-use borrow.Author.Tests.{eq-eqb, ne-eqb, lt-ltb, le-ltb}
+use borrow.Author.Tests.{eq-eqb, ne-eqb, lt-ltb, le-ltb, le-leb, lt-leb}
+use Rattle.theory.specs.Limit.{max-width}
+use Rattle.theory.specs.Sort.{width}
 use Rattle.theory.specs.Value.{bit, bit-at, signed}
 
 -- a − b, where it is −(k + 1), and where it is k
@@ -86,3 +89,27 @@ module _ (n x : ℕ) (some : n ≡ 0 → ⊥) (most : n ≤ 64) where
   -- it is not
   pub clear : (x / 2 ^ (n - 1) % 2 ≡ 1 → ⊥) → toZ w64 (x % up) ≡ signed n x
   clear ne = low-is ∙ sym (by-bit n x false (ne-eqb _ 1 ne) ∙ more (x % 2 ^ (n - 1)) (0 * 2 ^ (n - 1)) (omega arith))
+
+-- ---- a width, and none
+module _ {A : Type 0} (n : ℕ) (a b : A) where
+  -- by the test of it
+  by-width : {t : Bool} → width n ≡ t → cond t a b ≡ cond (width n) a b
+  by-width e = sym (ap (λ (t : Bool). cond t a b) e)
+
+  pub is-width : 1 ≤ n → n ≤ max-width → {r : A} → r ≡ a → r ≡ cond (width n) a b
+  is-width h l e = let w : width n ≡ true = rw (le-leb 1 n h, le-leb n max-width l) in e ∙ by-width w
+
+  pub too-narrow : n ≡ 0 → b ≡ cond (width n) a b
+  too-narrow e = let w : width n ≡ false = ap width e in by-width w
+
+  pub too-wide : max-width < n → b ≡ cond (width n) a b
+  too-wide h = let w : width n ≡ false = rw (lt-leb n max-width h) (and-false (leb 1 n)) in by-width w
+
+-- two signed values compared
+pub by-both : (n x y : ℕ) {a b : ℤ} → a ≡ cond (width n) (signed n x) (pos 0) → b ≡ cond (width n) (signed n y) (pos 0)
+    → ltZ a b ≡ cond (width n) (ltZ (signed n x) (signed n y)) false
+by-both n x y e f = ap₂ ltZ e f ∙ go (width n)
+  where
+    go : (t : Bool) → ltZ (cond t (signed n x) (pos 0)) (cond t (signed n y) (pos 0)) ≡ cond t (ltZ (signed n x) (signed n y)) false
+    go true = refl
+    go false = refl

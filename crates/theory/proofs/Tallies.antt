@@ -1,14 +1,17 @@
 -- The tally: until a count holds, the last three sum to all answers written.
-use mathlib.Core.Path.{_≡_, refl, ap, _∙_}
+use mathlib.Core.Path.{_≡_, refl, ap, ap₂, _∙_}
 use mathlib.Core.Bool.{Bool, true, false, cond}
-use mathlib.Core.List.{List, [], _∷_, foldl}
+use mathlib.Core.List.{List, [], _∷_, map, foldl}
 use Prim.Native.Nat.{ℕ, zero, suc, _+_, _<_}
 use native.Mathlib.Omega.{arith}
 use lib.Dec.{T, eqb, leb, eqb→eq, le→leb}
-use lib.ListN.{length}
-use Rattle.theory.specs.Answer.{Answer}
+use lib.ListN.{length, drop}
+use Rattle.theory.specs.Limit.{answer-bytes}
+use Rattle.theory.specs.Record.{Bytes}
+use Rattle.theory.specs.Answer.{Answer, decode-answers}
+use Rattle.theory.specs.Job.{call}
 use Rattle.theory.specs.Tally.{Tally, max-tally, up, how-many, tally-after, zero-tally}
-use Rattle.theory.specs.Claim.{Free, sum, written, TallySum}
+use Rattle.theory.specs.Claim.{Free, sum, Lent, left-by, written, TallySum}
 
 one-of-three : (c : ℕ) (x y z : ℕ) → cond (eqb c 0) (suc x) x + cond (eqb c 1) (suc y) y + cond (leb 2 c) (suc z) z ≡ suc (x + y + z)
 one-of-three zero x y z = omega arith
@@ -42,12 +45,28 @@ step t o f =
     added : (h f r p q s h′ f′ r′ n : ℕ) → h′ ≡ h + p → f′ ≡ f + q → r′ ≡ r + s → p + q + s ≡ n → h′ + f′ + r′ ≡ h + f + r + n
     added h f r p q s h′ f′ r′ n a b c d = omega arith
 
-pub sum-from : (os : List (List Answer)) (t : Tally) → Free (foldl tally-after t os) → Free t × (sum (foldl tally-after t os) ≡ sum t + written os)
+-- all answers of some lists
+abbrev total : List (List Answer) → ℕ
+total [] = 0
+total (o ∷ os) = length o + total os
+
+sum-from : (os : List (List Answer)) (t : Tally) → Free (foldl tally-after t os) → Free t × (sum (foldl tally-after t os) ≡ sum t + total os)
 sum-from [] t f = (f, omega arith)
 sum-from (o ∷ os) t f =
     let r = sum-from os (tally-after t o) f in
     let s = step t o (r .0) in
-    (s .0, r .1 ∙ ap (λ (n : ℕ). n + written os) (s .1) ∙ let x = sum t in let y = length o in omega arith)
+    (s .0, r .1 ∙ ap (λ (n : ℕ). n + total os) (s .1) ∙ let x = sum t in let y = length o in omega arith)
+
+-- as many answers are read as are asked for
+pub decoded-length : (k : ℕ) (bs : Bytes) → length (decode-answers k bs) ≡ k
+decoded-length zero bs = refl
+decoded-length (suc k) bs = ap suc (decoded-length k (drop answer-bytes bs))
+
+total-written : (jobs : List Lent) → total (map left-by jobs) ≡ written jobs
+total-written [] = refl
+total-written (l ∷ rest) =
+    let c = call (l .job) (l .work) (l .answers) in
+    ap₂ (λ (m n : ℕ). m + n) (decoded-length (c .result .answers) (c .answer-memory)) (total-written rest)
 
 pub tally-sum : TallySum
-tally-sum os f = sum-from os zero-tally f .1 ∙ omega arith
+tally-sum jobs f = let t = total-written jobs in let s = sum-from (map left-by jobs) zero-tally f .1 in omega arith

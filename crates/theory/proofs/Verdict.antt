@@ -35,7 +35,7 @@ unfolding guard
 guard-good true s h = (tt, refl)
 guard-good false s h = absurd h
 
--- an operation on one, two, takes many (length bit-vectors) of one width
+-- an operation on one, two, or 1 to 64 bit-vectors of one width
 one-wide : (x : Term) (r : Sort) → T (good (guard (takes (exactly 1) (length (sorts-of (cons x nil))) && alike (sorts-of (cons x nil))) r)) → sort-of x ≡ bv (sort-width (sort-of x))
 unfolding fold
 one-wide x r h =

@@ -1,4 +1,5 @@
--- The circuits bit by bit, as the rules of Alethe state them, over any gates. Bit i of x is `x i`, bit 0 is the lowest, and n is the width.
+-- The circuits bit by bit, as recurrences over the index, which is how the rules of Alethe are stated; over any gates. docs/DIFFERENCES.md says
+-- what they were written from. Bit i of x is `x i`, bit 0 is the lowest, and n is the width.
 -- No bit-vector has width 0: what stands there is only what Circuit.antt gives for empty lists.
 use mathlib.Core.Bool.{cond}
 use mathlib.Core.List.{List, [], _∷_}
@@ -78,7 +79,7 @@ module _ {A : Type 0} (G : Gates A) where
   res x y zero i = sh x y 0 i
   res x y (suc j) i = cond (leb i j) (res x y j i) (xor-gate (xor-gate (res x y j i) (sh x y (suc j) i)) (ripple (res x y j) (sh x y (suc j)) (suc j) i))
 
-  -- carry^{j+1}_{i+1} = (res^j_i and sh^{j+1}_i) or ((res^j_i xor sh^{j+1}_i) and carry^{j+1}_i)
+  -- carry^{j+1}_{i+1} = (res^j_i and sh^{j+1}_i) or ((res^j_i xor sh^{j+1}_i) and carry^{j+1}_i), and false up to place j + 1
   abbrev pub carry : (ℕ → A) → (ℕ → A) → ℕ → ℕ → A
   carry x y zero i = false-gate
   carry x y (suc j) i = ripple (res x y j) (sh x y (suc j)) (suc j) i

@@ -62,7 +62,7 @@ size-bits x = let n = sort-width (sort-of x) in get-term-bits (node (Const n n) 
 abbrev pub shifted : (List Term → List Term → List Term → List Term) → Term → Term → Term
 shifted circuit x y = bb (circuit (size-bits x) (get-term-bits x) (get-term-bits y))
 
--- udiv, urem
+-- the divider's test: the bit is the term `false` itself
 abbrev pub literally-false : Term → Bool
 literally-false t = same-term t (node False nil)
 

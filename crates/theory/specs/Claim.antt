@@ -1,18 +1,18 @@
--- Statements of document 01 that hold of every job beside the three demands; each is proved in proofs/.
+-- Statements of document 01 beside the three demands: on codes, on depths, on the tally. Each is proved in proofs/.
 use mathlib.Core.Path.{_≡_}
 use mathlib.Core.Bool.{Bool, false, _||_}
-use mathlib.Core.List.{List, [], _∷_}
+use mathlib.Core.List.{List, [], _∷_, map}
 use mathlib.Core.Option.{some}
 use Prim.Native.Nat.{ℕ, _+_, _*_, _<_, _≤_}
 use lib.Dec.{T, eqb}
-use lib.ListN.{length, getElem?}
+use lib.ListN.{getElem?}
 use Rattle.theory.specs.Kind.{Equals, BvBbTerm, BvNeg, BvAdd, BvULt, BvSLt}
 use Rattle.theory.specs.Term.{Term, Terms, node, nil, cons, two}
 use Rattle.theory.specs.Sort.{bv, sort-of}
 use Rattle.theory.specs.RuleTable.{Rule, by-ult, by-slt, by-add, by-neg}
 use Rattle.theory.specs.Record.{Bytes}
-use Rattle.theory.specs.Answer.{Answer}
-use Rattle.theory.specs.Job.{answer-to, run}
+use Rattle.theory.specs.Answer.{Answer, decode-answers}
+use Rattle.theory.specs.Job.{answer-to, run, call}
 use Rattle.theory.specs.Tally.{Tally, max-tally, tally-of}
 
 -- ---- "Codes 2 to 9, 18 and 19 stop the job; 10 to 17 are answers", beside 0 and 1
@@ -67,11 +67,21 @@ pub record Free (t : Tally) : Type 0 where
 abbrev pub sum : Tally → ℕ
 sum t = t .held + t .form-only + t .refused
 
--- all answers that the jobs wrote
-abbrev pub written : List (List Answer) → ℕ
+-- a job, and the two memories lent for it
+pub record Lent : Type 0 where
+  pub job : Bytes
+  pub work : Bytes
+  pub answers : Bytes
+
+-- the answers that it wrote: as many as it returns, read from their memory when it has ended
+abbrev pub left-by : Lent → List Answer
+left-by l = let c = call (l .job) (l .work) (l .answers) in decode-answers (c .result .answers) (c .answer-memory)
+
+-- how many the jobs wrote in all, by what they return
+abbrev pub written : List Lent → ℕ
 written [] = 0
-written (answers ∷ rest) = length answers + written rest
+written (l ∷ rest) = call (l .job) (l .work) (l .answers) .result .answers + written rest
 
 -- since the tally was zero
 abbrev pub TallySum : Type 0
-TallySum = (jobs : List (List Answer)) → Free (tally-of jobs) → sum (tally-of jobs) ≡ written jobs
+TallySum = (jobs : List Lent) → let t = tally-of (map left-by jobs) in Free t → sum t ≡ written jobs

@@ -1,4 +1,4 @@
--- Document 01, "Codes": what stops the job. Codes 3 to 9, 18 and 19, in their order; code 2 and the ending's 3 are in Job.
+-- Document 01, "Codes": what stops the job at a whole record. Codes 4 to 9, 18 and 19, in their order; code 3 is in Record (`ending`), code 2 in Job.
 use mathlib.Core.Bool.{Bool, true, false, _&&_, _||_, cond}
 use mathlib.Core.List.{List, [], _∷_}
 use mathlib.Core.Option.{Option}

@@ -1,5 +1,5 @@
 -- Document 01, "Demand 3 over a whole job": what a "held" answer says. It names the job's records, the plain list, the tests of
--- Codes that let a record pass, and the values; no verdict, no circuit, and nothing that a program recorded.
+-- Codes that let a record pass, and the values; no verdict, no circuit, and of what a program did only how many records it took and the answers.
 use mathlib.Core.Path.{_≡_}
 use mathlib.Core.List.{List, [], _∷_}
 use mathlib.Core.Option.{some}

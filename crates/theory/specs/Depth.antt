@@ -15,9 +15,11 @@ abbrev pub depth-op : Op → Sort → ℕ → ℕ
 depth-op o s deepest = cond (gate-kind (kind o) s) (suc deepest) (cond (eqb (kind o) (kind BvBbTerm)) deepest 0)
 
 unfoldable mutual
+  -- of a term
   pub depth : Term → ℕ
   depth (node o ts) = depth-op o (first (sorts-of ts)) (deepest ts)
 
+  -- of the deepest of some terms
   pub deepest : Terms → ℕ
   deepest nil = 0
   deepest (cons t ts) = max (depth t) (deepest ts)

@@ -1,4 +1,4 @@
--- The gates that a circuit is made of, over any type of wires: terms, values, depths, term numbers.
+-- The gates that a circuit is made of, over any type of wires: terms, values, term numbers.
 use mathlib.Core.Bool.{Bool, true, false, _&&_, _||_, not, cond, Bool·beq}
 use mathlib.Core.List.{List, [], _∷_}
 use Rattle.theory.specs.Kind.{Op, True, False, Not, And, Or, Xor, Equals, Ite}

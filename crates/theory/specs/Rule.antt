@@ -72,7 +72,7 @@ binary k t f = form (args-of k t) (λ ts. form (two-of ts) (λ p. f (p .0) (p .1
 abbrev pub compare : Verdict → Term → Term → Verdict
 compare ok expected claimed = cond (same-term expected claimed) ok terms-differ
 
--- (= (op x ..) res), res being what is expected of x ..
+-- (= (op x) res), res being what is expected of x
 abbrev pub on-one : ℕ → (Term → Term) → Term → Term → Verdict
 on-one k expected l r = unary k l (λ x. compare held (expected x) r)
 

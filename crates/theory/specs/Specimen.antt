@@ -21,7 +21,9 @@ use Rattle.theory.specs.Job.{reply}
 pub data Fact : Type 0 where
   -- its step is answered with this code and depth
   answered : ℕ → ℕ → Fact
-  -- with this right side in place of its own, with this code
+  -- its step is answered with this code
+  coded : ℕ → Fact
+  -- with this right side in place of its own, with this code and depth 0
   instead : (ℕ → Term) → ℕ → Fact
   -- where x and y have these values, the circuit on the right has this one
   circuit : ℕ → ℕ → ℕ → Fact
@@ -75,10 +77,10 @@ specimens =
     ∷ specimen 10 every-width (λ n. node BvAdd (cons (x n) nil)) (λ n. bb (get-term-bits (x n))) (answered 0 0 ∷ instead x 16 ∷ [])
     ∷ specimen 17 every-width (λ n. node (SignExtend 0) (cons (x n) nil)) x (answered 0 0 ∷ [])
     ∷ specimen 12 (1 ∷ []) (λ n. node BvNeg (cons (x n) nil)) (λ n. bb (negate term-gates (get-term-bits (x n)))) (answered 0 3 ∷ [])
-    ∷ specimen 20 (1 ∷ []) (λ n. two BvAShr (x n) (y n)) (λ n. shifted (ashr term-gates) (x n) (y n)) (circuit 1 1 0 ∷ standard 1 1 1 ∷ [])
-    ∷ specimen 21 (1 ∷ []) (λ n. two BvUDiv (x n) (y n)) (λ n. divided (udiv term-gates) (x n) (y n)) (circuit 0 1 1 ∷ standard 0 1 0 ∷ [])
-    ∷ specimen 22 (1 ∷ []) (λ n. two BvURem (x n) (y n)) (λ n. divided (urem term-gates) (x n) (y n)) (circuit 1 1 1 ∷ standard 1 1 0 ∷ [])
-    ∷ specimen 11 (2 ∷ []) (λ n. two BvMul (x n) (y n)) (λ n. product (x n) (y n)) (circuit 3 3 1 ∷ standard 3 3 1 ∷ [])
+    ∷ specimen 20 (1 ∷ []) (λ n. two BvAShr (x n) (y n)) (λ n. shifted (ashr term-gates) (x n) (y n)) (coded 1 ∷ circuit 1 1 0 ∷ standard 1 1 1 ∷ [])
+    ∷ specimen 21 (1 ∷ []) (λ n. two BvUDiv (x n) (y n)) (λ n. divided (udiv term-gates) (x n) (y n)) (coded 1 ∷ circuit 0 1 1 ∷ standard 0 1 0 ∷ [])
+    ∷ specimen 22 (1 ∷ []) (λ n. two BvURem (x n) (y n)) (λ n. divided (urem term-gates) (x n) (y n)) (coded 1 ∷ circuit 1 1 1 ∷ standard 1 1 0 ∷ [])
+    ∷ specimen 11 (2 ∷ []) (λ n. two BvMul (x n) (y n)) (λ n. product (x n) (y n)) (coded 0 ∷ circuit 3 3 1 ∷ standard 3 3 1 ∷ [])
     ∷ []
 
 -- ---- a row is true
@@ -90,20 +92,21 @@ x-and-y a b = record {
   below = λ n v. mod-lt (cond (eqb v 0) a b) (pow-pos n);
 }
 
--- one answer, with this code and depth
-abbrev pub one-answer : List Answer → ℕ → ℕ → Bool
-one-answer [] code depth = false
-one-answer (a ∷ []) code depth = eqb (a .code) code && eqb (a .depth) depth
-one-answer (a ∷ b ∷ rest) code depth = false
+-- one answer, of which this is true
+abbrev pub one-answer : List Answer → (Answer → Bool) → Bool
+one-answer [] p = false
+one-answer (a ∷ []) p = p a
+one-answer (a ∷ b ∷ rest) p = false
 
--- a step of this rule on (= left right) is answered so
-abbrev pub gets : ℕ → Term → Term → ℕ → ℕ → Bool
-gets rule left right code depth = one-answer (reply rule (rule-at rule) (some (two Equals left right ∷ []))) code depth
+-- of the answer to a step of this rule on (= left right)
+abbrev pub gets : ℕ → Term → Term → (Answer → Bool) → Bool
+gets rule left right = one-answer (reply rule (rule-at rule) (some (two Equals left right ∷ [])))
 
 -- a fact of row s at width n holds
 abbrev pub fact-true : Specimen → ℕ → Fact → Bool
-fact-true s n (answered code depth) = gets (s .rule) (s .left n) (s .right n) code depth
-fact-true s n (instead other code) = gets (s .rule) (s .left n) (other n) code 0
+fact-true s n (answered code depth) = gets (s .rule) (s .left n) (s .right n) (λ a. eqb (a .code) code && eqb (a .depth) depth)
+fact-true s n (coded code) = gets (s .rule) (s .left n) (s .right n) (λ a. eqb (a .code) code)
+fact-true s n (instead other code) = gets (s .rule) (s .left n) (other n) (λ a. eqb (a .code) code && eqb (a .depth) 0)
 fact-true s n (circuit a b v) = same (value (x-and-y a b) (s .right n)) (number n v)
 fact-true s n (standard a b v) = same (value (x-and-y a b) (s .left n)) (number n v)
 

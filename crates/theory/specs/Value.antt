@@ -130,7 +130,7 @@ shl-n n x y = cond (ltb y n) (x * 2 ^ y % 2 ^ n) 0
 unfoldable pub lshr-n : ℕ → ℕ → ℕ → ℕ
 lshr-n n x y = cond (ltb y n) (x / 2 ^ y) 0
 
--- n bits, of which the upper k are copies of the top bit of x
+-- n bits, of which the upper k are copies of the top bit of x, and the others are 0
 unfoldable pub top-copies : ℕ → ℕ → ℕ → ℕ
 top-copies n k x = cond (bit-at (n - 1) x) (2 ^ n - 2 ^ (n - k)) 0
 

@@ -20,7 +20,7 @@ code-of other-value = 15
 code-of terms-differ = 16
 code-of index-not-next = 17
 
--- the claim is the expected circuit
+-- the step is accepted: its claim is what the rule expects
 abbrev pub accepted : Verdict → Bool
 accepted held = true
 accepted form-only = true

@@ -1,4 +1,4 @@
--- `kept_turn`: each arm is its case of the store's answer.
+-- `kept_turn`: each arm is its case of `intern`'s answer.
 use borrow.Author.Needs.{needs}
 use Rattle.records.proofs.kept_turn.Statement.{statement}
 use Rattle.records.proofs.kept_turn.Tie as tie

@@ -1,4 +1,4 @@
--- `term_record`: the arguments are tested here, sort and room by the store.
+-- `term_record`: the arguments are tested here, sort and room by `intern`.
 use borrow.Author.Needs.{needs}
 use mathlib.Core.Path.{sym, _∙_}
 use borrow.Author.Tests.{not-true, not-false}

@@ -1,6 +1,7 @@
 use borrow.Author.Needs.{needs}
 use lib.Seq.{length-take-le}
-use Rattle.shift_circuits.proofs.ShiftLaws.{top-bit, ashr-whole}
+use Rattle.circuits.proofs.FillLaws.{top-bit}
+use Rattle.shift_circuits.proofs.ShiftLaws.{ashr-whole}
 use Rattle.shift_circuits.proofs.shift.ashr.Statement.{statement}
 use Rattle.shift_circuits.proofs.shift.ashr.Tie as tie
 

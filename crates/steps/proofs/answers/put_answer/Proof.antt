@@ -14,7 +14,7 @@ returns c =
     let a₁ = a₂ .before .before .before .before in
     let s = a₁ .before .before .before in
     five (s .args .d .now) _ _ _ _ _ (s .args .k) (given (s .args .rule) (s .args .reply)) (s .pre)
-    (a₁ .put-word .ensures) (a₂ .put-word2 .ensures) (a₃ .put-word3 .ensures) (a₄ .put-word4 .ensures) (a₅ .put-word5 .ensures)
+    (a₁ .put-number .ensures) (a₂ .put-number2 .ensures) (a₃ .put-number3 .ensures) (a₄ .put-number4 .ensures) (a₅ .put-number5 .ensures)
 
 pub put-answer-spec : {M : Type 1} → statement M
 put-answer-spec =

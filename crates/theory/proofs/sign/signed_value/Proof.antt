@@ -4,15 +4,15 @@ use borrow.Author.Needs.{needs}
 use mathlib.Core.Path.{_∙_}
 use native.Mathlib.Omega.{arith}
 use mir.Facts.{toZ-ofZ}
-use Rattle.theory.proofs.Signs.{up-some, low-fits, sum-fits, set, clear}
+use Rattle.theory.proofs.Signs.{up-some, low-fits, sum-fits, set, clear, is-width, too-narrow, too-wide}
 use Rattle.theory.proofs.sign.signed_value.Statement.{statement}
 use Rattle.theory.proofs.sign.signed_value.Tie as tie
 
 returns : tie.Need-returns
-returns c = λ l h. absurd (omega (arith, c .if1 .taken))
+returns c = too-narrow _ _ _ (c .if1 .taken)
 
 returns-2 : tie.Need-returns-2
-returns-2 c = λ l h. absurd (omega (arith, c .if2 .taken))
+returns-2 c = too-wide _ _ _ (c .if2 .taken)
 
 rem-low : tie.Need-rem-low
 rem-low c = up-some _ (c .before .before .args .x) (c .before .if1 .left) (omega arith)
@@ -21,10 +21,16 @@ cast-low-2 : tie.Need-cast-low-2
 cast-low-2 c = record { sfits = low-fits _ _ (c .before .if1 .left) (omega arith) }
 
 returns-3 : tie.Need-returns-3
-returns-3 c = λ l h. let ne = c .before .before .if1 .left in toZ-ofZ (sum-fits _ _ ne h) ∙ set _ _ ne h (c .if3 .taken)
+returns-3 c =
+    let ne = c .before .before .if1 .left in
+    let h = c .before .if2 .left in
+    is-width _ _ _ (omega arith) h (toZ-ofZ (sum-fits _ _ ne h) ∙ set _ _ ne h (c .if3 .taken))
 
 returns-4 : tie.Need-returns-4
-returns-4 c = λ l h. clear _ _ (c .before .before .if1 .left) h (c .if3 .left)
+returns-4 c =
+    let ne = c .before .before .if1 .left in
+    let h = c .before .if2 .left in
+    is-width _ _ _ (omega arith) h (clear _ _ ne h (c .if3 .left))
 
 add-result : tie.Need-add-result
 add-result c = sum-fits _ _ (c .before .before .if1 .left) (omega arith)

@@ -1,11 +1,11 @@
--- `right_side`: a literal that is no equation is not accepted, and an equation's right side is its second argument.
+-- `right_depth`: a literal that is no equation is not accepted, and an equation's right side is its second argument.
 use borrow.Author.Needs.{needs}
 use mathlib.Core.Path.{ap, _∙_}
 use Rattle.terms.specs.Decoded.{operands-of}
 use Rattle.operand_rules.proofs.Forms.{no-equation, right-below}
 use Rattle.steps.proofs.Judging.{wrong-refused, right-of}
-use Rattle.steps.proofs.right_side.Statement.{statement}
-use Rattle.steps.proofs.right_side.Tie as tie
+use Rattle.steps.proofs.right_depth.Statement.{statement}
+use Rattle.steps.proofs.right_depth.Tie as tie
 
 returns : tie.Need-returns
 returns c = λ rule a. absurd (wrong-refused (no-equation (c .before .term-at .ensures) rule (c .match .keys2)) a)
@@ -21,6 +21,6 @@ returns-2 c =
     let l = c .before .before in
     λ rule a. c .depth-at .ensures .value ∙ right-of (l .before .before .term-at .ensures) (l .r .given .1)
 
-pub right-side-spec : {M : Type 1} → statement M
-right-side-spec =
+pub right-depth-spec : {M : Type 1} → statement M
+right-depth-spec =
     tie.close (tie.spec (λ c κs. search needs) (λ c. search needs) returns depth-at-requires returns-2)
