@@ -1,4 +1,5 @@
 // Addition, and what is built of it.
+use crate::bits::MAX_BITS;
 use crate::bits::nots;
 use store::gates::FALSE;
 use store::gates::TRUE;
@@ -8,6 +9,7 @@ use store::gates::xor2;
 ghost use mathlib.Core.Path.{_≡_};
 ghost use Prim.Native.Nat.{_≤_};
 ghost use lib.ListN.{take};
+ghost use Rattle.theory.specs.Limit.{max-width};
 ghost use Rattle.theory.specs.Circuit.{sum-bit, next-carry, ripple-carry-adder, last-carry, negate};
 ghost use Rattle.rows.specs.Rows.{kept};
 ghost use Rattle.table.specs.Slots.{Table};
@@ -33,7 +35,7 @@ pub fn carry_bit(job: &[u8], work: &[u8], n: usize, x: u32, y: u32, carry: u32) 
 
 // A sum's bits, and the carry into the last of them.
 pub struct Sum {
-    pub bits: [u32; 64],
+    pub bits: [u32; MAX_BITS],
     pub carry: u32,
 }
 
@@ -43,17 +45,17 @@ pub fn ripple_carry_adder(
     job: &[u8],
     work: &[u8],
     n: usize,
-    x: [u32; 64],
-    y: [u32; 64],
+    x: [u32; MAX_BITS],
+    y: [u32; MAX_BITS],
     w: usize,
     carry: u32,
 ) -> Sum
     requires { ⌜ Table (now job) (now work) n ⌝ }
-    requires { ⌜ (1 ≤ w) × (w ≤ 64) ⌝ }
+    requires { ⌜ (1 ≤ w) × (w ≤ max-width) ⌝ }
     ensures { λ r. ⌜ take w (r .bits) ≡ ripple-carry-adder (numbers (kept (now (job .entry)) (now (work .entry)) n)) carry (take w x) (take w y) ⌝ }
     ensures { λ r. ⌜ r .carry ≡ last-carry (numbers (kept (now (job .entry)) (now (work .entry)) n)) carry (take w x) (take w y) ⌝ }
 {
-    let mut bits = [0u32; 64];
+    let mut bits = [0u32; MAX_BITS];
     let mut last = carry;
     let mut c = carry;
     let mut i = 0;
@@ -67,13 +69,13 @@ pub fn ripple_carry_adder(
 }
 
 // neg: the bits inverted and `false` added, with the carry `true`.
-pub fn negate(job: &[u8], work: &[u8], n: usize, x: [u32; 64], w: usize) -> [u32; 64]
+pub fn negate(job: &[u8], work: &[u8], n: usize, x: [u32; MAX_BITS], w: usize) -> [u32; MAX_BITS]
     requires { ⌜ Table (now job) (now work) n ⌝ }
-    requires { ⌜ (1 ≤ w) × (w ≤ 64) ⌝ }
+    requires { ⌜ (1 ≤ w) × (w ≤ max-width) ⌝ }
     ensures { λ r. ⌜ take w r ≡ negate (numbers (kept (now (job .entry)) (now (work .entry)) n)) (take w x) ⌝ }
 {
     let inverted = nots(job, work, n, x, w);
-    let falses = [FALSE; 64];
+    let falses = [FALSE; MAX_BITS];
     let sum = ripple_carry_adder(job, work, n, inverted, falses, w, TRUE);
     sum.bits
 }

@@ -6,23 +6,28 @@ use store::gates::ite3;
 use store::gates::not1;
 use store::gates::or2;
 use store::gates::xor2;
+use terms::Term;
 ghost use mathlib.Core.Path.{_≡_};
 ghost use mathlib.Core.List.{map};
 ghost use Prim.Native.Nat.{_≤_};
 ghost use lib.ListN.{take};
+ghost use Rattle.theory.specs.Limit.{max-width};
 ghost use Rattle.theory.specs.Alethe.{bits};
 ghost use Rattle.theory.specs.Circuit.{zip-with, choose};
 ghost use Rattle.rows.specs.Rows.{kept};
 ghost use Rattle.table.specs.Slots.{Table};
 ghost use Rattle.store.specs.Numbers.{numbers, bit-number};
 
+// The most bits that a bit-vector has: an array of bits is so long, whatever its width.
+pub const MAX_BITS: usize = Term::MAX_WIDTH as usize;
+
 // get_term_bits: the bits 0 to w - 1 of term t, for a term that is no BvBbTerm.
-pub fn select_bits(job: &[u8], work: &[u8], n: usize, t: u32, w: usize) -> [u32; 64]
+pub fn select_bits(job: &[u8], work: &[u8], n: usize, t: u32, w: usize) -> [u32; MAX_BITS]
     requires { ⌜ Table (now job) (now work) n ⌝ }
-    requires { ⌜ w ≤ 64 ⌝ }
+    requires { ⌜ w ≤ max-width ⌝ }
     ensures { λ r. ⌜ take w r ≡ bits w (λ i. bit-number (kept (now (job .entry)) (now (work .entry)) n) i t) ⌝ }
 {
-    let mut out = [0u32; 64];
+    let mut out = [0u32; MAX_BITS];
     let mut i = 0;
     while i < w {
         out[i] = bit_of(job, work, n, i as u32, t);
@@ -32,12 +37,12 @@ pub fn select_bits(job: &[u8], work: &[u8], n: usize, t: u32, w: usize) -> [u32;
 }
 
 // not: each bit inverted.
-pub fn nots(job: &[u8], work: &[u8], n: usize, x: [u32; 64], w: usize) -> [u32; 64]
+pub fn nots(job: &[u8], work: &[u8], n: usize, x: [u32; MAX_BITS], w: usize) -> [u32; MAX_BITS]
     requires { ⌜ Table (now job) (now work) n ⌝ }
-    requires { ⌜ w ≤ 64 ⌝ }
+    requires { ⌜ w ≤ max-width ⌝ }
     ensures { λ r. ⌜ take w r ≡ map (numbers (kept (now (job .entry)) (now (work .entry)) n) .not-gate) (take w x) ⌝ }
 {
-    let mut out = [0u32; 64];
+    let mut out = [0u32; MAX_BITS];
     let mut i = 0;
     while i < w {
         out[i] = not1(job, work, n, x[i]);
@@ -47,12 +52,19 @@ pub fn nots(job: &[u8], work: &[u8], n: usize, x: [u32; 64], w: usize) -> [u32; 
 }
 
 // and, of two: bit by bit.
-pub fn ands(job: &[u8], work: &[u8], n: usize, x: [u32; 64], y: [u32; 64], w: usize) -> [u32; 64]
+pub fn ands(
+    job: &[u8],
+    work: &[u8],
+    n: usize,
+    x: [u32; MAX_BITS],
+    y: [u32; MAX_BITS],
+    w: usize,
+) -> [u32; MAX_BITS]
     requires { ⌜ Table (now job) (now work) n ⌝ }
-    requires { ⌜ w ≤ 64 ⌝ }
+    requires { ⌜ w ≤ max-width ⌝ }
     ensures { λ r. ⌜ take w r ≡ zip-with (numbers (kept (now (job .entry)) (now (work .entry)) n) .and-gate) (take w x) (take w y) ⌝ }
 {
-    let mut out = [0u32; 64];
+    let mut out = [0u32; MAX_BITS];
     let mut i = 0;
     while i < w {
         out[i] = and2(job, work, n, x[i], y[i]);
@@ -62,12 +74,19 @@ pub fn ands(job: &[u8], work: &[u8], n: usize, x: [u32; 64], y: [u32; 64], w: us
 }
 
 // or, of two: bit by bit.
-pub fn ors(job: &[u8], work: &[u8], n: usize, x: [u32; 64], y: [u32; 64], w: usize) -> [u32; 64]
+pub fn ors(
+    job: &[u8],
+    work: &[u8],
+    n: usize,
+    x: [u32; MAX_BITS],
+    y: [u32; MAX_BITS],
+    w: usize,
+) -> [u32; MAX_BITS]
     requires { ⌜ Table (now job) (now work) n ⌝ }
-    requires { ⌜ w ≤ 64 ⌝ }
+    requires { ⌜ w ≤ max-width ⌝ }
     ensures { λ r. ⌜ take w r ≡ zip-with (numbers (kept (now (job .entry)) (now (work .entry)) n) .or-gate) (take w x) (take w y) ⌝ }
 {
-    let mut out = [0u32; 64];
+    let mut out = [0u32; MAX_BITS];
     let mut i = 0;
     while i < w {
         out[i] = or2(job, work, n, x[i], y[i]);
@@ -77,12 +96,19 @@ pub fn ors(job: &[u8], work: &[u8], n: usize, x: [u32; 64], y: [u32; 64], w: usi
 }
 
 // xor, of two: bit by bit.
-pub fn xors(job: &[u8], work: &[u8], n: usize, x: [u32; 64], y: [u32; 64], w: usize) -> [u32; 64]
+pub fn xors(
+    job: &[u8],
+    work: &[u8],
+    n: usize,
+    x: [u32; MAX_BITS],
+    y: [u32; MAX_BITS],
+    w: usize,
+) -> [u32; MAX_BITS]
     requires { ⌜ Table (now job) (now work) n ⌝ }
-    requires { ⌜ w ≤ 64 ⌝ }
+    requires { ⌜ w ≤ max-width ⌝ }
     ensures { λ r. ⌜ take w r ≡ zip-with (numbers (kept (now (job .entry)) (now (work .entry)) n) .xor-gate) (take w x) (take w y) ⌝ }
 {
-    let mut out = [0u32; 64];
+    let mut out = [0u32; MAX_BITS];
     let mut i = 0;
     while i < w {
         out[i] = xor2(job, work, n, x[i], y[i]);
@@ -92,12 +118,19 @@ pub fn xors(job: &[u8], work: &[u8], n: usize, x: [u32; 64], y: [u32; 64], w: us
 }
 
 // xnor, and the equations of `equality`: whether the bits are equal, bit by bit.
-pub fn eqs(job: &[u8], work: &[u8], n: usize, x: [u32; 64], y: [u32; 64], w: usize) -> [u32; 64]
+pub fn eqs(
+    job: &[u8],
+    work: &[u8],
+    n: usize,
+    x: [u32; MAX_BITS],
+    y: [u32; MAX_BITS],
+    w: usize,
+) -> [u32; MAX_BITS]
     requires { ⌜ Table (now job) (now work) n ⌝ }
-    requires { ⌜ w ≤ 64 ⌝ }
+    requires { ⌜ w ≤ max-width ⌝ }
     ensures { λ r. ⌜ take w r ≡ zip-with (numbers (kept (now (job .entry)) (now (work .entry)) n) .eq-gate) (take w x) (take w y) ⌝ }
 {
-    let mut out = [0u32; 64];
+    let mut out = [0u32; MAX_BITS];
     let mut i = 0;
     while i < w {
         out[i] = eq2(job, work, n, x[i], y[i]);
@@ -112,15 +145,15 @@ pub fn ites(
     work: &[u8],
     n: usize,
     c: u32,
-    x: [u32; 64],
-    y: [u32; 64],
+    x: [u32; MAX_BITS],
+    y: [u32; MAX_BITS],
     w: usize,
-) -> [u32; 64]
+) -> [u32; MAX_BITS]
     requires { ⌜ Table (now job) (now work) n ⌝ }
-    requires { ⌜ w ≤ 64 ⌝ }
+    requires { ⌜ w ≤ max-width ⌝ }
     ensures { λ r. ⌜ take w r ≡ choose (numbers (kept (now (job .entry)) (now (work .entry)) n)) c (take w x) (take w y) ⌝ }
 {
-    let mut out = [0u32; 64];
+    let mut out = [0u32; MAX_BITS];
     let mut i = 0;
     while i < w {
         out[i] = ite3(job, work, n, c, x[i], y[i]);

@@ -1,4 +1,5 @@
 // Comparisons of two bit-vectors.
+use crate::bits::MAX_BITS;
 use crate::bits::eqs;
 use store::gates::all_of;
 use store::gates::and2;
@@ -8,6 +9,7 @@ use store::gates::or2;
 ghost use mathlib.Core.Path.{_≡_};
 ghost use Prim.Native.Nat.{_≤_};
 ghost use lib.ListN.{take};
+ghost use Rattle.theory.specs.Limit.{max-width};
 ghost use Rattle.theory.specs.Circuit.{less-step, sign-step, bitblast-ult, slt, equality};
 ghost use Rattle.rows.specs.Rows.{kept};
 ghost use Rattle.table.specs.Slots.{Table};
@@ -48,9 +50,16 @@ pub fn sign_step(job: &[u8], work: &[u8], n: usize, x: u32, y: u32, below: u32) 
 }
 
 // bitblast_ult: x < y, from bit 0 up.
-pub fn bitblast_ult(job: &[u8], work: &[u8], n: usize, x: [u32; 64], y: [u32; 64], w: usize) -> u32
+pub fn bitblast_ult(
+    job: &[u8],
+    work: &[u8],
+    n: usize,
+    x: [u32; MAX_BITS],
+    y: [u32; MAX_BITS],
+    w: usize,
+) -> u32
     requires { ⌜ Table (now job) (now work) n ⌝ }
-    requires { ⌜ (1 ≤ w) × (w ≤ 64) ⌝ }
+    requires { ⌜ (1 ≤ w) × (w ≤ max-width) ⌝ }
     ensures { λ r. ⌜ r ≡ bitblast-ult (numbers (kept (now (job .entry)) (now (work .entry)) n)) (take w x) (take w y) ⌝ }
 {
     let mut res = less_bit(job, work, n, x[0], y[0]);
@@ -63,9 +72,16 @@ pub fn bitblast_ult(job: &[u8], work: &[u8], n: usize, x: [u32; 64], y: [u32; 64
 }
 
 // slt: x < y as signed numbers. The bits below the sign go as in bitblast_ult, and at width 1 there are none.
-pub fn slt(job: &[u8], work: &[u8], n: usize, x: [u32; 64], y: [u32; 64], w: usize) -> u32
+pub fn slt(
+    job: &[u8],
+    work: &[u8],
+    n: usize,
+    x: [u32; MAX_BITS],
+    y: [u32; MAX_BITS],
+    w: usize,
+) -> u32
     requires { ⌜ Table (now job) (now work) n ⌝ }
-    requires { ⌜ (1 ≤ w) × (w ≤ 64) ⌝ }
+    requires { ⌜ (1 ≤ w) × (w ≤ max-width) ⌝ }
     ensures { λ r. ⌜ r ≡ slt (numbers (kept (now (job .entry)) (now (work .entry)) n)) (take w x) (take w y) ⌝ }
 {
     let top = w - 1;
@@ -77,9 +93,16 @@ pub fn slt(job: &[u8], work: &[u8], n: usize, x: [u32; 64], y: [u32; 64], w: usi
 }
 
 // equality: the bits' equations, one alone, several under an And.
-pub fn equality(job: &[u8], work: &[u8], n: usize, x: [u32; 64], y: [u32; 64], w: usize) -> u32
+pub fn equality(
+    job: &[u8],
+    work: &[u8],
+    n: usize,
+    x: [u32; MAX_BITS],
+    y: [u32; MAX_BITS],
+    w: usize,
+) -> u32
     requires { ⌜ Table (now job) (now work) n ⌝ }
-    requires { ⌜ (1 ≤ w) × (w ≤ 64) ⌝ }
+    requires { ⌜ (1 ≤ w) × (w ≤ max-width) ⌝ }
     ensures { λ r. ⌜ r ≡ equality (numbers (kept (now (job .entry)) (now (work .entry)) n)) (take w x) (take w y) ⌝ }
 {
     let bits = eqs(job, work, n, x, y, w);

@@ -1,6 +1,7 @@
 // Multiplication by rows: row j is x, j places up, where bit j of y is set.
 use crate::adder::carry_bit;
 use crate::adder::sum_bit;
+use crate::bits::MAX_BITS;
 use crate::bits::ands;
 use store::gates::FALSE;
 use store::gates::and2;
@@ -8,6 +9,7 @@ ghost use mathlib.Core.Path.{_≡_};
 ghost use mathlib.Core.List.{_++_};
 ghost use Prim.Native.Nat.{_≤_};
 ghost use lib.ListN.{take, drop};
+ghost use Rattle.theory.specs.Limit.{max-width};
 ghost use Rattle.theory.specs.Circuit.{ripple-carry-adder, partial-products, shift-add-multiplier};
 ghost use Rattle.rows.specs.Rows.{kept};
 ghost use Rattle.table.specs.Slots.{Table};
@@ -18,14 +20,14 @@ fn add_row(
     job: &[u8],
     work: &[u8],
     n: usize,
-    sum: [u32; 64],
-    x: [u32; 64],
+    sum: [u32; MAX_BITS],
+    x: [u32; MAX_BITS],
     y: u32,
     j: usize,
     w: usize,
-) -> [u32; 64]
+) -> [u32; MAX_BITS]
     requires { ⌜ Table (now job) (now work) n ⌝ }
-    requires { ⌜ (j ≤ w) × (w ≤ 64) ⌝ }
+    requires { ⌜ (j ≤ w) × (w ≤ max-width) ⌝ }
     ensures { λ r. ⌜ take w r ≡ take j (take w sum) ++ ripple-carry-adder (numbers (kept (now (job .entry)) (now (work .entry)) n)) false-number (drop j (take w sum)) (partial-products (numbers (kept (now (job .entry)) (now (work .entry)) n)) y (take w x)) ⌝ }
 {
     let mut out = sum;
@@ -46,15 +48,15 @@ pub fn shift_add_multiplier(
     job: &[u8],
     work: &[u8],
     n: usize,
-    x: [u32; 64],
-    y: [u32; 64],
+    x: [u32; MAX_BITS],
+    y: [u32; MAX_BITS],
     w: usize,
-) -> [u32; 64]
+) -> [u32; MAX_BITS]
     requires { ⌜ Table (now job) (now work) n ⌝ }
-    requires { ⌜ (1 ≤ w) × (w ≤ 64) ⌝ }
+    requires { ⌜ (1 ≤ w) × (w ≤ max-width) ⌝ }
     ensures { λ r. ⌜ take w r ≡ shift-add-multiplier (numbers (kept (now (job .entry)) (now (work .entry)) n)) (take w x) (take w y) ⌝ }
 {
-    let low = [y[0]; 64];
+    let low = [y[0]; MAX_BITS];
     let mut res = ands(job, work, n, low, x, w);
     let mut j = 1;
     while j < w {

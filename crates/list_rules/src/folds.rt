@@ -3,6 +3,7 @@ ghost use mathlib.Core.Path.{_≡_};
 ghost use mathlib.Core.List.{map};
 ghost use Prim.Native.Nat.{_≤_};
 ghost use lib.ListN.{take};
+ghost use Rattle.theory.specs.Limit.{max-width};
 ghost use Rattle.theory.specs.Verdict.{held};
 ghost use Rattle.theory.specs.Rule.{compare};
 ghost use Rattle.rows.specs.Rows.{kept};
@@ -11,6 +12,7 @@ ghost use Rattle.store.specs.Numbers.{numbers};
 ghost use Rattle.operand_rules.specs.Rules.{number-in, tree, verdict-of};
 ghost use Rattle.list_rules.specs.Lists.{Alike, Many, circuit, least, folded-bits, expected, arguments};
 use circuits::adder::ripple_carry_adder;
+use circuits::bits::MAX_BITS;
 use circuits::bits::ands;
 use circuits::bits::ors;
 use circuits::bits::xors;
@@ -39,12 +41,12 @@ fn combine(
     work: &[u8],
     n: usize,
     op: Operation,
-    x: [u32; 64],
-    y: [u32; 64],
+    x: [u32; MAX_BITS],
+    y: [u32; MAX_BITS],
     w: usize,
-) -> [u32; 64]
+) -> [u32; MAX_BITS]
     requires { ⌜ Table (now job) (now work) n ⌝ }
-    requires { ⌜ (1 ≤ w) × (w ≤ 64) ⌝ }
+    requires { ⌜ (1 ≤ w) × (w ≤ max-width) ⌝ }
     ensures { λ r. ⌜ take w r ≡ circuit (numbers (kept (now (job .entry)) (now (work .entry)) n)) op (take w x) (take w y) ⌝ }
 {
     match op {
@@ -67,7 +69,7 @@ fn fold_arguments(
     op: Operation,
     list: Args,
     w: usize,
-) -> [u32; 64]
+) -> [u32; MAX_BITS]
     requires { ⌜ Alike (now job) (now work) n list w ⌝ }
     ensures { λ r. ⌜ take w r ≡ map (number-in (now (job .entry)) (now (work .entry)) n) (folded-bits op (arguments (now (job .entry)) (now (work .entry)) n list)) ⌝ }
 {

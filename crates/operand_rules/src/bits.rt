@@ -5,6 +5,7 @@ ghost use mathlib.Core.List.{map};
 ghost use Prim.Native.Nat.{_≤_};
 ghost use lib.Dec.{eqb};
 ghost use lib.ListN.{take};
+ghost use Rattle.theory.specs.Limit.{max-width};
 ghost use Rattle.theory.specs.Bits.{get-term-bits};
 ghost use Rattle.theory.specs.Verdict.{held, form-only, terms-differ};
 ghost use Rattle.terms.specs.Decoded.{Inside, words-in};
@@ -15,6 +16,7 @@ ghost use Rattle.operand_rules.specs.Rules.{Operand, width-in, number-in
 use crate::Verdict;
 use crate::compare;
 use crate::compare_form;
+use circuits::bits::MAX_BITS;
 use circuits::bits::select_bits;
 use store::gates::bb_term;
 use store::sorts::sort_at;
@@ -27,18 +29,18 @@ use terms::Term;
 pub fn width_at(job: &[u8], work: &[u8], n: usize, place: u32) -> usize
     requires { ⌜ Operand (now job) (now work) n place (width-in (now job) (now work) n place) ⌝ }
     ensures value { λ r. ⌜ r ≡ width-in (now (job .entry)) (now (work .entry)) n place ⌝ }
-    ensures bound { λ r. ⌜ (1 ≤ r) × (r ≤ 64) ⌝ }
+    ensures bound { λ r. ⌜ (1 ≤ r) × (r ≤ max-width) ⌝ }
 {
     width_of(sort_at(job, work, n, place)) as usize
 }
 
 // The numbers of an argument list.
-fn argument_bits(job: &[u8], list: Args) -> [u32; 64]
+fn argument_bits(job: &[u8], list: Args) -> [u32; MAX_BITS]
     requires { ⌜ Inside (now job) list ⌝ }
     ensures { λ r. ⌜ take (list .count) r ≡ words-in (now (job .entry)) list ⌝ }
 {
     let count = list.count;
-    let mut out = [0u32; 64];
+    let mut out = [0u32; MAX_BITS];
     let mut i = 0;
     while i < count {
         out[i] = Term::argument(job, list, i);
@@ -48,7 +50,7 @@ fn argument_bits(job: &[u8], list: Args) -> [u32; 64]
 }
 
 // get_term_bits: a BvBbTerm gives its arguments, any other bit-vector of width w its bits 0 to w - 1.
-pub fn get_term_bits(job: &[u8], work: &[u8], n: usize, place: u32, w: usize) -> [u32; 64]
+pub fn get_term_bits(job: &[u8], work: &[u8], n: usize, place: u32, w: usize) -> [u32; MAX_BITS]
     requires { ⌜ Operand (now job) (now work) n place w ⌝ }
     ensures { λ r. ⌜ take w r ≡ map (number-in (now (job .entry)) (now (work .entry)) n) (get-term-bits (tree (now (job .entry)) (now (work .entry)) n place)) ⌝ }
 {
@@ -63,12 +65,12 @@ pub fn compare_bits(
     job: &[u8],
     work: &[u8],
     n: usize,
-    bits: [u32; 64],
+    bits: [u32; MAX_BITS],
     w: usize,
     claim: u32,
 ) -> Verdict
     requires { ⌜ Table (now job) (now work) n ⌝ }
-    requires { ⌜ w ≤ 64 ⌝ }
+    requires { ⌜ w ≤ max-width ⌝ }
     ensures { λ v. ⌜ verdict-of v ≡ cond (eqb (bb-number (kept (now (job .entry)) (now (work .entry)) n) (take w bits)) claim) held terms-differ ⌝ }
 {
     compare(bb_term(job, work, n, &bits[..w]), claim)
@@ -79,12 +81,12 @@ pub fn compare_bits_form(
     job: &[u8],
     work: &[u8],
     n: usize,
-    bits: [u32; 64],
+    bits: [u32; MAX_BITS],
     w: usize,
     claim: u32,
 ) -> Verdict
     requires { ⌜ Table (now job) (now work) n ⌝ }
-    requires { ⌜ w ≤ 64 ⌝ }
+    requires { ⌜ w ≤ max-width ⌝ }
     ensures { λ v. ⌜ verdict-of v ≡ cond (eqb (bb-number (kept (now (job .entry)) (now (work .entry)) n) (take w bits)) claim) form-only terms-differ ⌝ }
 {
     compare_form(bb_term(job, work, n, &bits[..w]), claim)

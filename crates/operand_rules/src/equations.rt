@@ -15,6 +15,7 @@ use crate::Verdict;
 use crate::bits::compare_bits;
 use crate::bits::get_term_bits;
 use crate::bits::width_at;
+use circuits::bits::MAX_BITS;
 use store::sorts::Sort;
 use store::sorts::sort_at;
 use store::terms_at::term_at;
@@ -28,7 +29,7 @@ fn comp_check(job: &[u8], work: &[u8], n: usize, x: u32, y: u32, claim: u32) -> 
     let w = width_at(job, work, n, x);
     let xs = get_term_bits(job, work, n, x, w);
     let ys = get_term_bits(job, work, n, y, w);
-    let bits = [circuits::compare::equality(job, work, n, xs, ys, w); 64];
+    let bits = [circuits::compare::equality(job, work, n, xs, ys, w); MAX_BITS];
     compare_bits(job, work, n, bits, 1, claim)
 }
 

@@ -1,5 +1,6 @@
 // Division, bit by bit.
 use circuits::adder::ripple_carry_adder;
+use circuits::bits::MAX_BITS;
 use circuits::bits::eqs;
 use circuits::bits::ites;
 use circuits::bits::nots;
@@ -13,14 +14,15 @@ ghost use mathlib.Core.Path.{_≡_};
 ghost use mathlib.Core.List.{_∷_, [], _++_};
 ghost use Prim.Native.Nat.{_≤_};
 ghost use lib.ListN.{take, drop, getD};
+ghost use Rattle.theory.specs.Limit.{max-width};
 ghost use Rattle.theory.specs.Circuit.{drop-top, all-false, next-remainder, no-carry, divide-step, bitblast-udiv-urem-rec, is-zero, udiv, urem};
 ghost use Rattle.rows.specs.Rows.{kept};
 ghost use Rattle.table.specs.Slots.{Table};
 ghost use Rattle.store.specs.Numbers.{numbers, false-number, is-false-number};
 
 // Whether every bit of x is literally `false`, where bitblast_udiv_urem_rec stops. No gate is read.
-fn all_false(x: [u32; 64], w: usize) -> bool
-    requires { ⌜ w ≤ 64 ⌝ }
+fn all_false(x: [u32; MAX_BITS], w: usize) -> bool
+    requires { ⌜ w ≤ max-width ⌝ }
     ensures { λ r. ⌜ r ≡ all-false (numbers []) is-false-number (take w x) ⌝ }
 {
     let mut i = 0;
@@ -34,11 +36,11 @@ fn all_false(x: [u32; 64], w: usize) -> bool
 }
 
 // shift_left, with a bit coming in below: the top bit falls out.
-fn shift_left(x: [u32; 64], w: usize, low: u32) -> [u32; 64]
-    requires { ⌜ (1 ≤ w) × (w ≤ 64) ⌝ }
+fn shift_left(x: [u32; MAX_BITS], w: usize, low: u32) -> [u32; MAX_BITS]
+    requires { ⌜ (1 ≤ w) × (w ≤ max-width) ⌝ }
     ensures { λ r. ⌜ take w r ≡ low ∷ drop-top (take w x) ⌝ }
 {
-    let mut out = [low; 64];
+    let mut out = [low; MAX_BITS];
     let mut i = 1;
     while i < w {
         out[i] = x[i - 1];
@@ -48,11 +50,11 @@ fn shift_left(x: [u32; 64], w: usize, low: u32) -> [u32; 64]
 }
 
 // shift_right, `false` coming in above: bit 0 falls out.
-fn shift_right(x: [u32; 64], w: usize) -> [u32; 64]
-    requires { ⌜ (1 ≤ w) × (w ≤ 64) ⌝ }
+fn shift_right(x: [u32; MAX_BITS], w: usize) -> [u32; MAX_BITS]
+    requires { ⌜ (1 ≤ w) × (w ≤ max-width) ⌝ }
     ensures { λ r. ⌜ take w r ≡ drop 1 (take w x) ++ (false-number ∷ []) ⌝ }
 {
-    let mut out = [FALSE; 64];
+    let mut out = [FALSE; MAX_BITS];
     let mut i = 0;
     while i < w - 1 {
         out[i] = x[i + 1];
@@ -63,22 +65,36 @@ fn shift_right(x: [u32; 64], w: usize) -> [u32; 64]
 }
 
 // bitblast_udiv_urem_rec: the remainder shifted left, with bit 0 of the dividend added.
-fn next_remainder(job: &[u8], work: &[u8], n: usize, low: u32, r: [u32; 64], w: usize) -> [u32; 64]
+fn next_remainder(
+    job: &[u8],
+    work: &[u8],
+    n: usize,
+    low: u32,
+    r: [u32; MAX_BITS],
+    w: usize,
+) -> [u32; MAX_BITS]
     requires { ⌜ Table (now job) (now work) n ⌝ }
-    requires { ⌜ (1 ≤ w) × (w ≤ 64) ⌝ }
+    requires { ⌜ (1 ≤ w) × (w ≤ max-width) ⌝ }
     ensures { λ s. ⌜ take w s ≡ next-remainder (numbers (kept (now (job .entry)) (now (work .entry)) n)) low (take w r) ⌝ }
 {
     let one_if_odd = ite3(job, work, n, eq2(job, work, n, low, TRUE), TRUE, FALSE);
     let shifted = shift_left(r, w, FALSE);
-    let falses = [FALSE; 64];
+    let falses = [FALSE; MAX_BITS];
     let sum = ripple_carry_adder(job, work, n, shifted, falses, w, one_if_odd);
     sum.bits
 }
 
 // bitblast_udiv_urem_rec: whether x is below y, which Rust takes from the carry into the top bit of x - y: there is none.
-fn no_carry(job: &[u8], work: &[u8], n: usize, x: [u32; 64], y: [u32; 64], w: usize) -> u32
+fn no_carry(
+    job: &[u8],
+    work: &[u8],
+    n: usize,
+    x: [u32; MAX_BITS],
+    y: [u32; MAX_BITS],
+    w: usize,
+) -> u32
     requires { ⌜ Table (now job) (now work) n ⌝ }
-    requires { ⌜ (1 ≤ w) × (w ≤ 64) ⌝ }
+    requires { ⌜ (1 ≤ w) × (w ≤ max-width) ⌝ }
     ensures { λ r. ⌜ r ≡ no-carry (numbers (kept (now (job .entry)) (now (work .entry)) n)) (take w x) (take w y) ⌝ }
 {
     let not_y = nots(job, work, n, y, w);
@@ -88,8 +104,8 @@ fn no_carry(job: &[u8], work: &[u8], n: usize, x: [u32; 64], y: [u32; 64], w: us
 
 // A quotient and a remainder.
 pub struct Division {
-    pub quot: [u32; 64],
-    pub rem: [u32; 64],
+    pub quot: [u32; MAX_BITS],
+    pub rem: [u32; MAX_BITS],
 }
 
 // bitblast_udiv_urem_rec, one step: from the quotient q and the remainder r of x shifted right. Where the remainder, shifted and with
@@ -98,24 +114,24 @@ fn divide_step(
     job: &[u8],
     work: &[u8],
     n: usize,
-    x: [u32; 64],
-    y: [u32; 64],
-    q: [u32; 64],
-    r: [u32; 64],
+    x: [u32; MAX_BITS],
+    y: [u32; MAX_BITS],
+    q: [u32; MAX_BITS],
+    r: [u32; MAX_BITS],
     w: usize,
 ) -> Division
     requires { ⌜ Table (now job) (now work) n ⌝ }
-    requires { ⌜ (1 ≤ w) × (w ≤ 64) ⌝ }
+    requires { ⌜ (1 ≤ w) × (w ≤ max-width) ⌝ }
     ensures { λ d. ⌜ (take w (d .quot), take w (d .rem)) ≡ divide-step (numbers (kept (now (job .entry)) (now (work .entry)) n)) (getD x 0 0) (drop 1 (take w x)) (take w y) (take w q, take w r) ⌝ }
 {
     let r1 = next_remainder(job, work, n, x[0], r, w);
     let sign = no_carry(job, work, n, r1, y, w);
     let low = ite3(job, work, n, sign, FALSE, TRUE);
     let q1 = shift_left(q, w, low);
-    let trues = [TRUE; 64];
+    let trues = [TRUE; MAX_BITS];
     let r2 = ites(job, work, n, sign, r1, trues, w);
     let below = no_carry(job, work, n, x, y, w);
-    let falses = [FALSE; 64];
+    let falses = [FALSE; MAX_BITS];
     let quot = ites(job, work, n, below, falses, q1, w);
     let rem = ites(job, work, n, below, x, r2, w);
     Division { quot, rem }
@@ -126,24 +142,24 @@ pub fn bitblast_udiv_urem_rec(
     job: &[u8],
     work: &[u8],
     n: usize,
-    x: [u32; 64],
-    y: [u32; 64],
+    x: [u32; MAX_BITS],
+    y: [u32; MAX_BITS],
     w: usize,
     left: usize,
 ) -> Division
     requires { ⌜ Table (now job) (now work) n ⌝ }
-    requires { ⌜ (1 ≤ w) × (w ≤ 64) ⌝ }
+    requires { ⌜ (1 ≤ w) × (w ≤ max-width) ⌝ }
     ensures { λ d. ⌜ (take w (d .quot), take w (d .rem)) ≡ bitblast-udiv-urem-rec (numbers (kept (now (job .entry)) (now (work .entry)) n)) is-false-number left (take w x) (take w y) ⌝ }
 {
     if left == 0 {
-        let zero = [FALSE; 64];
+        let zero = [FALSE; MAX_BITS];
         return Division {
             quot: zero,
             rem: zero,
         };
     }
     if all_false(x, w) {
-        let zero = [FALSE; 64];
+        let zero = [FALSE; MAX_BITS];
         return Division {
             quot: zero,
             rem: zero,
@@ -157,33 +173,47 @@ pub fn bitblast_udiv_urem_rec(
 }
 
 // bitblast_udiv_urem: that every bit of y is false, an And of any number, one too.
-fn is_zero(job: &[u8], work: &[u8], n: usize, y: [u32; 64], w: usize) -> u32
+fn is_zero(job: &[u8], work: &[u8], n: usize, y: [u32; MAX_BITS], w: usize) -> u32
     requires { ⌜ Table (now job) (now work) n ⌝ }
-    requires { ⌜ (1 ≤ w) × (w ≤ 64) ⌝ }
+    requires { ⌜ (1 ≤ w) × (w ≤ max-width) ⌝ }
     ensures { λ r. ⌜ r ≡ is-zero (numbers (kept (now (job .entry)) (now (work .entry)) n)) (take w y) ⌝ }
 {
-    let falses = [FALSE; 64];
+    let falses = [FALSE; MAX_BITS];
     let bits = eqs(job, work, n, y, falses, w);
     all_of(job, work, n, &bits[..w])
 }
 
 // bitblast_udiv_urem, the quotient: all `true` where y is zero.
-pub fn udiv(job: &[u8], work: &[u8], n: usize, x: [u32; 64], y: [u32; 64], w: usize) -> [u32; 64]
+pub fn udiv(
+    job: &[u8],
+    work: &[u8],
+    n: usize,
+    x: [u32; MAX_BITS],
+    y: [u32; MAX_BITS],
+    w: usize,
+) -> [u32; MAX_BITS]
     requires { ⌜ Table (now job) (now work) n ⌝ }
-    requires { ⌜ (1 ≤ w) × (w ≤ 64) ⌝ }
+    requires { ⌜ (1 ≤ w) × (w ≤ max-width) ⌝ }
     ensures { λ r. ⌜ take w r ≡ udiv (numbers (kept (now (job .entry)) (now (work .entry)) n)) is-false-number (take w x) (take w y) ⌝ }
 {
     let d = bitblast_udiv_urem_rec(job, work, n, x, y, w, w);
     let zero = is_zero(job, work, n, y, w);
     let quot = d.quot;
-    let trues = [TRUE; 64];
+    let trues = [TRUE; MAX_BITS];
     ites(job, work, n, zero, trues, quot, w)
 }
 
 // bitblast_udiv_urem, the remainder: x where y is zero.
-pub fn urem(job: &[u8], work: &[u8], n: usize, x: [u32; 64], y: [u32; 64], w: usize) -> [u32; 64]
+pub fn urem(
+    job: &[u8],
+    work: &[u8],
+    n: usize,
+    x: [u32; MAX_BITS],
+    y: [u32; MAX_BITS],
+    w: usize,
+) -> [u32; MAX_BITS]
     requires { ⌜ Table (now job) (now work) n ⌝ }
-    requires { ⌜ (1 ≤ w) × (w ≤ 64) ⌝ }
+    requires { ⌜ (1 ≤ w) × (w ≤ max-width) ⌝ }
     ensures { λ r. ⌜ take w r ≡ urem (numbers (kept (now (job .entry)) (now (work .entry)) n)) is-false-number (take w x) (take w y) ⌝ }
 {
     let d = bitblast_udiv_urem_rec(job, work, n, x, y, w, w);

@@ -1,4 +1,5 @@
 // Shifts by a bit-vector: stage s shifts by 2^s places where bit s of y is set.
+use circuits::bits::MAX_BITS;
 use circuits::bits::ites;
 use circuits::compare::bitblast_ult;
 use store::gates::FALSE;
@@ -8,19 +9,28 @@ use theory::stages::shift_stages;
 ghost use mathlib.Core.Path.{_≡_};
 ghost use Prim.Native.Nat.{_≤_};
 ghost use lib.ListN.{take};
+ghost use Rattle.theory.specs.Limit.{max-width};
 ghost use Rattle.theory.specs.Circuit.{shl-stage, shl-stages, shr-stage, shr-stages, clog2, bounded, shl, lshr, ashr};
 ghost use Rattle.rows.specs.Rows.{kept};
 ghost use Rattle.table.specs.Slots.{Table};
 ghost use Rattle.store.specs.Numbers.{numbers};
 
 // bitblast_shift_op, stage s to the left: where y is true, bit i is bit i - 2^s of p, and `false` where there is none.
-fn shl_stage(job: &[u8], work: &[u8], n: usize, s: u32, y: u32, p: [u32; 64], w: usize) -> [u32; 64]
+fn shl_stage(
+    job: &[u8],
+    work: &[u8],
+    n: usize,
+    s: u32,
+    y: u32,
+    p: [u32; MAX_BITS],
+    w: usize,
+) -> [u32; MAX_BITS]
     requires { ⌜ Table (now job) (now work) n ⌝ }
-    requires { ⌜ (s ≤ 63) × (w ≤ 64) ⌝ }
+    requires { ⌜ (s ≤ 63) × (w ≤ max-width) ⌝ }
     ensures { λ r. ⌜ take w r ≡ shl-stage (numbers (kept (now (job .entry)) (now (work .entry)) n)) s y (take w p) ⌝ }
 {
     let thresh = 1usize << s;
-    let mut out = [0u32; 64];
+    let mut out = [0u32; MAX_BITS];
     let mut i = 0;
     while i < w {
         let from = if i < thresh { FALSE } else { p[i - thresh] };
@@ -38,16 +48,16 @@ fn shr_stage(
     fill: u32,
     s: u32,
     y: u32,
-    p: [u32; 64],
+    p: [u32; MAX_BITS],
     w: usize,
-) -> [u32; 64]
+) -> [u32; MAX_BITS]
     requires { ⌜ Table (now job) (now work) n ⌝ }
-    requires { ⌜ (s ≤ 63) × (w ≤ 64) ⌝ }
+    requires { ⌜ (s ≤ 63) × (w ≤ max-width) ⌝ }
     ensures { λ r. ⌜ take w r ≡ shr-stage (numbers (kept (now (job .entry)) (now (work .entry)) n)) fill s y (take w p) ⌝ }
 {
     let thresh = 1usize << s;
     let stays = not1(job, work, n, y);
-    let mut out = [0u32; 64];
+    let mut out = [0u32; MAX_BITS];
     let mut i = 0;
     while i < w {
         let bit = if i + thresh < w {
@@ -62,9 +72,16 @@ fn shr_stage(
 }
 
 // bitblast_shift_op, all stages to the left.
-fn shl_stages(job: &[u8], work: &[u8], n: usize, x: [u32; 64], y: [u32; 64], w: usize) -> [u32; 64]
+fn shl_stages(
+    job: &[u8],
+    work: &[u8],
+    n: usize,
+    x: [u32; MAX_BITS],
+    y: [u32; MAX_BITS],
+    w: usize,
+) -> [u32; MAX_BITS]
     requires { ⌜ Table (now job) (now work) n ⌝ }
-    requires { ⌜ (1 ≤ w) × (w ≤ 64) ⌝ }
+    requires { ⌜ (1 ≤ w) × (w ≤ max-width) ⌝ }
     ensures { λ r. ⌜ take w r ≡ shl-stages (numbers (kept (now (job .entry)) (now (work .entry)) n)) 0 (take (clog2 w) (take w y)) (take w x) ⌝ }
 {
     let stages = shift_stages(w as u64);
@@ -84,12 +101,12 @@ fn shr_stages(
     work: &[u8],
     n: usize,
     fill: u32,
-    x: [u32; 64],
-    y: [u32; 64],
+    x: [u32; MAX_BITS],
+    y: [u32; MAX_BITS],
     w: usize,
-) -> [u32; 64]
+) -> [u32; MAX_BITS]
     requires { ⌜ Table (now job) (now work) n ⌝ }
-    requires { ⌜ (1 ≤ w) × (w ≤ 64) ⌝ }
+    requires { ⌜ (1 ≤ w) × (w ≤ max-width) ⌝ }
     ensures { λ r. ⌜ take w r ≡ shr-stages (numbers (kept (now (job .entry)) (now (work .entry)) n)) fill 0 (take (clog2 w) (take w y)) (take w x) ⌝ }
 {
     let stages = shift_stages(w as u64);
@@ -108,17 +125,17 @@ fn bounded(
     job: &[u8],
     work: &[u8],
     n: usize,
-    size: [u32; 64],
-    y: [u32; 64],
-    p: [u32; 64],
+    size: [u32; MAX_BITS],
+    y: [u32; MAX_BITS],
+    p: [u32; MAX_BITS],
     w: usize,
-) -> [u32; 64]
+) -> [u32; MAX_BITS]
     requires { ⌜ Table (now job) (now work) n ⌝ }
-    requires { ⌜ (1 ≤ w) × (w ≤ 64) ⌝ }
+    requires { ⌜ (1 ≤ w) × (w ≤ max-width) ⌝ }
     ensures { λ r. ⌜ take w r ≡ bounded (numbers (kept (now (job .entry)) (now (work .entry)) n)) (take w size) (take w y) (take w p) ⌝ }
 {
     let below = bitblast_ult(job, work, n, y, size, w);
-    let falses = [FALSE; 64];
+    let falses = [FALSE; MAX_BITS];
     ites(job, work, n, below, p, falses, w)
 }
 
@@ -127,13 +144,13 @@ pub fn shl(
     job: &[u8],
     work: &[u8],
     n: usize,
-    size: [u32; 64],
-    x: [u32; 64],
-    y: [u32; 64],
+    size: [u32; MAX_BITS],
+    x: [u32; MAX_BITS],
+    y: [u32; MAX_BITS],
     w: usize,
-) -> [u32; 64]
+) -> [u32; MAX_BITS]
     requires { ⌜ Table (now job) (now work) n ⌝ }
-    requires { ⌜ (1 ≤ w) × (w ≤ 64) ⌝ }
+    requires { ⌜ (1 ≤ w) × (w ≤ max-width) ⌝ }
     ensures { λ r. ⌜ take w r ≡ shl (numbers (kept (now (job .entry)) (now (work .entry)) n)) (take w size) (take w x) (take w y) ⌝ }
 {
     let shifted = shl_stages(job, work, n, x, y, w);
@@ -145,13 +162,13 @@ pub fn lshr(
     job: &[u8],
     work: &[u8],
     n: usize,
-    size: [u32; 64],
-    x: [u32; 64],
-    y: [u32; 64],
+    size: [u32; MAX_BITS],
+    x: [u32; MAX_BITS],
+    y: [u32; MAX_BITS],
     w: usize,
-) -> [u32; 64]
+) -> [u32; MAX_BITS]
     requires { ⌜ Table (now job) (now work) n ⌝ }
-    requires { ⌜ (1 ≤ w) × (w ≤ 64) ⌝ }
+    requires { ⌜ (1 ≤ w) × (w ≤ max-width) ⌝ }
     ensures { λ r. ⌜ take w r ≡ lshr (numbers (kept (now (job .entry)) (now (work .entry)) n)) (take w size) (take w x) (take w y) ⌝ }
 {
     let shifted = shr_stages(job, work, n, FALSE, x, y, w);
@@ -164,13 +181,13 @@ pub fn ashr(
     job: &[u8],
     work: &[u8],
     n: usize,
-    size: [u32; 64],
-    x: [u32; 64],
-    y: [u32; 64],
+    size: [u32; MAX_BITS],
+    x: [u32; MAX_BITS],
+    y: [u32; MAX_BITS],
     w: usize,
-) -> [u32; 64]
+) -> [u32; MAX_BITS]
     requires { ⌜ Table (now job) (now work) n ⌝ }
-    requires { ⌜ (1 ≤ w) × (w ≤ 64) ⌝ }
+    requires { ⌜ (1 ≤ w) × (w ≤ max-width) ⌝ }
     ensures { λ r. ⌜ take w r ≡ ashr (numbers (kept (now (job .entry)) (now (work .entry)) n)) (take w size) (take w x) (take w y) ⌝ }
 {
     let sign = x[w - 1];

@@ -6,13 +6,14 @@ ghost use mathlib.Core.List.{map};
 ghost use Prim.Native.Nat.{_≤_};
 ghost use lib.ListN.{take};
 ghost use Prim.Native.Nat.{_+_, _<_};
-ghost use Rattle.theory.specs.Limit.{first-terms};
+ghost use Rattle.theory.specs.Limit.{first-terms, max-width};
 ghost use Rattle.theory.specs.Gates.{term-gates};
 ghost use Rattle.theory.specs.Circuit.{shl, lshr, ashr};
 ghost use Rattle.theory.specs.RuleTable.{by-shl, by-lshr, by-ashr};
 ghost use Rattle.theory.specs.Rule.{compare, verdict};
 ghost use Rattle.store.specs.Store.{Store};
 ghost use Rattle.operand_rules.specs.Rules.{Two, number-in, width-bits, tree, verdict-of};
+use circuits::bits::MAX_BITS;
 use circuits::bits::select_bits;
 use operand_rules::Verdict;
 use operand_rules::bits::compare_bits;
@@ -24,9 +25,9 @@ use store::terms_at::term_at;
 use terms::Term;
 
 // The bits of the width w, as a constant of that width.
-fn width_bits(job: &[u8], work: &[u8], n: usize, w: usize) -> [u32; 64]
+fn width_bits(job: &[u8], work: &[u8], n: usize, w: usize) -> [u32; MAX_BITS]
     requires { ⌜ Store (now job) (now work) n ⌝ }
-    requires { ⌜ (1 ≤ w) × (w ≤ 64) ⌝ }
+    requires { ⌜ (1 ≤ w) × (w ≤ max-width) ⌝ }
     ensures { λ r. ⌜ take w r ≡ map (number-in (now (job .entry)) (now (work .entry)) n) (width-bits w) ⌝ }
 {
     let size = constant(job, work, n, w as u32, w as u64);

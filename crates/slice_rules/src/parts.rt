@@ -6,7 +6,7 @@ ghost use Prim.Native.Nat.{_+_, _<_, _≤_};
 ghost use lib.Dec.{eqb};
 ghost use lib.ListN.{drop};
 ghost use lib.Seq.{paste};
-ghost use Rattle.theory.specs.Limit.{first-terms};
+ghost use Rattle.theory.specs.Limit.{first-terms, max-width};
 ghost use Rattle.theory.specs.Bits.{get-term-bits, bb, extract-bits, concat-bits, extend-bits};
 ghost use Rattle.theory.specs.Verdict.{held};
 ghost use Rattle.theory.specs.RuleTable.{by-extract, by-concat, by-sign-extend};
@@ -15,6 +15,7 @@ ghost use Rattle.terms.specs.Decoded.{words-in};
 ghost use Rattle.store.specs.Store.{Store};
 ghost use Rattle.operand_rules.specs.Rules.{tree, verdict-of};
 ghost use Rattle.slice_rules.specs.Given.{Extract, Extend, Concat};
+use circuits::bits::MAX_BITS;
 use operand_rules::Verdict;
 use operand_rules::bits::compare_bits;
 use operand_rules::bits::get_term_bits;
@@ -24,8 +25,14 @@ use terms::Args;
 use terms::Term;
 
 // `out` with `count` bits of xs, those from `from` on, in the places from `start` on.
-fn put_bits(out: [u32; 64], start: usize, xs: [u32; 64], from: usize, count: usize) -> [u32; 64]
-    requires { ⌜ (start + count ≤ 64) × (from + count ≤ 64) ⌝ }
+fn put_bits(
+    out: [u32; MAX_BITS],
+    start: usize,
+    xs: [u32; MAX_BITS],
+    from: usize,
+    count: usize,
+) -> [u32; MAX_BITS]
+    requires { ⌜ (start + count ≤ max-width) × (from + count ≤ max-width) ⌝ }
     ensures { λ r. ⌜ r ≡ paste out start (drop from xs) count ⌝ }
 {
     let mut bits = out;
@@ -46,7 +53,7 @@ fn extract_check(job: &[u8], work: &[u8], n: usize, i: u32, j: u32, x: u32, clai
     let xs = get_term_bits(job, work, n, x, w);
     let low = j as usize;
     let count = (i - j) as usize + 1;
-    let bits = put_bits([0; 64], 0, xs, low, count);
+    let bits = put_bits([0; MAX_BITS], 0, xs, low, count);
     compare_bits(job, work, n, bits, count, claim)
 }
 
@@ -77,7 +84,7 @@ fn sign_extend_check(job: &[u8], work: &[u8], n: usize, k: u32, x: u32, claim: u
     }
     let w = width_at(job, work, n, x);
     let xs = get_term_bits(job, work, n, x, w);
-    let tops = [xs[w - 1]; 64];
+    let tops = [xs[w - 1]; MAX_BITS];
     let bits = put_bits(tops, 0, xs, 0, w);
     compare_bits(job, work, n, bits, w + k as usize, claim)
 }
@@ -101,7 +108,7 @@ fn concat_check(job: &[u8], work: &[u8], n: usize, list: Args, claim: u32) -> Ve
     requires { ⌜ Concat (now job) (now work) n list claim ⌝ }
     ensures { λ v. ⌜ verdict-of v ≡ compare held (bb (concat-bits (map (tree (now (job .entry)) (now (work .entry)) n) (words-in (now (job .entry)) list)))) (tree (now (job .entry)) (now (work .entry)) n claim) ⌝ }
 {
-    let mut bits = [0u32; 64];
+    let mut bits = [0u32; MAX_BITS];
     let mut w: usize = 0;
     let mut i = list.count;
     while 0 < i {
