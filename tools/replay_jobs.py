@@ -1,8 +1,8 @@
 #!/usr/bin/env python3
-"""The jobs of crates/replay, and what the original answers to each.
+"""The generated jobs of crates/replay, and what the original answers to each; the jobs of listed_jobs.py follow them there.
 
-    replay_jobs.py write ORACLE      make crates/replay/data/jobs and crates/replay/stdout
-    replay_jobs.py compare ORACLE    ask the original again about every job of the list
+    replay_jobs.py write ORACLE      make crates/replay/data/jobs and crates/replay/stdout (then set GENERATED, and `listed_jobs.py write`)
+    replay_jobs.py compare ORACLE    ask the original again about every generated job
 
 ORACLE is a program that answers jobs by the original bitvectors.rs (see oracle/README.md). `write` has it make COUNT jobs from
 SEED, and takes of each sort the first MOST that are short, and of the others those that show an answer (rule, code, width) or a stop
@@ -16,6 +16,7 @@ import sys
 import tempfile
 
 SEED, COUNT = 11, 3500
+GENERATED = 945               # so many were taken
 MOST = 40                      # jobs of one sort
 SHORT, LONGEST = 600, 6000    # bytes of a job
 LENT = 65536                  # the most that replay lends
@@ -37,7 +38,7 @@ def answered(fields):
 
 
 def printed(fields):
-    return " ".join(fields[k] for k in ("stop", "records", "answers", "terms", "bytes")) + "\n"
+    return " ".join(str(fields[k]) for k in ("stop", "records", "answers", "terms", "bytes")) + "\n"
 
 
 def head(work, room, job):
@@ -74,13 +75,13 @@ def write(oracle):
 
 def compare(oracle):
     bad = 0
-    lines, out = open(JOBS).read().splitlines(), open(STDOUT).read().splitlines(keepends=True)
-    if len(lines) != len(out):
-        sys.exit(f"{len(lines)} jobs, but {len(out)} lines of output")
+    lines, out = (open(path).read().splitlines(keepends=True)[:GENERATED] for path in (JOBS, STDOUT))
+    if not len(lines) == len(out) == GENERATED:
+        sys.exit(f"{len(lines)} jobs and {len(out)} lines of output, not {GENERATED}")
     with tempfile.TemporaryDirectory() as folder:
         path = os.path.join(folder, "a.job")
         for number, (line, said) in enumerate(zip(lines, out), 1):
-            work, room, size, *job = line.split(" ")
+            work, room, size, *job = line.split()
             open(path, "wb").write(bytes.fromhex("".join(job)))
             asked = subprocess.run([oracle, "case", path, str(int(work, 16)), str(int(room, 16))], capture_output=True, text=True, check=True)
             if printed(expected(asked.stdout)) != said:

@@ -1,6 +1,5 @@
 pub mod Positions
 pub mod Walks
 pub mod Calls
-pub mod Fresh
 pub mod Enough
 pub mod Tallied

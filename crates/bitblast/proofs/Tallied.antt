@@ -20,5 +20,5 @@ pub counted : (l : Lent) → let c = call (l .job) (l .work) (l .answers) in ans
 counted l =
     let c = call (l .job) (l .work) (l .answers) in
     let k = answers-kept (l .job) (l .work) (l .answers) .0 in
-    let f = run-fits (l .job) (length (l .work)) (length (l .answers)) .0 in
+    let f = run-fits (l .job) (length (l .work)) (length (l .answers)) .answers-fit in
     ap (λ (n : ℕ). decode-answers n (c .answer-memory)) (all-whole (length (c .answer-memory)) (c .result .answers) (omega arith))

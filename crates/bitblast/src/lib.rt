@@ -7,6 +7,7 @@ ghost use lib.ListN.{length};
 ghost use Rattle.theory.specs.Answer.{decode-answers};
 ghost use Rattle.theory.specs.Job.{call};
 ghost use Rattle.theory.specs.Demand.{Demand3};
+ghost use Rattle.theory.specs.Demands.{Stops, Demand2};
 ghost use Rattle.bitblast.specs.Walking.{told, Enough};
 use crate::walk::walk;
 
@@ -58,7 +59,11 @@ pub extern "C" fn bb_job(job: &[u8], work: &mut [u8], answers: &mut [u8]) -> Out
     ensures result { λ r. ⌜ told r ≡ call (now (job .entry)) (now (work .entry)) (now (answers .entry)) .result ⌝ }
     ensures answers { λ _. ⌜ now (answers .exit) ≡ call (now (job .entry)) (now (work .entry)) (now (answers .entry)) .answer-memory ⌝ }
     ensures work { λ _. ⌜ now (work .exit) ≡ call (now (job .entry)) (now (work .entry)) (now (answers .entry)) .work-memory ⌝ }
-    ensures demand3 { λ r. ⌜ Demand3 (now (job .entry)) (length (now (work .entry))) (length (now (answers .entry))) (r .records) (decode-answers (r .answers) (now (answers .exit))) ⌝ }
+    ensures demand1 { λ r. ⌜ Stops (now (job .entry)) (length (now (work .entry))) (length (now (answers .entry))) (r .stop) (r .records) ⌝ }
+    ensures demand2 { λ r. ⌜ Demand2 (now (job .entry)) (length (now (work .entry))) (length (now (answers .entry)))
+        (decode-answers (r .answers) (now (answers .exit))) ⌝ }
+    ensures demand3 { λ r. ⌜ Demand3 (now (job .entry)) (length (now (work .entry))) (length (now (answers .entry))) (r .records)
+        (decode-answers (r .answers) (now (answers .exit))) ⌝ }
 {
     let n = used(job.len(), work.len());
     let outcome = check_job(job, &mut work[..n], answers);

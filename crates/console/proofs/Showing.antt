@@ -7,11 +7,10 @@ use native.Mathlib.Omega.{arith}
 use borrow.Author.Tests.{le-leb, lt-leb}
 use lib.ListN.{length, drop, length-append}
 use Rattle.theory.specs.Limit.{answer-bytes}
-use Rattle.theory.specs.Record.{Bytes}
+use Rattle.theory.specs.Record.{Bytes, AllBytes}
 use Rattle.theory.specs.Answer.{Answer}
 use Rattle.theory.specs.Job.{Returned, run, answers-after, call}
 use Rattle.theory.specs.Program.{memory, end-line, too-long-text, outcome-text, bbcheck}
-use Rattle.theory.proofs.Bytes.{AllBytes}
 use Rattle.theory.proofs.Bounds.{run-fits}
 use Rattle.theory.proofs.Written.{answers-read, answers-kept}
 use Rattle.report.specs.Text.{head-space, line-space, report-text, too-long, written}
@@ -58,7 +57,7 @@ module _ (input old : Bytes) where
   run-shown work answers bytes w a h l =
       let o = run input (length work) (length answers) in
       let n = length (o .answers) in
-      let f = run-fits input (length work) (length answers) .0 in
+      let f = run-fits input (length work) (length answers) .answers-fit in
       let k = answers-kept input work answers .0 in
       rw (
         le-leb (n * answer-bytes) (length (answers-after (o .answers) answers)) (omega arith),

@@ -16,7 +16,7 @@ use Rattle.theory.specs.Kind.{Op, True}
 use Rattle.theory.specs.Term.{Term, node, nil, same-numbers}
 use Rattle.theory.specs.Sort.{Sort, bad, bool, bv, good, same-sort, sort-of, sort-width, first}
 use Rattle.theory.specs.Depth.{depth}
-use Rattle.theory.specs.Record.{Bytes, little-endian, word, extent, whole, term, read}
+use Rattle.theory.specs.Record.{Bytes, AllBytes, little-endian, word, extent, whole, term, read}
 use Rattle.theory.specs.Plain.{Entry, entry, Plain, term-of, has, put, feed, feed-item}
 use Rattle.theory.specs.Plain as P
 use Rattle.theory.specs.Codes.{all-below, first-fault, well-sorted, room}
@@ -26,7 +26,7 @@ use Rattle.theory.proofs.Bytes.{take-bytes, drop-bytes}
 use Rattle.theory.proofs.Bounds.{depth-step, deepest-le}
 use Rattle.theory.proofs.Basics.{some-inj, foldl-append, getElem-of, T-true}
 use Rattle.theory.proofs.Same.{same-numbers-eq}
-use Rattle.theory.proofs.Bytes.{AllBytes, Sound, says-term}
+use Rattle.theory.proofs.Bytes.{Sound, says-term}
 use Rattle.theory.proofs.Sorts.{sized, sorts-sized}
 use Rattle.theory.proofs.Places.{entry-at, tree-at, tree-of, tree-at-old, term-of-is}
 use Rattle.theory.proofs.Run.{AllGood}

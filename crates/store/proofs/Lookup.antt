@@ -14,13 +14,13 @@ use Rattle.theory.specs.Kind.{Op, True, False, Not, And, Or, Xor, Equals, Ite, 
 use Rattle.theory.specs.Term.{Term, node, nil, cons, fold, folds, from-list, same-numbers, same-op}
 use Rattle.theory.specs.Optional.{either, cons-some, collect}
 use Rattle.theory.specs.Gates.{term-gates}
-use Rattle.theory.specs.Record.{Bytes, bytes-of, term, misfit, plain, shape-of, body-of, read, front}
+use Rattle.theory.specs.Record.{Bytes, AllBytes, bytes-of, term, misfit, plain, shape-of, body-of, read, front}
 use Rattle.theory.specs.Plain.{Entry, entry, Plain}
 use Rattle.theory.proofs.Basics.{none-some, some-inj, cons-some-is, getElem-lt, T-true, true-T, T-same}
 use Rattle.theory.proofs.Natural.{Hom}
 use Rattle.theory.proofs.Blast.{folds-from-list}
 use Rattle.theory.proofs.Same.{same-op-eq}
-use Rattle.theory.proofs.Bytes.{AllBytes, words-length, Sound, SaysTerm, says-term, same-record, not-constant}
+use Rattle.theory.proofs.Bytes.{words-length, Sound, SaysTerm, says-term, same-record, not-constant}
 use Rattle.theory.proofs.Distinct.{WellKept}
 use Rattle.theory.specs.Bits.{bb}
 use Rattle.theory.proofs.Places.{tree-at}

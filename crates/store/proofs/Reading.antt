@@ -11,8 +11,8 @@ use lib.Ieee.Fits.{and-l, and-r}
 use lib.ListN.{length, length-append}
 use Rattle.theory.specs.Limit.{number-bytes, value-bytes, max-terms}
 use Rattle.theory.specs.Kind.{Op, Const, kind, Arity, exactly, arity, takes}
-use Rattle.theory.specs.Record.{Bytes, little-endian, word, words, bytes-of, kind-of, body-of, fits, arguments, Shape, plain, indexed, valued, shape-of, term, misfit, read-term, read-step, read-back, read}
-use Rattle.theory.proofs.Bytes.{AllBytes, Sound}
+use Rattle.theory.specs.Record.{Bytes, AllBytes, little-endian, word, words, bytes-of, kind-of, body-of, fits, arguments, Shape, plain, indexed, valued, shape-of, term, misfit, read-term, read-step, read-back, read}
+use Rattle.theory.proofs.Bytes.{Sound}
 use Rattle.table.specs.Keys.{record-of, words-bytes, all-places}
 use Rattle.table.proofs.KeyLaws.{words-bytes-length}
 use Rattle.theory.proofs.Basics.{T-true}

@@ -8,8 +8,7 @@ use mir.Syntax.{w8}
 use mir.Val.{Fits}
 use lib.ListN.{length, take, drop, getD, length-drop, List·getD-eq-default}
 use lib.Seq.{take-nil, getD-drop, drop-drop}
-use Rattle.theory.specs.Record.{Bytes, little-endian}
-use Rattle.theory.proofs.Bytes.{AllBytes}
+use Rattle.theory.specs.Record.{Bytes, AllBytes, little-endian}
 
 -- ---- bytes
 -- every element of a slice of bytes is one

@@ -1,4 +1,4 @@
--- Each circuit of Circuit.antt and Bits.antt is the one that Alethe states bit by bit in specs/Alethe.antt: over any gates, for lists of one length.
+-- Each circuit of Circuit.antt and Bits.antt is the one that specs/Alethe.antt has bit by bit: over any gates, for lists of one length.
 -- The d of `bit-of d` stands where a list has ended: no circuit reads it.
 use mathlib.Core.Path.{_≡_, ap, ap₂, refl, _∙_}
 use mathlib.Core.List.{List, [], _∷_, _++_, map}
@@ -18,26 +18,26 @@ use Rattle.theory.proofs.Loops.{mult-bits}
 
 -- ---- for bits given by index
 module _ {A : Type 0} (G : Gates A) (x y : ℕ → A) where
-  adder-by : (n : ℕ) (c : A) → ripple-carry-adder G c (bits n x) (bits n y) ≡ bits n (sum-at G c x y)
+  pub adder-by : (n : ℕ) (c : A) → ripple-carry-adder G c (bits n x) (bits n y) ≡ bits n (sum-at G c x y)
   adder-by n c = adder-bits G n n x y (carry-at G c x y) (le-refl n) (λ i. refl)
 
-  ult-by : (n : ℕ) → bitblast-ult G (bits n x) (bits n y) ≡ bvult G n x y
+  pub ult-by : (n : ℕ) → bitblast-ult G (bits n x) (bits n y) ≡ bvult G n x y
   unfolding bitblast-ult
   ult-by zero = refl
   ult-by (suc n) = ult-bits G n (λ i. x (suc i)) (λ i. y (suc i)) (less-at G x y) (λ i. refl)
 
-  slt-by : (n : ℕ) → slt G (bits n x) (bits n y) ≡ bvslt G n x y
+  pub slt-by : (n : ℕ) → slt G (bits n x) (bits n y) ≡ bvslt G n x y
   unfolding slt
   slt-by zero = refl
   slt-by (suc zero) = refl
   slt-by (suc (suc n)) = slt-bits G n (λ i. x (suc i)) (λ i. y (suc i)) (less-at G x y) (λ i. refl)
 
-  mult-by : (n : ℕ) → shift-add-multiplier G (bits n x) (bits n y) ≡ bvmul G n x y
+  pub mult-by : (n : ℕ) → shift-add-multiplier G (bits n x) (bits n y) ≡ bvmul G n x y
   unfolding shift-add-multiplier
   mult-by zero = refl
   mult-by (suc n) = mult-bits G x y n
 
-  gather-by : (n : ℕ) → gather G (bitwise (G .eq-gate) n x y) ≡ bvequal G n x y
+  pub gather-by : (n : ℕ) → gather G (bitwise (G .eq-gate) n x y) ≡ bvequal G n x y
   unfolding gather
   gather-by zero = refl
   gather-by (suc zero) = refl

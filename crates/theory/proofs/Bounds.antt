@@ -12,12 +12,12 @@ use Rattle.theory.specs.Kind.{Op, True, False, kind}
 use Rattle.theory.specs.Term.{Term, node, nil, from-list}
 use Rattle.theory.specs.Sort.{Sort, first, sorts-of}
 use Rattle.theory.specs.Depth.{gate-kind, depth-op, depth, deepest}
-use Rattle.theory.specs.Record.{Bytes, records-of, Item, term, step, back, unknown, misfit, read, is-step, step-count}
+use Rattle.theory.specs.Record.{Bytes, AllBytes, records-of, Item, term, step, back, unknown, misfit, read, is-step, step-count}
 use Rattle.theory.specs.Plain.{Plain, entry, has, feed, plain-after}
 use Rattle.theory.specs.Codes.{first-fault, all-below, room, tests, fault}
 use Rattle.theory.specs.Job.{run}
+use Rattle.theory.specs.Claim.{LentEnough}
 use Rattle.theory.proofs.Basics.{or-not}
-use Rattle.theory.proofs.Bytes.{AllBytes}
 use Rattle.theory.proofs.Places.{tree-at, tree-of}
 use Rattle.theory.proofs.Run.{step-passed, fed, ran, plain-ind, plain-next, count-next}
 use Rattle.theory.proofs.Distinct.{WellKept, tree-0, tree-1, kept-at, plain-well}
@@ -68,17 +68,17 @@ module _ (job : Bytes) (work space : ℕ) where
       plain-ind job work space (λ m. answer-bytes * step-count (take m (records-of job)) ≤ space) (omega arith)
       (λ m r l e p f. subst (λ (k : ℕ). answer-bytes * k ≤ space) (sym (count-next job work space m r e)) (step-fits work space (plain-after m job) (step-count (take m (records-of job))) r p f))
 
-  -- the answers fit into the answers' memory, the kept terms into the work memory, and their numbers into 65,535
-  pub run-fits : let o = run job work space in (answer-bytes * length (o .answers) ≤ space) × (term-bytes * (o .terms - first-terms) ≤ work) × (o .terms ≤ max-terms)
-  run-fits =
-      let o = run job work space in
-      let h = ran job work space in
-      let t = terms-fit (o .records) (omega arith) in
-      let e = h .terms-are in (
-        subst (λ (n : ℕ). answer-bytes * n ≤ space) (sym (h .answers-are)) (answers-fit (o .records) (omega arith)),
-        (let x = t .terms-fit in omega arith),
-        (let y = t .numbers-fit in omega arith),
-      )
+pub run-fits : LentEnough
+run-fits job work space =
+    let o = run job work space in
+    let h = ran job work space in
+    let t = terms-fit job work space (o .records) (omega arith) in
+    let e = h .terms-are in
+    record {
+      answers-fit = subst (λ (n : ℕ). answer-bytes * n ≤ space) (sym (h .answers-are)) (answers-fit job work space (o .records) (omega arith));
+      terms-fit = let x = t .terms-fit in omega arith;
+      numbers-fit = let y = t .numbers-fit in omega arith;
+    }
 
 -- ---- depths
 pub depth-step : (o : Op) (s : Sort) (d : ℕ) → depth-op o s d ≤ suc d

@@ -11,14 +11,10 @@ use lib.ListN.{length, take, drop, getElem?, length-take, length-drop, take-appe
 use lib.Seq.{take-take, take-add}
 use Rattle.theory.specs.Limit.{number-bytes, value-bytes}
 use Rattle.theory.specs.Kind.{Op, kind, arity, takes}
-use Rattle.theory.specs.Record.{Bytes, little-endian, word, words, extent, whole, cut, records-of, kind-of, body-of, fits, arguments, Shape, plain, indexed, twice-indexed, valued, front, make, shapes, find-shape, shape-of, Item, term, step, back, misfit, read, read-term, read-step, read-back}
+use Rattle.theory.specs.Record.{Bytes, AllBytes, little-endian, word, words, extent, whole, cut, records-of, kind-of, body-of, fits, arguments, Shape, plain, indexed, twice-indexed, valued, front, make, shapes, find-shape, shape-of, Item, term, step, back, misfit, read, read-term, read-step, read-back}
 use Rattle.theory.proofs.Basics.{none-some, some-inj}
 
 -- ---- lists of bytes
-abbrev pub AllBytes : Bytes → Type 0
-AllBytes [] = Unit {0}
-AllBytes (b ∷ bs) = (b < 256) × AllBytes bs
-
 pub take-bytes : (n : ℕ) (bs : Bytes) → AllBytes bs → AllBytes (take n bs)
 take-bytes zero bs h = tt
 take-bytes (suc n) [] h = tt

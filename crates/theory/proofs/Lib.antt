@@ -31,7 +31,13 @@ pub mod Tallies
 pub mod Logarithm
 pub mod Signs
 pub mod Written
+pub mod Fresh
 pub mod Specimens
+pub mod Worked
 pub mod Computed
 pub mod Printed
 pub mod ShutOut
+pub mod ShutOutHeld
+pub mod Demands
+pub mod AletheRules
+pub mod LeftOut

@@ -8,8 +8,8 @@ use Prim.Native.Nat.{ℕ, zero, suc, _+_, _*_, _<_, _≤_}
 use native.Mathlib.Nat.{suc-add}
 use native.Mathlib.Numerals.{add-one}
 use native.Mathlib.Omega.{arith}
-use native.Mathlib.Decide.{ℕ-discrete}
-use lib.Dec.{T, leb, leb→le}
+use native.Mathlib.Decide.{ℕ-discrete, decLe}
+use lib.Dec.{T, leb, leb→le, le→leb}
 use lib.Ieee.Fits.{and-l, and-r}
 use lib.ListN.{length, take, getD, getElem?, length-append}
 use lib.Seq.{take-append-seam, take-suc}
@@ -23,6 +23,7 @@ use Rattle.theory.specs.Record.{Bytes, records-of, ending, Item, term, s
 use Rattle.theory.specs.Plain.{Entry, entry, Plain, start, at-places, term-of, has, put, feed-item, feed, plain-after}
 use Rattle.theory.specs.Codes.{first-fault, all-below, well-sorted, room, tests, fault}
 use Rattle.theory.specs.Answer.{Answer}
+use Rattle.theory.specs.Demands.{Stops, too-long, at-record, at-end}
 use Rattle.theory.specs.Job.{answer-to, reply, item-answers, answers-to, Outcome, outcome, run-from, run}
 use Rattle.theory.proofs.Basics.{none-some, some-inj, taken, foldl-append, getElem-of, getElem-lt, getElem-seam, snoc-elim}
 use Rattle.theory.proofs.Stops.{Stop, fault-code, ending-code}
@@ -284,10 +285,11 @@ module _ (job : Bytes) (work space : ℕ) where
     pub answers-are : length (o .answers) ≡ step-count (take (o .records) (records-of job))
     pub all-passed : (m : ℕ) (r : Bytes) → m < o .records → getElem? (records-of job) m ≡ some r → Passes m r
     pub exact-answers : (k : ℕ) (a : Answer) → getElem? (o .answers) k ≡ some a → Answered (o .records) k a
+    pub why : Stops job work space (o .stop) (o .records)
 
   stopped : (stop : ℕ) (pre rs : List Bytes) (list : Plain) (answers : List Answer) → records-of job ≡ pre ++ rs → Good pre list answers
-      → ((m : ℕ) → m < length pre → length job ≤ max-job) → Stop stop → Ran (outcome stop (length pre) answers list)
-  stopped stop pre rs list answers all g short code =
+      → ((m : ℕ) → m < length pre → length job ≤ max-job) → Stop stop → Stops job work space stop (length pre) → Ran (outcome stop (length pre) answers list)
+  stopped stop pre rs list answers all g short code why =
       let t : take (length pre) (records-of job) ≡ pre = ap (take (length pre)) all ∙ take-append-seam pre rs in
       let p : list ≡ plain-after (length pre) job = g .plain ∙ ap (foldl feed start) (sym t) in
       let l : length (records-of job) ≡ length pre + length rs = ap length all ∙ length-append pre rs in
@@ -300,6 +302,7 @@ module _ (job : Bytes) (work space : ℕ) where
         answers-are = g .counted ∙ ap step-count (sym t);
         all-passed = g .passed;
         exact-answers = g .exact;
+        why = why;
       }
 
   by-fault : (f : ℕ) (x : Outcome) (y : ℕ → Outcome) → (f ≡ 0 → Ran x) → ((c : ℕ) → f ≡ suc c → Ran (y c))
@@ -307,35 +310,52 @@ module _ (job : Bytes) (work space : ℕ) where
   by-fault zero x y p q = p refl
   by-fault (suc c) x y p q = q c refl
 
-  module _ (end : ℕ) (stop : Stop end) (short : length job ≤ max-job) where
+  -- why it stops at record r, or where none is left
+  why-fault : (pre : List Bytes) (list : Plain) (answers : List Answer) (r : Bytes) (rs : List Bytes) → length job ≤ max-job → records-of job ≡ pre ++ (r ∷ rs)
+      → Good pre list answers → (c : ℕ) → fault work space list (length answers) r ≡ suc c → Stops job work space (suc c) (length pre)
+  why-fault pre list answers r rs short all g c e =
+      let t : take (length pre) (records-of job) ≡ pre = ap (take (length pre)) all ∙ take-append-seam pre (r ∷ rs) in
+      at-record short (ap (λ (l : List Bytes). getElem? l (length pre)) all ∙ getElem-seam pre r rs)
+      (subst₂ (λ (l : Plain) (k : ℕ). fault work space l k r ≡ suc c) (g .plain ∙ ap (foldl feed start) (sym t)) (g .counted ∙ ap step-count (sym t)) e)
+      (g .passed)
+
+  why-end : (pre : List Bytes) (list : Plain) (answers : List Answer) → length job ≤ max-job → records-of job ≡ pre ++ [] → Good pre list answers
+      → Stops job work space (ending job) (length pre)
+  why-end pre list answers short all g = at-end short (ap length (all ∙ append-nil pre)) (g .passed)
+
+  module _ (short : length job ≤ max-job) where
     runs : (rs pre : List Bytes) (list : Plain) (answers : List Answer) (done : ℕ) → done ≡ length pre → records-of job ≡ pre ++ rs → Good pre list answers
-        → Ran (run-from work space end done list answers rs)
+        → Ran (run-from work space (ending job) done list answers rs)
     unfolding run-from
     runs [] pre list answers done d all g =
-        subst (λ (n : ℕ). Ran (outcome end n answers list)) (sym d) (stopped end pre [] list answers all g (λ m l. short) stop)
+        subst (λ (n : ℕ). Ran (outcome (ending job) n answers list)) (sym d) (stopped (ending job) pre [] list answers all g (λ m l. short) (ending-code job) (why-end pre list answers short all g))
     runs (r ∷ rs) pre list answers done d all g =
-        by-fault (fault work space list (length answers) r) (run-from work space end (suc done) (feed list r) (answers ++ answers-to list r) rs) (λ c. outcome (suc c) done answers list)
+        by-fault (fault work space list (length answers) r) (run-from work space (ending job) (suc done) (feed list r) (answers ++ answers-to list r) rs) (λ c. outcome (suc c) done answers list)
         (λ e. runs rs (pre ++ (r ∷ [])) (feed list r) (answers ++ answers-to list r) (suc done)
         (ap suc d ∙ sym (length-append pre (r ∷ []) ∙ add-one (length pre)))
         (all ∙ sym (append-assoc pre (r ∷ []) rs))
         (next pre list answers r rs all g e))
         (λ c e. subst (λ (n : ℕ). Ran (outcome (suc c) n answers list)) (sym d)
-        (stopped (suc c) pre (r ∷ rs) list answers all g (λ m l. short) (subst Stop e (fault-code work space list (length answers) r))))
+        (stopped (suc c) pre (r ∷ rs) list answers all g (λ m l. short) (subst Stop e (fault-code work space list (length answers) r)) (why-fault pre list answers r rs short all g c e)))
 
   good-start : Good [] start []
   good-start = record { plain = refl; sorted = start-good; counted = refl; exact = λ k a f. absurd (none-some a f); passed = λ m r l f. absurd (omega arith) }
 
-  by-length : (b : Bool) → (T b → length job ≤ max-job) → (x y : Outcome) → (length job ≤ max-job → Ran x) → Ran y
+  by-length : (b : Bool) → leb (length job) max-job ≡ b → (x y : Outcome) → (length job ≤ max-job → Ran x) → (max-job < length job → Ran y)
       → Ran (elim b as (λ z. Outcome) [ true ↦ x | false ↦ y ])
-  by-length true f x y p q = p (f tt)
-  by-length false f x y p q = q
+  by-length true e x y p q = p (leb→le (length job) max-job (subst T (sym e) tt))
+  by-length false e x y p q = q (longer (decLe (suc max-job) (length job)))
+    where
+      longer : Dec (suc max-job ≤ length job) → max-job < length job
+      longer (yes h) = h
+      longer (no h) = absurd (subst T e (le→leb (length job) max-job (omega arith)))
 
   pub ran : Ran (run job work space)
   unfolding run
   ran =
-      by-length (leb (length job) max-job) (leb→le (length job) max-job) (run-from work space (ending job) 0 start [] (records-of job)) (outcome 2 0 [] start)
-      (λ s. runs (ending job) (ending-code job) s (records-of job) [] start [] 0 refl refl good-start)
-      (stopped 2 [] (records-of job) start [] refl good-start (λ m l. absurd (omega arith)) tt)
+      by-length (leb (length job) max-job) refl (run-from work space (ending job) 0 start [] (records-of job)) (outcome 2 0 [] start)
+      (λ s. runs s (records-of job) [] start [] 0 refl refl good-start)
+      (λ h. stopped 2 [] (records-of job) start [] refl good-start (λ m l. absurd (omega arith)) tt (too-long h))
 
   take-next : (m : ℕ) (r : Bytes) → getElem? (records-of job) m ≡ some r → take (suc m) (records-of job) ≡ take m (records-of job) ++ (r ∷ [])
   take-next m r e =

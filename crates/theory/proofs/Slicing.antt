@@ -89,7 +89,7 @@ whole : (p q : Term) → T (is-bv-sort (sort-of (two BvAnd p q))) → sort-of (t
 unfolding fold
 whole p q t = bv-guard _ (sort-of p) t
 
-slice-sort : (i j : ℕ) (a c : Term) → let s = two BvAnd (node (BvExtract i j) (cons a nil)) (node (BvExtract i j) (cons c nil)) in
+pub slice-sort : (i j : ℕ) (a c : Term) → let s = two BvAnd (node (BvExtract i j) (cons a nil)) (node (BvExtract i j) (cons c nil)) in
     T (is-bv-sort (sort-of s)) → (j ≤ i) × (sort-of s ≡ bv (suc (i - j)))
 slice-sort i j a c h =
     let p = node (BvExtract i j) (cons a nil) in

@@ -30,7 +30,7 @@ use Rattle.theory.proofs.Form.{not-held, then-held, form-held, same-of,
 use Rattle.theory.proofs.Slicing.{slicing-holds}
 
 -- ---- what a good sort says of the arguments
-guard-good : (b : Bool) (s : Sort) → T (good (guard b s)) → T b × (guard b s ≡ s)
+pub guard-good : (b : Bool) (s : Sort) → T (good (guard b s)) → T b × (guard b s ≡ s)
 unfolding guard
 guard-good true s h = (tt, refl)
 guard-good false s h = absurd h
@@ -176,7 +176,7 @@ shl-right ρ x y n sx sy = shl-holds ρ x y n sx sy (width-of-sort x n sx)
 lshr-right : (ρ : Assign) (x y : Term) (n : ℕ) → sort-of x ≡ bv n → sort-of y ≡ bv n → value ρ (shifted (lshr term-gates) x y) ≡ value ρ (two BvLShr x y)
 lshr-right ρ x y n sx sy = lshr-holds ρ x y n sx sy (width-of-sort x n sx)
 
-and-pair : (a c : Term) → T (good (sort-of (two BvAnd a c)))
+pub and-pair : (a c : Term) → T (good (sort-of (two BvAnd a c)))
     → (sort-of a ≡ bv (sort-width (sort-of a))) × (sort-of c ≡ bv (sort-width (sort-of a))) × (sort-of (two BvAnd a c) ≡ bv (sort-width (sort-of a)))
 unfolding fold
 and-pair a c h =
@@ -190,7 +190,7 @@ unfolding fold
 equals-bool x y h = guard-good _ bool h .1
 
 -- ---- rule 1
-const-args : (n x : ℕ) (ts : List Term) → T (good (sort-of (node (Const n x) (from-list ts)))) → (ts ≡ []) × (sort-of (node (Const n x) (from-list ts)) ≡ bv n)
+pub const-args : (n x : ℕ) (ts : List Term) → T (good (sort-of (node (Const n x) (from-list ts)))) → (ts ≡ []) × (sort-of (node (Const n x) (from-list ts)) ≡ bv n)
 unfolding fold
 const-args n x [] h = (refl, guard-good _ (bv n) h .1)
 const-args n x (t ∷ ts) h =
@@ -268,7 +268,7 @@ extract-held l r g e ρ =
     ∙ ap (value ρ) (same-of (bb (extract-bits (index-of 0 l) (index-of 1 l) (get-term-bits x))) r (f .2))
 
 -- ---- rule 16
-concat-sort : (ts : Terms) → T (good (sort-of (node BvConcat ts))) → sort-of (node BvConcat ts) ≡ bv (sum-widths (sorts-of ts))
+pub concat-sort : (ts : Terms) → T (good (sort-of (node BvConcat ts))) → sort-of (node BvConcat ts) ≡ bv (sum-widths (sorts-of ts))
 unfolding fold
 concat-sort ts h = guard-good _ (bv (sum-widths (sorts-of ts))) h .1
 

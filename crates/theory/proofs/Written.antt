@@ -16,19 +16,20 @@ use Rattle.theory.specs.Optional.{either}
 use Rattle.theory.specs.Verdict.{accepted}
 use Rattle.theory.specs.RuleTable.{Rule, rules, rule-at}
 use Rattle.theory.specs.Rule.{verdict}
-use Rattle.theory.specs.Record.{Bytes, word, word-bytes}
+use Rattle.theory.specs.Record.{Bytes, AllBytes, word, word-bytes}
 use Rattle.theory.specs.Plain.{Plain, plain-after}
 use Rattle.theory.specs.Codes.{all-below}
 use Rattle.theory.specs.Answer.{Answer, encode-answer, encode-answers, decode-answer, decode-answers}
 use Rattle.theory.specs.Job.{right-depth, answer-to, run, answers-after, call}
 use Rattle.theory.specs.Demand.{Demand3}
+use Rattle.theory.specs.Demands.{Demand2}
 use Rattle.theory.specs.Claim.{element, answer-codes}
 use Rattle.theory.proofs.Basics.{none-some, getElem-lt}
 use Rattle.theory.proofs.Blast.{to-from-list}
-use Rattle.theory.proofs.Bytes.{AllBytes}
 use Rattle.theory.proofs.Places.{tree-at}
 use Rattle.theory.proofs.Run.{ran}
 use Rattle.theory.proofs.Demand.{demand-3, answer-rule}
+use Rattle.theory.proofs.Demands.{demand-2}
 use Rattle.theory.proofs.Distinct.{WellKept, kept-at, tree-0, tree-1, plain-well}
 use Rattle.theory.proofs.Bounds.{terms-fit, run-fits, place-depth}
 use Rattle.theory.proofs.Codes.{answer-codes-are}
@@ -131,6 +132,12 @@ module _ (job : Bytes) (bytes : AllBytes job) (work space : ℕ) where
       let o = run job work space in
       decode-encode (o .answers) (drop (length (encode-answers (o .answers))) old) answers-small
 
+-- demand 2 of a call: the job's bytes, and the answers' memory after it
+pub demand-2-call : (job work old : Bytes) → AllBytes job → let c = call job work old in
+    Demand2 job (length work) (length old) (decode-answers (c .result .answers) (c .answer-memory))
+demand-2-call job work old b =
+    subst (Demand2 job (length work) (length old)) (sym (answers-read job b (length work) (length old) old)) (demand-2 job (length work) (length old))
+
 -- demand 3 of a call: the job's bytes, what the call returns, and the answers' memory after it
 pub demand-3-call : (job work old : Bytes) → AllBytes job → let c = call job work old in
     Demand3 job (length work) (length old) (c .result .records) (decode-answers (c .result .answers) (c .answer-memory))
@@ -145,7 +152,7 @@ answers-kept job work old =
     let o = run job (length work) (length old) in
     let bs = encode-answers (o .answers) in
     let l : length bs ≡ answer-bytes * length (o .answers) = bytes-length (o .answers) in
-    let f : answer-bytes * length (o .answers) ≤ length old = run-fits job (length work) (length old) .0 in
+    let f : answer-bytes * length (o .answers) ≤ length old = run-fits job (length work) (length old) .answers-fit in
     let d : length (drop (length bs) old) ≡ length old - length bs = length-drop (length bs) old in (
       length-append bs (drop (length bs) old) ∙ omega arith,
       drop-at bs (drop (length bs) old) (answer-bytes * length (o .answers)) l ∙ ap (λ (k : ℕ). drop k old) l,

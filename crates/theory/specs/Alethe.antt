@@ -1,5 +1,5 @@
--- The circuits bit by bit, as recurrences over the index, which is how the rules of Alethe are stated; over any gates. docs/DIFFERENCES.md says
--- what they were written from. Bit i of x is `x i`, bit 0 is the lowest, and n is the width.
+-- The circuits bit by bit, as recurrences over the index, in the manner of Alethe's rules as bitvectors.rs follows them; over any gates.
+-- docs/DIFFERENCES.md says what they were written from; Alethe's text was not compared. Bit i of x is `x i`, bit 0 is the lowest, and n is the width.
 -- No bit-vector has width 0: what stands there is only what Circuit.antt gives for empty lists.
 use mathlib.Core.Bool.{cond}
 use mathlib.Core.List.{List, [], _∷_}

@@ -27,7 +27,7 @@ encode-answers [] = []
 encode-answers (a ∷ rest) = encode-answer a ++ encode-answers rest
 
 -- ---- reading
--- an answer at the start of these bytes
+-- an answer at the start of these bytes; a number that is not there reads as 0, so it is asked only where the whole answer is
 abbrev pub decode-answer : Bytes → Answer
 decode-answer bs = record { rule = word (drop (2 * number-bytes) bs); code = word (drop (3 * number-bytes) bs); depth = word (drop (4 * number-bytes) bs) }
 

@@ -1,18 +1,20 @@
--- Statements of document 01 beside the three demands: on codes, on depths, on the tally. Each is proved in proofs/.
+-- Statements of document 01 beside the three demands: on codes, on what is kept, on depths, on the tally. Each is proved in proofs/.
 use mathlib.Core.Path.{_≡_}
 use mathlib.Core.Bool.{Bool, false, _||_}
 use mathlib.Core.List.{List, [], _∷_, map}
 use mathlib.Core.Option.{some}
-use Prim.Native.Nat.{ℕ, _+_, _*_, _<_, _≤_}
+use Prim.Native.Nat.{ℕ, _+_, _-_, _*_, _<_, _≤_}
 use lib.Dec.{T, eqb}
-use lib.ListN.{getElem?}
+use lib.ListN.{length, drop, getElem?}
+use Rattle.theory.specs.Limit.{max-terms, first-terms, term-bytes, answer-bytes}
 use Rattle.theory.specs.Kind.{Equals, BvBbTerm, BvNeg, BvAdd, BvULt, BvSLt}
 use Rattle.theory.specs.Term.{Term, Terms, node, nil, cons, two}
 use Rattle.theory.specs.Sort.{bv, sort-of}
 use Rattle.theory.specs.RuleTable.{Rule, by-ult, by-slt, by-add, by-neg}
-use Rattle.theory.specs.Record.{Bytes}
+use Rattle.theory.specs.Record.{Bytes, AllBytes}
+use Rattle.theory.specs.Plain.{plain-after, at-place}
 use Rattle.theory.specs.Answer.{Answer, decode-answers}
-use Rattle.theory.specs.Job.{answer-to, run, call}
+use Rattle.theory.specs.Job.{answer-to, Outcome, run, call}
 use Rattle.theory.specs.Tally.{Tally, max-tally, tally-of}
 
 -- ---- "Codes 2 to 9, 18 and 19 stop the job; 10 to 17 are answers", beside 0 and 1
@@ -36,6 +38,30 @@ StopCodes = (job : Bytes) (work space : ℕ) → T (element (run job work space 
 -- every answer of every job has one of those
 abbrev pub AnswerCodes : Type 0
 AnswerCodes = (job : Bytes) (work space k : ℕ) (a : Answer) → getElem? (run job work space .answers) k ≡ some a → T (element (a .code) answer-codes)
+
+-- ---- "equal structure, one number"
+-- no term is at two places of the list, after any number of the records done
+abbrev pub OneNumber : Type 0
+OneNumber = (job : Bytes) → AllBytes job → (work space m i j : ℕ) (t : Term) → m ≤ run job work space .records
+    → at-place (plain-after m job) i ≡ some t → at-place (plain-after m job) j ≡ some t → i ≡ j
+
+-- ---- what is lent is enough
+-- the answers fit into their memory, the kept terms into the work memory, and their numbers into 65,535
+pub record Fits (work space : ℕ) (o : Outcome) : Type 0 where
+  pub answers-fit : answer-bytes * length (o .answers) ≤ space
+  pub terms-fit : term-bytes * (o .terms - first-terms) ≤ work
+  pub numbers-fit : o .terms ≤ max-terms
+
+-- of every job
+abbrev pub LentEnough : Type 0
+LentEnough = (job : Bytes) (work space : ℕ) → Fits work space (run job work space)
+
+-- ---- "After every call": nothing of one job reaches the next
+-- a call depends on the job's bytes, the lengths of the two memories, and the bytes past the last answer
+abbrev pub NothingKept : Type 0
+NothingKept = (job work work₂ old old₂ : Bytes) → length work ≡ length work₂ → length old ≡ length old₂
+    → (let n = answer-bytes * call job work old .result .answers in drop n old ≡ drop n old₂)
+    → call job work old ≡ call job work₂ old₂
 
 -- ---- "For rules 8, 9, 12 and two-argument 10, arguments not BvBbTerm, an accepted depth is at most 2 × n + 2"
 -- an argument of width n that is no BvBbTerm

@@ -12,6 +12,8 @@ pub mod Bits
 pub mod Verdict
 pub mod RuleTable
 pub mod Rule
+pub mod AletheRules
+pub mod LeftOut
 pub mod Record
 pub mod Plain
 pub mod Codes
@@ -20,5 +22,7 @@ pub mod Job
 pub mod Tally
 pub mod Program
 pub mod Demand
+pub mod Demands
 pub mod Specimen
+pub mod Worked
 pub mod Claim

@@ -3,7 +3,7 @@
 use mathlib.Core.Bool.{Bool, true, false, _&&_, cond}
 use mathlib.Core.List.{List, [], _∷_}
 use mathlib.Core.Option.{Option, none, some}
-use Prim.Native.Nat.{ℕ, zero, suc, _+_, _-_, _*_, _/_, _%_}
+use Prim.Native.Nat.{ℕ, zero, suc, _+_, _-_, _*_, _/_, _%_, _<_}
 use lib.Dec.{leb, eqb}
 use lib.ListN.{length, take, drop}
 use Rattle.theory.specs.Limit.{max-arguments, number-bytes, value-bytes}
@@ -12,6 +12,11 @@ use Rattle.theory.specs.Kind.{Op, Not, And, Or, Xor, Equals, Ite, BoolVa
 -- bytes; a record too is its bytes
 abbrev pub Bytes : Type 0
 Bytes = List ℕ
+
+-- each is below 256
+abbrev pub AllBytes : Bytes → Type 0
+AllBytes [] = Unit {0}
+AllBytes (b ∷ bs) = (b < 256) × AllBytes bs
 
 -- ---- numbers, little-endian
 -- the lowest byte first

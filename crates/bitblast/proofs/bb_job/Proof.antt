@@ -1,5 +1,5 @@
--- `bb_job`: the job is given as much work memory as it can need, all of it is wiped at the end, and demand 3 follows from what is returned
--- and written.
+-- `bb_job`: the job is given as much work memory as it can need, all of it is wiped at the end, and the demands follow from what is
+-- returned and written.
 use borrow.Author.Needs.{needs}
 use mathlib.Core.Path.{_≡_, sym, ap, _∙_}
 use native.Mathlib.Omega.{arith}

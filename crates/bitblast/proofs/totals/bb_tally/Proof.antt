@@ -188,19 +188,19 @@ module _ {M : Type 1} (𝓤 : URA M) (H : Heap 𝓤) (A : Atoms 𝓤) (W : Given
         -- [the slice's token; what it owns; the struct's cell; what a Tally owns; the open borrow; obs; auth; _5 at 7; _4 at 9; _3 at 11; _2 at 13; _1 at 15; room for _0 at 17]
         let own = LL.owed T.the-type T′.the-laws h _ was in
         assigns ! (of-opd ! (load ! (from ! (hop ! (look ! 15 refl) (fld ! refl (stop !)))) (look-in ! 2 (sub ! 0 refl (whole !))))) (from ! (stop !)) (init ! 7 refl (tt, record { fits = own .0 .1 })) $
-        adds W at-mem run (h .jobs) 1 (own .0 .1) (lit< tt) ! fm known (and-then ! (load ! (from ! (stop !)) (look ! 8 refl)) (and-then ! (lit ! tt) (no-more !))) (λ r₀ f₀ e₀.
+        adds W at-mem run (h .jobs) _ (own .0 .1) (lit< tt) ! fm known (and-then ! (load ! (from ! (stop !)) (look ! 8 refl)) (and-then ! (lit ! tt) (no-more !))) (λ r₀ f₀ e₀.
         land ! (from ! (stop !)) (init ! 9 refl (tt, record { fits = f₀ })) $
         assigns ! (of-opd ! (load ! (from ! (stop !)) (look ! 9 refl))) (from ! (hop ! (look ! 15 refl) (fld ! refl (stop !)))) (store-in ! 2 (sub ! 0 refl (whole !)) (tt, record { fits = f₀ })) $
         assigns ! (of-opd ! (load ! (from ! (hop ! (look ! 15 refl) (fld ! refl (stop !)))) (look-in ! 2 (sub ! 1 refl (whole !))))) (from ! (stop !)) (store ! 7 refl (tt, record { fits = own .1 .0 .1 })) $
-        counts W at-mem run κ′ q′ s n 0 (h .held) n-fits (lit< tt) (own .1 .0 .1) ! fm known-cnt (and-then ! (load ! (from ! (stop !)) (look ! 7 refl)) (and-then ! (load ! (from ! (stop !)) (look ! 13 refl)) (and-then ! (load ! (from ! (stop !)) (look ! 11 refl)) (and-then ! (lit ! tt) (no-more !))))) (λ r₁ f₁ e₁.
+        counts W at-mem run κ′ q′ s n _ (h .held) n-fits (lit< tt) (own .1 .0 .1) ! fm known-cnt (and-then ! (load ! (from ! (stop !)) (look ! 7 refl)) (and-then ! (load ! (from ! (stop !)) (look ! 13 refl)) (and-then ! (load ! (from ! (stop !)) (look ! 11 refl)) (and-then ! (lit ! tt) (no-more !))))) (λ r₁ f₁ e₁.
         land ! (from ! (stop !)) (store ! 9 refl (tt, record { fits = f₁ })) $
         assigns ! (of-opd ! (load ! (from ! (stop !)) (look ! 9 refl))) (from ! (hop ! (look ! 15 refl) (fld ! refl (stop !)))) (store-in ! 2 (sub ! 1 refl (whole !)) (tt, record { fits = f₁ })) $
         assigns ! (of-opd ! (load ! (from ! (hop ! (look ! 15 refl) (fld ! refl (stop !)))) (look-in ! 2 (sub ! 2 refl (whole !))))) (from ! (stop !)) (store ! 7 refl (tt, record { fits = own .1 .1 .0 .1 })) $
-        counts W at-mem run κ′ q′ s n 1 (h .«form_only») n-fits (lit< tt) (own .1 .1 .0 .1) ! fm known-cnt (and-then ! (load ! (from ! (stop !)) (look ! 7 refl)) (and-then ! (load ! (from ! (stop !)) (look ! 13 refl)) (and-then ! (load ! (from ! (stop !)) (look ! 11 refl)) (and-then ! (lit ! tt) (no-more !))))) (λ r₂ f₂ e₂.
+        counts W at-mem run κ′ q′ s n _ (h .«form_only») n-fits (lit< tt) (own .1 .1 .0 .1) ! fm known-cnt (and-then ! (load ! (from ! (stop !)) (look ! 7 refl)) (and-then ! (load ! (from ! (stop !)) (look ! 13 refl)) (and-then ! (load ! (from ! (stop !)) (look ! 11 refl)) (and-then ! (lit ! tt) (no-more !))))) (λ r₂ f₂ e₂.
         land ! (from ! (stop !)) (store ! 9 refl (tt, record { fits = f₂ })) $
         assigns ! (of-opd ! (load ! (from ! (stop !)) (look ! 9 refl))) (from ! (hop ! (look ! 15 refl) (fld ! refl (stop !)))) (store-in ! 2 (sub ! 2 refl (whole !)) (tt, record { fits = f₂ })) $
         assigns ! (of-opd ! (load ! (from ! (hop ! (look ! 15 refl) (fld ! refl (stop !)))) (look-in ! 2 (sub ! 3 refl (whole !))))) (from ! (stop !)) (store ! 7 refl (tt, record { fits = own .1 .1 .1 .0 .1 })) $
-        counts W at-mem run κ′ q′ s n 2 (h .refused) n-fits (lit< tt) (own .1 .1 .1 .0 .1) ! fm known-cnt (and-then ! (load ! (from ! (stop !)) (look ! 7 refl)) (and-then ! (load ! (from ! (stop !)) (look ! 13 refl)) (and-then ! (load ! (from ! (stop !)) (look ! 11 refl)) (and-then ! (lit ! tt) (no-more !))))) (λ r₃ f₃ e₃.
+        counts W at-mem run κ′ q′ s n _ (h .refused) n-fits (lit< tt) (own .1 .1 .1 .0 .1) ! fm known-cnt (and-then ! (load ! (from ! (stop !)) (look ! 7 refl)) (and-then ! (load ! (from ! (stop !)) (look ! 13 refl)) (and-then ! (load ! (from ! (stop !)) (look ! 11 refl)) (and-then ! (lit ! tt) (no-more !))))) (λ r₃ f₃ e₃.
         land ! (from ! (stop !)) (store ! 9 refl (tt, record { fits = f₃ })) $
         assigns ! (of-opd ! (load ! (from ! (stop !)) (look ! 9 refl))) (from ! (hop ! (look ! 15 refl) (fld ! refl (stop !)))) (store-in ! 2 (sub ! 3 refl (whole !)) (tt, record { fits = f₃ })) $
         assigns ! (of-opd ! (unit-lit !)) (from ! (stop !)) (init ! 17 refl (tt, tt)) $

@@ -1,15 +1,19 @@
 #!/usr/bin/env python3
-"""The jobs that crates/theory/proofs/Computed.antt computes, and what the original Rust answers to each.
+"""Small jobs with what the original Rust answers to each. Document 01's own are computed by the prover (crates/theory/proofs/Computed.antt);
+the program `replay` runs all of them, after its generated ones.
 
-  computed_jobs.py write            writes Computed.antt from computed_jobs.txt
-  computed_jobs.py check            exit status 1 where Computed.antt is not what `write` would write
-  computed_jobs.py compare ORACLE   asks a program that runs the original (`ORACLE case FILE WORK ROOM`) about every job
+  listed_jobs.py write            writes Computed.antt, and the listed jobs into crates/replay
+  listed_jobs.py check            exit status 1 where one of these is not what `write` would write
+  listed_jobs.py compare ORACLE   asks a program that answers jobs (`ORACLE case FILE WORK ROOM`) about every job
 
-A line of computed_jobs.txt: name; work bytes; answer bytes; the job in hex; stop, records, terms; rule:code:depth of each answer."""
+A line of listed_jobs.txt: name; work bytes; answer bytes; the job in hex; stop, records, terms; rule:code:depth of each answer."""
 import os, subprocess, sys, tempfile
 
+from replay_jobs import GENERATED, JOBS, STDOUT, head, printed
+
 HERE = os.path.dirname(os.path.abspath(__file__))
-LIST = os.path.join(HERE, 'computed_jobs.txt')
+LIST = os.path.join(HERE, 'listed_jobs.txt')
+COMPUTED = 'document 01'    # how the names of the computed jobs begin
 OUT = os.path.join(HERE, '..', 'crates', 'theory', 'proofs', 'Computed.antt')
 
 # What a run has to unfold to be computed, by the module of specs/ that defines it.
@@ -29,7 +33,7 @@ UNFOLD = {
     'Job': 'answers-to run-from run',
 }
 
-HEAD = '''-- Small jobs, computed: each comes to what the original Rust answers. Written by tools/computed_jobs.py from its list.
+HEAD = '''-- Document 01's own jobs, computed: each comes to what it says, which is what the original Rust answers. Written by tools/listed_jobs.py.
 use mathlib.Core.Path.{_≡_, refl}
 use mathlib.Core.List.{List, [], _∷_}
 use Prim.Native.Nat.{ℕ}
@@ -76,6 +80,8 @@ def antt():
     uses = ''.join('use Rattle.theory.specs.%s.{%s}\n' % (m, ', '.join((types.get(m, '') + ' ' + names).split())) for m, names in UNFOLD.items())
     out, count = [HEAD % uses], 0
     for name, work, room, job, stop, records, terms, answers in jobs():
+        if not name.startswith(COMPUTED):
+            continue
         listed = lambda items: ' ∷ '.join(items + ['[]']) if items else '[]'
         given = listed([str(b) for b in job])
         got = listed(['answer %d %d %d' % a for a in answers])
@@ -104,14 +110,28 @@ def compare(oracle):
     return 1 if wrong or not total else 0
 
 
+def replayed():
+    """The two files of crates/replay with the listed jobs after the generated ones, by their paths."""
+    heads, lines = [], []
+    for name, work, room, job, stop, records, terms, answers in jobs():
+        data = b''.join(b''.join(n.to_bytes(2, 'little') for n in (8, 200) + a) for a in answers)
+        fields = {'stop': stop, 'records': records, 'answers': len(answers), 'terms': terms, 'bytes': data.hex()}
+        heads.append(head(work, room, job))
+        lines.append(printed(fields))
+    generated = lambda path: open(path).read().splitlines(keepends=True)[:GENERATED]
+    return {JOBS: ''.join(generated(JOBS) + heads), STDOUT: ''.join(generated(STDOUT) + lines)}
+
+
 def main():
+    files = lambda: {OUT: antt(), **replayed()}
     if sys.argv[1:] == ['write']:
-        open(OUT, 'w', encoding='utf-8').write(antt())
+        for path, text in files().items():
+            open(path, 'w', encoding='utf-8').write(text)
         return 0
     if sys.argv[1:] == ['check']:
-        same = open(OUT, encoding='utf-8').read() == antt()
-        print('Computed.antt is %s the list' % ('as' if same else 'not as'))
-        return 0 if same else 1
+        wrong = [os.path.relpath(path) for path, text in files().items() if open(path, encoding='utf-8').read() != text]
+        print('not as listed: ' + ', '.join(wrong) if wrong else 'the computed and the replayed jobs are as listed')
+        return 1 if wrong else 0
     if len(sys.argv) == 3 and sys.argv[1] == 'compare':
         return compare(sys.argv[2])
     print(__doc__)

@@ -1,13 +1,14 @@
--- Nothing of one job reaches the next: a call depends on the job's bytes, the lengths of the two memories, and the bytes past the last answer.
+-- Nothing of one job reaches the next.
 use mathlib.Core.Path.{_≡_, sym, ap, ap₂, _∙_}
 use mathlib.Core.List.{List, _++_}
 use Prim.Native.Nat.{ℕ, _*_}
 use lib.ListN.{length, drop, replicate}
 use Rattle.theory.specs.Limit.{answer-bytes}
 use Rattle.theory.specs.Record.{Bytes}
 use Rattle.theory.specs.Answer.{Answer, encode-answers}
-use Rattle.theory.specs.Job.{Outcome, run, Call, returned, answers-after, call}
+use Rattle.theory.specs.Job.{Outcome, run, Call, returned, answers-after}
+use Rattle.theory.specs.Claim.{NothingKept}
 use Rattle.theory.proofs.Written.{bytes-length}
 
 -- the memory of the answers, by its bytes past the last answer
 same-after : (answers : List Answer) (old new : Bytes) → drop (answer-bytes * length answers) old ≡ drop (answer-bytes * length answers) new
@@ -20,10 +21,7 @@ same-after answers old new e =
 abbrev by-outcome : Outcome → ℕ → Bytes → Call
 by-outcome o work answers = record { result = returned o; work-memory = replicate work 0; answer-memory = answers }
 
--- equal job bytes, lengths, and bytes past the last answer: the result and both memories are equal
-pub nothing-kept : (job work work₂ old old₂ : Bytes) → length work ≡ length work₂ → length old ≡ length old₂
-    → (let n = answer-bytes * length (run job (length work) (length old) .answers) in drop n old ≡ drop n old₂)
-    → call job work old ≡ call job work₂ old₂
+pub nothing-kept : NothingKept
 nothing-kept job work work₂ old old₂ w o e =
     let r = run job (length work) (length old) in
     ap (by-outcome r (length work)) (same-after (r .answers) old old₂ e)
