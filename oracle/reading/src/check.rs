@@ -1,0 +1,133 @@
+//! What a batch of cases reaches, and a look at their answers that needs no other program: sides of held steps have equal values,
+//! and the claims that the generator knows to be right or wrong are answered so.
+use crate::generate::Case;
+use crate::job::{Step, run};
+use crate::kind::{BOOL, VARIABLE};
+use crate::pool::{Id, Pool};
+use crate::rng::Rng;
+use crate::rule::RULES;
+use crate::value::fill;
+use std::collections::BTreeMap;
+use std::fmt::Write as _;
+
+const CODES: [u16; 10] = [0, 1, 10, 11, 12, 13, 14, 15, 16, 17];
+const STOPS: [u16; 11] = [0, 2, 3, 4, 5, 6, 7, 8, 9, 18, 19];
+
+/// Up to so many bits of variables every assignment is tried.
+const FEW_BITS: usize = 10;
+
+#[derive(Default)]
+pub struct Summary {
+    answers: BTreeMap<(u16, u16), usize>,
+    stops: BTreeMap<u16, usize>,
+    assignments: usize,
+    exhaustive: usize,
+    right: usize,
+    wrong: usize,
+    pub faults: Vec<String>,
+}
+
+impl Summary {
+    pub fn look(&mut self, name: usize, case: &Case) {
+        let mut place = 0;
+        let out = run(&case.job, case.lent, |step| {
+            *self.answers.entry((step.answer.rule, step.answer.code)).or_default() += 1;
+            if let Some(fault) = self.fault(&step, case.claims.get(place).copied().flatten(), name) {
+                self.faults.push(format!("case {name} answer {} rule {}: {fault}", place + 1, step.answer.rule));
+            }
+            place += 1;
+        });
+        *self.stops.entry(out.stop).or_default() += 1;
+    }
+
+    fn fault(&mut self, step: &Step, claim: Option<bool>, name: usize) -> Option<&'static str> {
+        let accepted = step.answer.code <= 1;
+        self.right += usize::from(claim == Some(true));
+        self.wrong += usize::from(claim == Some(false));
+        if claim.is_some_and(|right| right != accepted) {
+            return Some(if accepted { "a wrong claim is accepted" } else { "a right claim is refused" });
+        }
+        if step.answer.code == 0 && !self.sides_agree(step.pool, step.literals[0], name as u64) {
+            return Some("the sides of a held step differ");
+        }
+        None
+    }
+
+    /// Both sides on every assignment where there are few, else on some.
+    fn sides_agree(&mut self, pool: &Pool, literal: Id, seed: u64) -> bool {
+        let (left, right) = pool.sides(literal).expect("an accepted literal is an Equals");
+        let below = pool.below(&[left, right]);
+        let variables: Vec<Id> = below.iter().copied().filter(|&id| matches!(pool.kind(id), BOOL | VARIABLE)).collect();
+        let bits: usize = variables.iter().map(|&id| pool.width(id).max(1)).sum();
+        let mut values = vec![0; literal];
+        let mut rng = Rng::new(seed);
+        let every = bits <= FEW_BITS;
+        self.exhaustive += usize::from(every);
+        let tries = if every { 1 << bits } else { 16 };
+        self.assignments += tries;
+        (0..tries as u64).all(|digits| {
+            let mut left_over = digits;
+            let mut given = |id: Id| {
+                if !every {
+                    return rng.value();
+                }
+                let digit = left_over;
+                left_over >>= pool.width(id).max(1);
+                digit
+            };
+            fill(pool, &below, &mut values, &mut given);
+            values[left] == values[right]
+        })
+    }
+
+    /// The answers and stops that a batch should have and has not.
+    pub fn missing(&self) -> Vec<String> {
+        let answers = (1..=RULES.len() as u16).flat_map(|rule| CODES.map(|code| (rule, code)));
+        let absent = answers.filter(|answer| can_end(answer.0, answer.1) && !self.answers.contains_key(answer));
+        let mut missing: Vec<String> = absent.map(|(rule, code)| format!("rule {rule} code {code}")).collect();
+        let stops = STOPS.iter().filter(|stop| !self.stops.contains_key(stop));
+        missing.extend(stops.map(|stop| format!("stop {stop}")));
+        missing
+    }
+
+    pub fn text(&self) -> String {
+        let mut out = format!("{:<19}", "answers by code");
+        for code in CODES {
+            let _ = write!(out, "{code:>8}");
+        }
+        for (rule, name) in (1..).zip(RULES) {
+            let _ = write!(out, "\n{rule:>2} {name:<16}");
+            for code in CODES {
+                let count = self.answers.get(&(rule, code)).map_or(".".to_owned(), usize::to_string);
+                let _ = write!(out, "{count:>8}");
+            }
+        }
+        let stops: Vec<String> = self.stops.iter().map(|(stop, count)| format!("{stop}: {count}")).collect();
+        let _ = writeln!(out, "\njobs by stop code: {}", stops.join(", "));
+        let _ = writeln!(out, "claims known to be right: {}, to be wrong: {}", self.right, self.wrong);
+        let (tried, every) = (self.assignments, self.exhaustive);
+        let _ = writeln!(out, "assignments tried on held steps: {tried}, on {every} steps all there are");
+        let _ = writeln!(
+            out,
+            "not reached: {}",
+            if self.missing().is_empty() { "nothing".to_owned() } else { self.missing().join(", ") }
+        );
+        let _ = writeln!(out, "faults: {}", self.faults.len());
+        self.faults.iter().take(20).for_each(|fault| out += &format!("FAULT {fault}\n"));
+        out
+    }
+}
+
+/// Whether a rule's step can have a code.
+fn can_end(rule: u16, code: u16) -> bool {
+    match code {
+        0 => !matches!(rule, 20..=22),
+        1 => matches!(rule, 20..=22),
+        10 | 11 => true,
+        12 => matches!(rule, 2 | 13),
+        13..=15 => rule == 1,
+        16 => rule != 1,
+        17 => rule == 23,
+        _ => false,
+    }
+}

@@ -1,0 +1,124 @@
+//! Left sides and right claims for every rule.
+use super::Maker;
+use crate::kind::*;
+use crate::pool::Id;
+use crate::rule::{expected, left_kind};
+
+/// The rules whose circuits grow with the square of the width.
+pub fn is_heavy(rule: u16) -> bool {
+    matches!(rule, 11 | 21 | 22)
+}
+
+impl Maker {
+    /// A width for a rule's operands.
+    pub fn a_width(&mut self, rule: u16) -> usize {
+        let most = if is_heavy(rule) { 12 } else { 64 };
+        match self.rng.below(10) {
+            0..=5 => self.rng.range(1, 6),
+            6..=8 => self.rng.range(1, most),
+            _ => self.rng.pick(&[1, 2, 31, 32, 33, 63, 64]).min(most),
+        }
+    }
+
+    /// Operands of one width: variables, or anything.
+    fn operands(&mut self, width: usize, count: usize) -> Vec<Id> {
+        let plain = self.rng.chance(40);
+        (0..count).map(|k| if plain { self.variable(width, k) } else { self.vector(width, 2) }).collect()
+    }
+
+    fn count_of_operands(&mut self, rule: u16, width: usize) -> usize {
+        match rule {
+            7 | 12 | 15 | 17 => 1,
+            3..=5 | 10 if width < 4 && self.rng.chance(10) => 64,
+            3..=5 | 10 => self.rng.pick(&[1, 2, 2, 2, 3, 5]),
+            11 => self.rng.pick(&[1, 2, 2, 2, 3]),
+            _ => 2,
+        }
+    }
+
+    /// A left side of the rule's form, over operands of a width.
+    pub fn left(&mut self, rule: u16, width: usize) -> Id {
+        let Some(kind) = left_kind(rule) else {
+            return if rule == 1 { self.constant(width) } else { self.vector(width, 2) };
+        };
+        if kind == CONCAT {
+            return self.joined(width);
+        }
+        let count = self.count_of_operands(rule, width);
+        let args = self.operands(width, count);
+        let numbers = match kind {
+            EXTRACT => {
+                let i = self.rng.below(width);
+                vec![i as u64, self.rng.range(0, i) as u64]
+            }
+            SIGN_EXTEND => vec![self.rng.range(0, 64 - width) as u64],
+            _ => vec![],
+        };
+        self.pool.add(kind, &numbers, &args)
+    }
+
+    /// A concat of at most 64 bits.
+    fn joined(&mut self, width: usize) -> Id {
+        let mut left = 64 - width;
+        let mut args = self.operands(width, 1);
+        while left > 0 && self.rng.chance(60) {
+            let next = self.rng.range(1, left.min(20));
+            args.extend(self.operands(next, 1));
+            left -= next;
+        }
+        self.pool.op(CONCAT, &args)
+    }
+
+    pub fn equals(&mut self, x: Id, y: Id) -> Id {
+        self.pool.op(EQUALS, &[x, y])
+    }
+
+    /// The right claim of a rule for a left side.
+    pub fn right_claim(&mut self, rule: u16, left: Id) -> Id {
+        let right = if rule == 23 { self.sliced(left) } else { expected(&mut self.pool, rule, left) };
+        self.equals(left, right)
+    }
+
+    /// A bvand cut into slices, from the top down.
+    pub fn sliced(&mut self, left: Id) -> Id {
+        let args = self.pool.args(left).to_vec();
+        let mut top = self.pool.width(left);
+        let mut slices = Vec::new();
+        while top > 0 {
+            let low = if self.rng.chance(40) { top - 1 } else { self.rng.below(top) };
+            let numbers = [top as u64 - 1, low as u64];
+            let parts: Vec<Id> = args.iter().map(|&x| self.pool.add(EXTRACT, &numbers, &[x])).collect();
+            slices.push(self.pool.op(BV_AND, &parts));
+            top = low;
+        }
+        self.pool.op(CONCAT, &slices)
+    }
+
+    /// A job about one rule: right claims and wrong ones.
+    pub fn claims_of(&mut self, rule: u16) {
+        for _ in 0..self.rng.range(1, 2) {
+            let width = self.a_width(rule);
+            let left = self.left(rule, width);
+            let right = self.right_claim(rule, left);
+            for _ in 0..self.rng.range(1, 5) {
+                self.wrong_step(rule, left, right);
+            }
+            self.step(rule, &[right], Some(true));
+            self.wrong_step(rule, left, right);
+            self.maybe_back(20);
+        }
+    }
+
+    /// A short job of small claims, for lengths of memory around what it needs.
+    pub fn small_steps(&mut self, rule: u16) {
+        let mut rule = rule;
+        for _ in 0..self.rng.range(1, 4) {
+            let width = self.rng.range(1, 3);
+            let left = self.left(rule, width);
+            let right = self.right_claim(rule, left);
+            self.step(rule, &[right], Some(true));
+            self.maybe_back(30);
+            rule = self.any_rule();
+        }
+    }
+}

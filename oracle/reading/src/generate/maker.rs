@@ -1,0 +1,101 @@
+//! Writes a job from terms: the bytes, and the numbers of the terms that are kept.
+use crate::job::MOST_TERMS;
+use crate::kind::*;
+use crate::pool::{Id, NO, Pool, YES};
+use crate::rng::Rng;
+use std::collections::HashMap;
+
+pub struct Maker {
+    pub rng: Rng,
+    pub pool: Pool,
+    pub bytes: Vec<u8>,
+    pub list: Vec<Id>,
+    numbers: HashMap<Id, u16>,
+    /// The most terms that were kept at any time.
+    pub peak: usize,
+    pub claims: Vec<Option<bool>>,
+}
+
+impl Maker {
+    pub fn new(seed: u64) -> Self {
+        Maker {
+            rng: Rng::new(seed),
+            pool: Pool::default(),
+            bytes: Vec::new(),
+            list: vec![YES, NO],
+            numbers: HashMap::from([(YES, 0), (NO, 1)]),
+            peak: 2,
+            claims: Vec::new(),
+        }
+    }
+
+    pub fn record(&mut self, kind: u16, body: &[u8]) {
+        self.bytes.extend((body.len() as u16 + 2).to_le_bytes());
+        self.bytes.extend(kind.to_le_bytes());
+        self.bytes.extend(body);
+    }
+
+    pub fn words(&mut self, kind: u16, words: &[u16]) {
+        let body: Vec<u8> = words.iter().flat_map(|word| word.to_le_bytes()).collect();
+        self.record(kind, &body);
+    }
+
+    /// The record of a term, with its arguments' numbers.
+    pub fn term_record(&mut self, kind: u16, numbers: &[u64], args: &[u16]) {
+        let mut body = Vec::new();
+        for (k, number) in numbers.iter().enumerate() {
+            let bytes = if kind == CONSTANT && k == 1 { 8 } else { 2 };
+            body.extend(&number.to_le_bytes()[..bytes]);
+        }
+        body.extend(args.iter().flat_map(|arg| arg.to_le_bytes()));
+        self.record(kind, &body);
+    }
+
+    /// Writes the record of a term whose arguments are kept.
+    pub fn write(&mut self, id: Id) {
+        let term = self.pool.term(id).clone();
+        let args: Vec<u16> = term.args.iter().map(|a| self.numbers.get(a).copied().unwrap_or(0)).collect();
+        self.term_record(term.kind, &term.numbers, &args);
+        if !self.numbers.contains_key(&id) && self.list.len() < MOST_TERMS {
+            self.numbers.insert(id, self.list.len() as u16);
+            self.list.push(id);
+            self.peak = self.peak.max(self.list.len());
+        }
+    }
+
+    /// Writes what a term needs and is not kept, and gives its number.
+    pub fn emit(&mut self, id: Id) -> u16 {
+        let mut needed = std::collections::BTreeSet::new();
+        let mut open = vec![id];
+        while let Some(id) = open.pop() {
+            if !self.numbers.contains_key(&id) && needed.insert(id) {
+                open.extend(self.pool.args(id));
+            }
+        }
+        needed.into_iter().for_each(|id| self.write(id));
+        self.numbers.get(&id).copied().unwrap_or(0)
+    }
+
+    /// A step; `right` says whether its claim is right, where that is known.
+    pub fn step(&mut self, rule: u16, literals: &[Id], right: Option<bool>) {
+        let mut body = vec![rule];
+        body.extend(literals.iter().map(|&literal| self.emit(literal)).collect::<Vec<_>>());
+        self.words(STEP, &body);
+        self.claims.push(right);
+    }
+
+    pub fn back(&mut self, count: usize) {
+        self.words(BACK, &[count as u16]);
+        for dropped in self.list.drain(count..) {
+            self.numbers.remove(&dropped);
+        }
+    }
+
+    /// A back now and then, to any count that is allowed.
+    pub fn maybe_back(&mut self, percent: usize) {
+        if self.rng.chance(percent) {
+            let count = self.rng.range(2, self.list.len());
+            self.back(count);
+        }
+    }
+}

@@ -1,0 +1,106 @@
+//! Jobs made from a seed: right and wrong claims of every rule, bad records of every kind, lent memory around what is needed.
+mod claims;
+mod large;
+mod maker;
+mod records;
+mod terms;
+mod wrong;
+
+pub use maker::Maker;
+
+use crate::check::Summary;
+use crate::job::{ANSWER, Lent, ROW, expect_text};
+use crate::rule::RULES;
+use std::fs::{self, File};
+use std::path::Path;
+
+pub struct Case {
+    pub job: Vec<u8>,
+    pub lent: Lent,
+    /// For each step, whether its claim is right, where that is known.
+    pub claims: Vec<Option<bool>>,
+}
+
+impl Case {
+    /// The job of a maker, with the memory that it needs.
+    fn of(maker: &mut Maker) -> Self {
+        let lent = Lent { work: ROW * (maker.peak - 2), room: ANSWER * maker.claims.len() };
+        let (job, claims) = (std::mem::take(&mut maker.bytes), std::mem::take(&mut maker.claims));
+        Case { job, lent, claims }
+    }
+}
+
+/// Case number `i` of a seed: the large ones first, then the others in turns.
+pub fn case(seed: u64, i: usize) -> Case {
+    let mut maker = Maker::new(seed.wrapping_mul(1_000_003).wrapping_add(i as u64));
+    let Some(i) = i.checked_sub(large::COUNT) else {
+        return large::case(&mut maker, i);
+    };
+    let rule = (i / 4 % RULES.len()) as u16 + 1;
+    match i % 4 {
+        0 => maker.claims_of(rule),
+        1 => maker.mixture(),
+        2 => maker.stopped(),
+        _ => maker.small_steps(rule),
+    }
+    let mut case = Case::of(&mut maker);
+    if i % 4 == 3 || maker.rng.chance(15) {
+        lend_around(&mut maker, &mut case);
+    } else {
+        case.lent.work += maker.rng.below(40);
+        case.lent.room += maker.rng.below(40);
+    }
+    if maker.rng.chance(8) {
+        damage(&mut maker, &mut case);
+    }
+    case
+}
+
+/// Lends a little more or less than is needed.
+fn lend_around(maker: &mut Maker, case: &mut Case) {
+    let rng = &mut maker.rng;
+    let mut around = |need: usize, unit: usize| match rng.below(8) {
+        0 => rng.below(2 * unit),
+        1 => need,
+        2..=4 => (need + rng.below(2 * unit + 1)).saturating_sub(unit),
+        5 => rng.below(need + 1),
+        _ => need + unit,
+    };
+    case.lent = Lent { work: around(case.lent.work, ROW), room: around(case.lent.room, ANSWER) };
+}
+
+/// Changes some bytes of a job, or cuts it; what its claims are is not known then.
+fn damage(maker: &mut Maker, case: &mut Case) {
+    case.claims.clear();
+    if case.job.is_empty() {
+        return;
+    }
+    let rng = &mut maker.rng;
+    let at = rng.below(case.job.len());
+    match rng.below(4) {
+        0 => case.job.truncate(at),
+        1 => drop(case.job.remove(at)),
+        2 => case.job[at] ^= 1 << rng.below(8),
+        _ => case.job[at] = rng.below(26) as u8,
+    }
+}
+
+/// Writes cases NNNNN.job and NNNNN.expect and summary.txt.
+pub fn write_all(seed: u64, count: usize, folder: &Path) -> std::io::Result<Summary> {
+    fs::create_dir_all(folder)?;
+    let mut summary = Summary::default();
+    for i in 0..count {
+        let case = case(seed, i);
+        let path = folder.join(format!("{i:05}.job"));
+        if case.job.iter().all(|&byte| byte == 0) {
+            // The longest jobs are zeros, which a sparse file holds in no space.
+            File::create(&path)?.set_len(case.job.len() as u64)?;
+        } else {
+            fs::write(&path, &case.job)?;
+        }
+        fs::write(path.with_extension("expect"), expect_text(&case.job, case.lent))?;
+        summary.look(i, &case);
+    }
+    fs::write(folder.join("summary.txt"), summary.text())?;
+    Ok(summary)
+}

@@ -1,0 +1,158 @@
+//! Random records, good ones and those that stop a job.
+use super::Maker;
+use crate::kind::*;
+use crate::pool::Id;
+use crate::rule::RULES;
+
+/// Kinds that no record has.
+const NO_KIND: [u16; 20] = [0, 1, 2, 9, 13, 19, 26, 29, 32, 39, 59, 64, 99, 102, 105, 200, 255, 266, 356, 65_535];
+
+const NO_RULE: [u16; 6] = [0, 99, 256, 257, 512, 65_535];
+
+impl Maker {
+    pub fn any_rule(&mut self) -> u16 {
+        self.rng.range(1, RULES.len()) as u16
+    }
+
+    /// Numbers and arguments of the kind's shape, with some chance that they fit each other.
+    fn parts(&mut self, kind: u16) -> (Vec<u64>, Vec<Id>) {
+        let shape = shape(kind).expect("a kind of term");
+        let count = self.rng.pick(&[shape.least, shape.least + 1, shape.most, 3, 2]).clamp(shape.least, shape.most);
+        let first = self.rng.pick(&self.list);
+        let like = self.rng.chance(70);
+        let sort = self.pool.sort(first);
+        let alike: Vec<Id> = self.list.iter().copied().filter(|&id| !like || self.pool.sort(id) == sort).collect();
+        let args: Vec<Id> = (0..count).map(|_| self.rng.pick(&alike)).collect();
+        let width = self.pool.width(first);
+        let numbers = match kind {
+            BOOL => vec![self.rng.below(5) as u64],
+            VARIABLE => vec![self.edge(width), self.rng.below(3) as u64],
+            CONSTANT => vec![self.edge(width), self.rng.value()],
+            _ => (0..shape.own / 2).map(|_| self.edge(width)).collect(),
+        };
+        (numbers, args)
+    }
+
+    /// A record of a new term, or of one that is kept already.
+    pub fn random_term(&mut self) {
+        let kinds: Vec<u16> = terms().collect();
+        loop {
+            let kind = self.rng.pick(&kinds);
+            let (numbers, args) = self.parts(kind);
+            if let Some(id) = self.pool.try_add(kind, &numbers, &args) {
+                return self.write(id);
+            }
+        }
+    }
+
+    /// Code 7: a record whose parts do not fit each other.
+    fn misfit(&mut self) {
+        let kinds: Vec<u16> = terms().collect();
+        loop {
+            let kind = self.rng.pick(&kinds);
+            let (numbers, args) = self.parts(kind);
+            if self.pool.try_add(kind, &numbers, &args).is_none() {
+                let args: Vec<u16> = args.iter().map(|&a| self.emit(a)).collect();
+                return self.term_record(kind, &numbers, &args);
+            }
+        }
+    }
+
+    /// Code 6: an argument or a literal that is not kept, whatever else is wrong with the record.
+    fn not_kept(&mut self) {
+        let out = self.rng.pick(&[self.list.len() as u16, self.list.len() as u16 + 1, 65_535]);
+        let kinds: Vec<u16> = terms().filter(|&kind| shape(kind).is_some_and(|s| s.least > 0)).collect();
+        let kind = self.rng.pick(&kinds);
+        let (numbers, args) = self.parts(kind);
+        let mut args: Vec<u16> = args.iter().map(|&a| self.emit(a)).collect();
+        let k = self.rng.below(args.len());
+        args[k] = out;
+        match self.rng.below(3) {
+            0 => self.words(STEP, &[99, 0, out]),
+            _ => self.term_record(kind, &numbers, &args),
+        }
+    }
+
+    /// Most likely code 5: a body of any length.
+    fn odd_body(&mut self) {
+        let kinds: Vec<u16> = terms().chain([STEP, BACK]).collect();
+        let kind = self.rng.pick(&kinds);
+        let length = if self.rng.chance(60) { self.rng.below(16) } else { self.rng.range(120, 140) };
+        let body: Vec<u8> = (0..length).map(|i| if i % 2 == 0 { self.rng.below(3) as u8 } else { 0 }).collect();
+        self.record(kind, &body);
+    }
+
+    /// A record that most likely stops the job.
+    pub fn bad_record(&mut self) {
+        let kept = self.list.len() as u16;
+        match self.rng.below(8) {
+            0 => {
+                let tail: &[u8] = self.rng.pick(&[&[6], &[0, 0], &[1, 0, 20], &[255, 255, 20, 0], &[4, 0, 20, 0, 0]]);
+                self.bytes.extend(tail);
+            }
+            1 => {
+                let (kind, length) = (self.rng.pick(&NO_KIND), self.rng.pick(&[0, 1, 2, 4, 10]));
+                self.record(kind, &vec![0; length]);
+            }
+            2 => self.odd_body(),
+            3 => self.not_kept(),
+            4 | 5 => self.misfit(),
+            6 => {
+                let (rule, count) = (self.rng.pick(&NO_RULE), self.rng.pick(&[1, 2, 65]));
+                let mut body = vec![0; count];
+                body[0] = rule;
+                self.words(STEP, &body);
+            }
+            _ => {
+                let count = self.rng.pick(&[0, 1, kept + 1, 65_535]);
+                self.words(BACK, &[count]);
+            }
+        }
+    }
+
+    /// A few records, then one that stops the job, then more that are not read.
+    pub fn stopped(&mut self) {
+        for _ in 0..self.rng.below(12) {
+            self.random_term();
+        }
+        let x = self.variable(2, 0);
+        let claim = self.right_claim(2, x);
+        self.step(2, &[claim], Some(true));
+        self.bad_record();
+        // Where the record is good after all, its term has a number that is not accounted for.
+        self.step(2, &[claim], None);
+    }
+
+    /// Records of all sorts: random terms, terms again, steps on any of them, backs, claims.
+    pub fn mixture(&mut self) {
+        for _ in 0..self.rng.range(3, 30) {
+            match self.rng.below(10) {
+                0..=4 => self.random_term(),
+                5 if self.list.len() > 2 => {
+                    let again = self.rng.range(2, self.list.len() - 1);
+                    self.write(self.list[again]);
+                }
+                6 => {
+                    let (rule, literal) = (self.any_rule(), self.any_literal());
+                    self.step(rule, &[literal], None);
+                }
+                7 => self.maybe_back(50),
+                _ => {
+                    let rule = self.any_rule();
+                    let width = self.rng.range(1, 5);
+                    let left = self.left(rule, width);
+                    let right = self.right_claim(rule, left);
+                    self.step(rule, &[right], Some(true));
+                    self.wrong_step(rule, left, right);
+                }
+            }
+        }
+    }
+
+    /// A kept Equals, where there is one.
+    fn any_literal(&mut self) -> Id {
+        let equals: Vec<Id> = self.list.iter().copied().filter(|&id| self.pool.kind(id) == EQUALS).collect();
+        let all = if equals.is_empty() || self.rng.chance(10) { &self.list } else { &equals };
+        self.rng.pick(all)
+    }
+}

@@ -1,0 +1,212 @@
+//! A job: records in their order, the plain list of terms, the codes, the answers.
+use crate::kind::{BACK, CONSTANT, STEP, shape};
+use crate::pool::{Id, NO, Pool, YES};
+use crate::rule::{RULES, verdict};
+use std::collections::HashSet;
+
+pub const LONGEST: usize = 16_777_216;
+pub const MOST_TERMS: usize = 65_535;
+pub const ROW: usize = 8;
+pub const ANSWER: usize = 10;
+
+/// The bytes of work memory and of answers that are lent.
+#[derive(Debug, Clone, Copy)]
+pub struct Lent {
+    pub work: usize,
+    pub room: usize,
+}
+
+#[derive(Debug, Clone, Copy, PartialEq, Eq)]
+pub struct Outcome {
+    pub stop: u16,
+    pub records: usize,
+    pub answers: usize,
+    pub terms: usize,
+}
+
+#[derive(Debug, Clone, Copy, PartialEq, Eq)]
+pub struct Answer {
+    pub rule: u16,
+    pub code: u16,
+    pub depth: u64,
+}
+
+/// An answered step, with the terms that its literals name.
+pub struct Step<'a> {
+    pub pool: &'a Pool,
+    pub literals: &'a [Id],
+    pub answer: Answer,
+}
+
+struct Run<'a> {
+    pool: Pool,
+    list: Vec<Id>,
+    /// The records of the list, from place 2 on, in order and as a set.
+    records: Vec<&'a [u8]>,
+    kept: HashSet<&'a [u8]>,
+    answers: Vec<Answer>,
+    lent: Lent,
+}
+
+/// Runs a job; `seen` gets each answered step.
+pub fn run(job: &[u8], lent: Lent, mut seen: impl FnMut(Step)) -> Outcome {
+    let mut outcome = Outcome { stop: 0, records: 0, answers: 0, terms: 2 };
+    if job.len() > LONGEST {
+        outcome.stop = 2;
+        return outcome;
+    }
+    let (records, kept, answers) = Default::default();
+    let mut run = Run { pool: Pool::default(), list: vec![YES, NO], records, kept, answers, lent };
+    let mut rest = job;
+    while !rest.is_empty() {
+        match cut(rest).and_then(|(record, after)| run.record(record, &mut seen).map(|()| after)) {
+            Ok(after) => rest = after,
+            Err(code) => {
+                outcome.stop = code;
+                break;
+            }
+        }
+        outcome.records += 1;
+    }
+    outcome.answers = run.answers.len();
+    outcome.terms = run.list.len();
+    outcome
+}
+
+fn word(bytes: &[u8]) -> u16 {
+    u16::from_le_bytes([bytes[0], bytes[1]])
+}
+
+fn words(bytes: &[u8]) -> Vec<usize> {
+    bytes.chunks(2).map(|pair| usize::from(word(pair))).collect()
+}
+
+/// The first record without its length, and what follows it.
+fn cut(rest: &[u8]) -> Result<(&[u8], &[u8]), u16> {
+    if rest.len() < 2 {
+        return Err(3);
+    }
+    let length = usize::from(word(rest));
+    if length < 2 || length > rest.len() - 2 { Err(3) } else { Ok(rest[2..].split_at(length)) }
+}
+
+impl<'a> Run<'a> {
+    fn record(&mut self, record: &'a [u8], seen: &mut impl FnMut(Step)) -> Result<(), u16> {
+        match word(record) {
+            STEP => self.step(&record[2..], seen),
+            BACK => self.back(&record[2..]),
+            _ => self.term(record),
+        }
+    }
+
+    fn term(&mut self, record: &'a [u8]) -> Result<(), u16> {
+        let (kind, body) = (word(record), &record[2..]);
+        let shape = shape(kind).ok_or(4u16)?;
+        let fits = |count: usize| body.len() == shape.own + 2 * count;
+        if !(shape.least..=shape.most).any(fits) {
+            return Err(5);
+        }
+        let (own, args) = body.split_at(shape.own);
+        let args = self.named(&words(args))?;
+        let id = self.pool.try_add(kind, &own_numbers(kind, own), &args).ok_or(7u16)?;
+        if self.kept.contains(record) {
+            return Ok(());
+        }
+        // `true` and `false` are on the list, but need no memory.
+        if self.list.len() == MOST_TERMS || (self.records.len() + 1) * ROW > self.lent.work {
+            return Err(8);
+        }
+        self.list.push(id);
+        self.records.push(record);
+        self.kept.insert(record);
+        Ok(())
+    }
+
+    /// The terms at some places of the list.
+    fn named(&self, places: &[usize]) -> Result<Vec<Id>, u16> {
+        places.iter().map(|&place| self.list.get(place).copied().ok_or(6)).collect()
+    }
+
+    fn step(&mut self, body: &[u8], seen: &mut impl FnMut(Step)) -> Result<(), u16> {
+        if !body.len().is_multiple_of(2) || !(2..=2 + 2 * 64).contains(&body.len()) {
+            return Err(5);
+        }
+        let literals = self.named(&words(&body[2..]))?;
+        let rule = word(body);
+        if !(1..=RULES.len()).contains(&usize::from(rule)) {
+            return Err(9);
+        }
+        self.room_left()?;
+        let code = verdict(&mut self.pool, rule, &literals);
+        self.answer(rule, code, &literals, seen);
+        Ok(())
+    }
+
+    fn room_left(&self) -> Result<(), u16> {
+        if (self.answers.len() + 1) * ANSWER > self.lent.room { Err(19) } else { Ok(()) }
+    }
+
+    fn answer(&mut self, rule: u16, code: u16, literals: &[Id], seen: &mut impl FnMut(Step)) {
+        let accepted = (code <= 1).then(|| self.pool.sides(literals[0])).flatten();
+        let depth = accepted.map_or(0, |(_, right)| self.pool.depth(right));
+        let answer = Answer { rule, code, depth };
+        self.answers.push(answer);
+        seen(Step { pool: &self.pool, literals, answer });
+    }
+
+    fn back(&mut self, body: &[u8]) -> Result<(), u16> {
+        if body.len() != 2 {
+            return Err(5);
+        }
+        let count = usize::from(word(body));
+        if count < 2 || count > self.list.len() {
+            return Err(18);
+        }
+        self.list.truncate(count);
+        for dropped in self.records.drain(count - 2..) {
+            self.kept.remove(dropped);
+        }
+        Ok(())
+    }
+}
+
+/// The numbers before the arguments: two bytes each, a constant's value eight.
+fn own_numbers(kind: u16, own: &[u8]) -> Vec<u64> {
+    if kind == CONSTANT {
+        let value = own[2..].try_into().expect("eight bytes");
+        return vec![u64::from(word(own)), u64::from_le_bytes(value)];
+    }
+    words(own).iter().map(|&n| n as u64).collect()
+}
+
+/// The text of an .expect file.
+pub fn expect_text(job: &[u8], lent: Lent) -> String {
+    let mut bytes = String::new();
+    let out = run(job, lent, |step| {
+        let Answer { rule, code, depth } = step.answer;
+        for number in [8, 200, u64::from(rule), u64::from(code), depth] {
+            bytes += &format!("{:02x}{:02x}", number & 255, number >> 8);
+        }
+    });
+    let Outcome { stop, records, answers, terms } = out;
+    let Lent { work, room } = lent;
+    format!(
+        "work {work}\nroom {room}\nstop {stop}\nrecords {records}\nanswers {answers}\nterms {terms}\nbytes {bytes}\n"
+    )
+}
+
+/// What bbcheck prints for a job.
+pub fn bbcheck(job: &[u8]) -> String {
+    const LIMIT: usize = 65_536;
+    if job.len() > LIMIT {
+        return "too long\n".to_owned();
+    }
+    let mut lines = String::new();
+    let mut place = 0;
+    let out = run(job, Lent { work: LIMIT, room: LIMIT }, |step| {
+        place += 1;
+        let Answer { rule, code, depth } = step.answer;
+        lines += &format!("{place} {rule} {code} {depth}\n");
+    });
+    format!("steps {} terms {} stop {}\n{lines}", out.answers, out.terms, out.stop)
+}

@@ -1,0 +1,182 @@
+//! Document 01's own examples, and values worked out by hand.
+use reading::generate::{Maker, case};
+use reading::job::{Lent, Outcome, bbcheck, expect_text, run};
+use reading::kind::*;
+use reading::pool::{Id, NO, YES};
+use reading::rule::{expected, verdict};
+use reading::value::fill;
+use reading::{check::Summary, hex, specimen};
+
+const MUCH: Lent = Lent { work: 1 << 20, room: 1 << 16 };
+
+fn stop(bytes: &[u8], work: usize, room: usize) -> u16 {
+    run(bytes, Lent { work, room }, |_| {}).stop
+}
+
+/// The codes and depths of a job's answers.
+fn answers(bytes: &[u8]) -> Vec<(u16, u64)> {
+    let mut found = Vec::new();
+    run(bytes, MUCH, |step| found.push((step.answer.code, step.answer.depth)));
+    found
+}
+
+/// The answer to a claim, through a job's bytes.
+fn claim(rule: u16, build: impl FnOnce(&mut Maker) -> (Id, Id)) -> (u16, u64) {
+    let mut maker = Maker::new(0);
+    let (left, right) = build(&mut maker);
+    let literal = maker.equals(left, right);
+    maker.step(rule, &[literal], None);
+    answers(&maker.bytes)[0]
+}
+
+/// A left side over variables x and y of a width, and x0, y0.
+fn over(maker: &mut Maker, kind: u16, width: usize, count: usize) -> (Id, [Id; 2]) {
+    let x = [0, 1].map(|name| maker.variable(width, name));
+    let bits = x.map(|v| maker.pool.bit(0, v));
+    (maker.pool.op(kind, &x[..count]), bits)
+}
+
+#[test]
+fn the_specimen() {
+    assert_eq!(bbcheck(&specimen()), "steps 1 terms 10 stop 0\n1 9 0 2\n");
+    let outcome = run(&specimen(), Lent { work: 64, room: 10 }, |_| {});
+    assert_eq!(outcome, Outcome { stop: 0, records: 9, answers: 1, terms: 10 });
+    assert!(expect_text(&specimen(), MUCH).ends_with("bytes 0800c800090000000200\n"));
+    assert_eq!(stop(&specimen(), 63, 10), 8);
+    assert_eq!(stop(&specimen(), 64, 9), 19);
+}
+
+#[test]
+fn the_codes_that_stop() {
+    assert_eq!(stop(&vec![0; 16_777_217], 0, 0), 2);
+    for (code, text) in [
+        (3, "06 00 0B"),
+        (4, "02 00 63 00"),
+        (5, "06 00 14 00 00 00 01 00"),
+        (6, "04 00 14 00 02 00"),
+        (7, "06 00 0B 00 41 00 00 00"),
+        (9, "04 00 64 00 63 00"),
+        (18, "04 00 65 00 01 00"),
+    ] {
+        assert_eq!(stop(&hex(text), 800, 100), code, "{text}");
+    }
+    assert_eq!(stop(&hex("06 00 0B 00 01 00 00 00"), 7, 0), 8);
+    assert_eq!(stop(&hex("06 00 64 00 01 00 00 00"), 0, 9), 19);
+}
+
+#[test]
+fn the_order_of_tests() {
+    assert_eq!(stop(&hex("06 00 64 00 63 00 02 00"), 0, 0), 6);
+    assert_eq!(stop(&hex("04 00 64 00 63 00"), 0, 0), 9);
+    assert_eq!(stop(&hex("04 00 64 00 01 00"), 0, 0), 19);
+    assert_eq!(stop(&hex("06 00 1E 00 63 00 02 00"), 0, 0), 6);
+    assert_eq!(stop(&hex("06 00 1E 00 00 00 00 00"), 0, 0), 7);
+    // A repeat needs no memory; after a back the same bytes are a new term.
+    assert_eq!(stop(&hex("04 00 0A 00 07 00 04 00 0A 00 07 00"), 8, 0), 0);
+    let again = hex("04 00 0A 00 07 00 04 00 65 00 02 00 04 00 0A 00 07 00 04 00 14 00 02 00");
+    let outcome = run(&again, Lent { work: 15, room: 0 }, |_| {});
+    assert_eq!((outcome.stop, outcome.records, outcome.terms), (8, 3, 3));
+}
+
+#[test]
+fn the_codes_of_answers() {
+    assert_eq!(answers(&hex("04 00 64 00 01 00")), [(10, 0)]);
+    assert_eq!(answers(&hex("06 00 64 00 01 00 00 00")), [(11, 0)]);
+    assert_eq!(claim(2, |_| (YES, YES)).0, 12);
+    let zero = |m: &mut Maker| m.pool.add(CONSTANT, &[1, 0], &[]);
+    let bits = |m: &mut Maker, bit: Id| m.pool.bb(&[bit]);
+    assert_eq!(claim(1, |m| (m.variable(1, 0), bits(m, NO))).0, 13);
+    assert_eq!(
+        claim(1, |m| (zero(m), {
+            let x = m.variable(1, 0);
+            let bit = m.pool.bit(0, x);
+            bits(m, bit)
+        }))
+        .0,
+        14
+    );
+    assert_eq!(claim(1, |m| (zero(m), bits(m, YES))).0, 15);
+    assert_eq!(claim(1, |m| (zero(m), bits(m, NO))).0, 0);
+    let swapped = |m: &mut Maker| {
+        let (left, [x0, y0]) = over(m, BV_SLT, 1, 2);
+        let not = m.pool.not(y0);
+        (left, m.pool.op(AND, &[not, x0]))
+    };
+    assert_eq!(claim(9, swapped).0, 16);
+    let low_first = |m: &mut Maker| {
+        let (left, _) = over(m, BV_AND, 2, 2);
+        let args = m.pool.args(left).to_vec();
+        let slice = |m: &mut Maker, i: u64| {
+            let parts: Vec<Id> = args.iter().map(|&x| m.pool.add(EXTRACT, &[i, i], &[x])).collect();
+            m.pool.op(BV_AND, &parts)
+        };
+        let slices = [slice(m, 0), slice(m, 1)];
+        (left, m.pool.op(CONCAT, &slices))
+    };
+    assert_eq!(claim(23, low_first).0, 17);
+}
+
+#[test]
+fn the_rows_of_specimens() {
+    let slt = |m: &mut Maker| {
+        let (left, [x0, y0]) = over(m, BV_SLT, 1, 2);
+        let not = m.pool.not(y0);
+        (left, m.pool.op(AND, &[x0, not]))
+    };
+    assert_eq!(claim(9, slt), (0, 2));
+    let equal = |m: &mut Maker, inside: bool| {
+        let (left, bits) = over(m, EQUALS, 1, 2);
+        let right = m.pool.op(EQUALS, &bits);
+        (left, if inside { m.pool.op(AND, &[right]) } else { right })
+    };
+    assert_eq!(claim(13, |m| equal(m, false)), (0, 1));
+    assert_eq!(claim(13, |m| equal(m, true)), (16, 0));
+    let alone = |m: &mut Maker, kind: u16| {
+        let (left, _) = over(m, kind, 5, 1);
+        (left, m.variable(5, 0))
+    };
+    assert_eq!(claim(3, |m| alone(m, BV_AND)), (0, 0));
+    assert_eq!(claim(10, |m| alone(m, BV_ADD)), (16, 0));
+    let neg = |m: &mut Maker| {
+        let (left, _) = over(m, BV_NEG, 1, 1);
+        (left, expected(&mut m.pool, 12, left))
+    };
+    assert_eq!(claim(12, neg), (0, 3));
+}
+
+/// The values of a rule's circuit and of its left side at x and y.
+fn both(rule: u16, kind: u16, width: usize, x: u64, y: u64) -> (u64, u64) {
+    let mut maker = Maker::new(0);
+    let (left, _) = over(&mut maker, kind, width, 2);
+    let right = expected(&mut maker.pool, rule, left);
+    let claim = maker.equals(left, right);
+    assert!(verdict(&mut maker.pool, rule, &[claim]) <= 1);
+    let below = maker.pool.below(&[claim]);
+    let mut values = vec![0; claim + 1];
+    let pool = &maker.pool;
+    fill(pool, &below, &mut values, &mut |id| if pool.term(id).numbers[1] == 0 { x } else { y });
+    (values[right], values[left])
+}
+
+#[test]
+fn the_rows_of_values() {
+    assert_eq!(both(20, BV_ASHR, 1, 1, 1), (0, 1));
+    assert_eq!(both(21, BV_UDIV, 1, 0, 1), (1, 0));
+    assert_eq!(both(22, BV_UREM, 1, 1, 1), (1, 0));
+    assert_eq!(both(11, BV_MUL, 2, 3, 3), (1, 1));
+    // By 0 and beyond the width.
+    assert_eq!(both(21, BV_UDIV, 4, 5, 0), (15, 15));
+    assert_eq!(both(22, BV_UREM, 4, 5, 0), (5, 5));
+    assert_eq!(both(20, BV_ASHR, 4, 9, 2), (14, 14));
+    assert_eq!(both(20, BV_ASHR, 4, 9, 4), (0, 15));
+    assert_eq!(both(19, BV_LSHR, 64, u64::MAX, 63), (1, 1));
+    assert_eq!(both(9, BV_SLT, 64, 1 << 63, 0), (1, 1));
+}
+
+/// Every rule is answered in every way that it can be, and nothing contradicts what the generator knows.
+#[test]
+fn cases_reach_everything() {
+    let mut summary = Summary::default();
+    (0..3_000).for_each(|i| summary.look(i, &case(7, i)));
+    assert_eq!((summary.faults.clone(), summary.missing()), (vec![], vec![]));
+}
