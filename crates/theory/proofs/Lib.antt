@@ -24,7 +24,7 @@ pub mod Demand
 pub mod Distinct
 pub mod Place
 pub mod Bounds
-pub mod DepthBound
+pub mod ExactDepth
 pub mod Codes
 pub mod Cut
 pub mod Tallies

@@ -1,4 +1,5 @@
--- Statements of document 01 beside the three demands: on codes, on what is kept, on depths, on the tally. Each is proved in proofs/.
+-- Statements beside the three demands, of document 01 and of the requests after it: on codes, on what is kept, on depths, on the tally.
+-- Each is proved in proofs/.
 use mathlib.Core.Path.{_≡_}
 use mathlib.Core.Bool.{Bool, false, _||_}
 use mathlib.Core.List.{List, [], _∷_, map}
@@ -63,24 +64,24 @@ NothingKept = (job work work₂ old old₂ : Bytes) → length work ≡ length w
     → (let n = answer-bytes * call job work old .result .answers in drop n old ≡ drop n old₂)
     → call job work old ≡ call job work₂ old₂
 
--- ---- "For rules 8, 9, 12 and two-argument 10, arguments not BvBbTerm, an accepted depth is at most 2 × n + 2"
+-- ---- "With arguments that aren't BvBbTerm, an accepted ult, slt or two-argument add has depth exactly 2 × n, and neg exactly 2 × n + 1"
 -- an argument of width n that is no BvBbTerm
 pub record NoBbTerm (t : Term) (n : ℕ) : Type 0 where
   pub wide : sort-of t ≡ bv n
   pub no-bb : (ts : Terms) → t ≡ node BvBbTerm ts → ⊥
 
--- the left sides that it is said of
-pub data HasBound : Rule → Term → ℕ → Type 0 where
-  rule-8 : {x y : Term} {n : ℕ} → NoBbTerm x n → NoBbTerm y n → HasBound by-ult (two BvULt x y) n
-  rule-9 : {x y : Term} {n : ℕ} → NoBbTerm x n → NoBbTerm y n → HasBound by-slt (two BvSLt x y) n
-  rule-10 : {x y : Term} {n : ℕ} → NoBbTerm x n → NoBbTerm y n → HasBound by-add (two BvAdd x y) n
-  rule-12 : {x : Term} {n : ℕ} → NoBbTerm x n → HasBound by-neg (node BvNeg (cons x nil)) n
+-- the left sides that it is said of, each with its depth
+pub data HasDepth : Rule → Term → ℕ → Type 0 where
+  rule-8 : {x y : Term} {n : ℕ} → NoBbTerm x n → NoBbTerm y n → HasDepth by-ult (two BvULt x y) (2 * n)
+  rule-9 : {x y : Term} {n : ℕ} → NoBbTerm x n → NoBbTerm y n → HasDepth by-slt (two BvSLt x y) (2 * n)
+  rule-10 : {x y : Term} {n : ℕ} → NoBbTerm x n → NoBbTerm y n → HasDepth by-add (two BvAdd x y) (2 * n)
+  rule-12 : {x : Term} {n : ℕ} → NoBbTerm x n → HasDepth by-neg (node BvNeg (cons x nil)) (2 * n + 1)
 
 -- the answer to such a step, where it is held
-abbrev pub DepthBound : Type 0
-DepthBound =
-    (number : ℕ) (rule : Rule) (left right : Term) (n : ℕ) → HasBound rule left n
-    → let a = answer-to number rule (two Equals left right ∷ []) in a .code ≡ 0 → a .depth ≤ 2 * n + 2
+abbrev pub ExactDepth : Type 0
+ExactDepth =
+    (number : ℕ) (rule : Rule) (left right : Term) (d : ℕ) → HasDepth rule left d
+    → let a = answer-to number rule (two Equals left right ∷ []) in a .code ≡ 0 → a .depth ≡ d
 
 -- ---- "Until one holds, the last three sum to all answers written, since the tally was zero, by the jobs it was lent for"
 -- none of the three holds at its largest number
