@@ -43,7 +43,9 @@ fn add_row(
     out
 }
 
-// shift_add_multiplier: the product of x and y, at their width. Rust's tables of rows are one row here, which each turn replaces.
+// shift_add_multiplier: the product of x and y, at their width. Rust keeps a table of partial products, one of results and one of carries, each
+// of w × w terms; here a partial product is formed where its row adds it, the results are one row that each turn replaces, and the carry is one
+// number. So no array of the multiplier holds more than MAX_BITS numbers (.ci/run looks for one), whatever the width.
 pub fn shift_add_multiplier(
     job: &[u8],
     work: &[u8],
