@@ -300,6 +300,22 @@ pub fn many_backs(count: usize) -> Vec<u8> {
     job.finish()
 }
 
+impl JobWriter {
+    /// The code of an accepted step of the rule: rules 21 and 22 are accepted for their form only, and so is 20 unless the shifted term is a
+    /// BvBbTerm that ends in `false`.
+    pub fn right_code(&self, rule: u16, left: Term) -> u16 {
+        let ends_in_false = || {
+            let shifted = self.node(left).and_then(|node| self.node(node.arguments[0]));
+            shifted.is_some_and(|node| node.kind == Kind::BvBbTerm && node.arguments.last() == Some(&FALSE))
+        };
+        match rule {
+            20 => u16::from(!ends_in_false()),
+            21 | 22 => 1,
+            _ => 0,
+        }
+    }
+}
+
 /// A random job in which every step is accepted, and the code that each step gets.
 pub fn random_right(rng: &mut Rng) -> (Vec<u8>, Vec<u16>) {
     let mut job = JobWriter::new();
@@ -315,7 +331,7 @@ pub fn random_right(rng: &mut Rng) -> (Vec<u8>, Vec<u16>) {
         let left = job.random_left_side(rule, width, rng);
         let right = job.circuit(rule, left);
         job.claim(rule, left, right);
-        codes.push(u16::from(matches!(rule, 20..=22)));
+        codes.push(job.right_code(rule, left));
         if rng.chance(25) {
             let count = rng.range(2, job.count());
             job.back(count);

@@ -372,10 +372,19 @@ fn verdict(list: &mut List, rule: u16, literals: &[usize]) -> u16 {
         }
     };
     match result {
+        Ok(()) if rule == 20 && tops_with_false(&conclusion[0]) => 0,
         Ok(()) if (20..=22).contains(&rule) => 1,
         Ok(()) => 0,
         Err(e) => code_of(rule, &e),
     }
+}
+
+/// Whether (= (bvashr x y) r) has for x a BvBbTerm whose last bit is `false`. The original only accepts; which accepted steps of
+/// rule 20 are held is document 02's.
+fn tops_with_false(literal: &Term) -> bool {
+    let Some((Operator::Equals, [left, _])) = literal.as_op() else { return false };
+    let Some((Operator::BvAShr, [x, _])) = left.as_op() else { return false };
+    matches!(x.as_op(), Some((Operator::BvBbTerm, [.., top])) if top.is_bool_false())
 }
 
 /// Rule 13 on (= (= a b) r) with a and b Bools.

@@ -1,7 +1,8 @@
-// The rules shl, lshr and ashr; ashr is held to its form only.
+// The rules shl, lshr and ashr; ashr is accepted for its form only, unless the shifted term ends in `false`.
 ghost use mathlib.Core.Path.{_≡_};
 ghost use Rattle.theory.specs.Bits.{shifted};
 ghost use Rattle.theory.specs.Verdict.{held, form-only};
+ghost use mathlib.Core.Bool.{cond};
 ghost use mathlib.Core.List.{map};
 ghost use Prim.Native.Nat.{_≤_};
 ghost use lib.ListN.{take};
@@ -10,7 +11,7 @@ ghost use Rattle.theory.specs.Limit.{first-terms, max-width};
 ghost use Rattle.theory.specs.Gates.{term-gates};
 ghost use Rattle.theory.specs.Circuit.{shl, lshr, ashr};
 ghost use Rattle.theory.specs.RuleTable.{by-shl, by-lshr, by-ashr};
-ghost use Rattle.theory.specs.Rule.{compare, verdict};
+ghost use Rattle.theory.specs.Rule.{compare, ends-in-false, verdict};
 ghost use Rattle.store.specs.Store.{Store};
 ghost use Rattle.operand_rules.specs.Rules.{Two, number-in, width-bits, tree, verdict-of};
 use circuits::bits::MAX_BITS;
@@ -20,6 +21,7 @@ use operand_rules::bits::compare_bits;
 use operand_rules::bits::compare_bits_form;
 use operand_rules::bits::get_term_bits;
 use operand_rules::bits::width_at;
+use store::gates::FALSE;
 use store::gates::constant;
 use store::terms_at::term_at;
 use terms::Term;
@@ -88,17 +90,23 @@ pub fn lshr(job: &[u8], work: &[u8], n: usize, literal: u32) -> Verdict
     lshr_check(job, work, n, x, y, r)
 }
 
-// The claim is the term of the circuit of x shifted right, the top bit coming in.
+// The claim is the term of the circuit of x shifted right, the top bit coming in. Only a BvBbTerm has the bit `false`.
 fn ashr_check(job: &[u8], work: &[u8], n: usize, x: u32, y: u32, claim: u32) -> Verdict
     requires { ⌜ Two (now job) (now work) n x y claim ⌝ }
-    ensures { λ v. ⌜ verdict-of v ≡ compare form-only (shifted (ashr term-gates) (tree (now (job .entry)) (now (work .entry)) n x) (tree (now (job .entry)) (now (work .entry)) n y)) (tree (now (job .entry)) (now (work .entry)) n claim) ⌝ }
+    ensures { λ v. ⌜ verdict-of v ≡ compare (cond (ends-in-false (tree (now (job .entry)) (now (work .entry)) n x)) held form-only)
+        (shifted (ashr term-gates) (tree (now (job .entry)) (now (work .entry)) n x) (tree (now (job .entry)) (now (work .entry)) n y))
+        (tree (now (job .entry)) (now (work .entry)) n claim) ⌝ }
 {
     let w = width_at(job, work, n, x);
     let xs = get_term_bits(job, work, n, x, w);
     let ys = get_term_bits(job, work, n, y, w);
     let size = width_bits(job, work, n, w);
     let bits = shift_circuits::shift::ashr(job, work, n, size, xs, ys, w);
-    compare_bits_form(job, work, n, bits, w, claim)
+    if xs[w - 1] == FALSE {
+        compare_bits(job, work, n, bits, w, claim)
+    } else {
+        compare_bits_form(job, work, n, bits, w, claim)
+    }
 }
 
 // ashr: (= (bvashr x y) claim).

@@ -13,6 +13,7 @@ pub mod Loops
 pub mod Alethe
 pub mod Divider
 pub mod Shift
+pub mod NonNegative
 pub mod Form
 pub mod Slicing
 pub mod Verdict

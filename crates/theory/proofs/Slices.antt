@@ -147,7 +147,7 @@ concat-holds ρ (cons t ts) n s =
     concat-first ρ t ts (sort-width (sort-of t)) (r .0) (r .1)
     (bits-of ρ t (sort-width (sort-of t)) (is-bv (sort-of t) (and-l (is-bv-sort (sort-of t)) _ h)))
 
-false-value : (ρ : Assign) → value ρ (node False nil) ≡ truth false
+pub false-value : (ρ : Assign) → value ρ (node False nil) ≡ truth false
 unfolding fold meaning
 false-value ρ = refl
 
@@ -158,7 +158,7 @@ last-map f d [] = refl
 last-map f d (x ∷ []) = refl
 last-map f d (x ∷ x′ ∷ xs) = last-map f d (x′ ∷ xs)
 
-last-top : (bs : List Bool) → last false bs ≡ top bs
+pub last-top : (bs : List Bool) → last false bs ≡ top bs
 unfolding last top
 last-top [] = refl
 last-top (x ∷ []) = refl
@@ -178,19 +178,21 @@ extended : (n k x : ℕ) (b : Bool) → x + 2 ^ n * cond b (2 ^ k - 1) 0 ≡ x +
 extended n k x true = rw (pow-add 2 n k) (omega (arith, ap (λ (z : ℕ). 2 ^ n * z) (suc-ones k)))
 extended n k x false = omega arith
 
-top-at : (bs : List Bool) → bit-at (length bs - 1) (to-number bs) ≡ top bs
+pub top-at : (bs : List Bool) → bit-at (length bs - 1) (to-number bs) ≡ top bs
 unfolding top
 top-at [] = refl
 top-at (x ∷ xs) = ap (λ (i : ℕ). bit-at i (to-number (x ∷ xs))) (let z : suc (length xs) - 1 ≡ length xs = omega arith in z) ∙ top-bit x xs
 
+-- the value of the last bit of a term's bits
+pub top-reads : (ρ : Assign) (xs : List Term) (bs : List Bool) → map (value ρ) xs ≡ map truth bs → value ρ (last (node False nil) xs) ≡ truth (top bs)
+top-reads ρ xs bs r = last-map (value ρ) (node False nil) xs ∙ ap₂ last (false-value ρ) r ∙ sym (last-map truth false bs) ∙ ap truth (last-top bs)
+
 extend-reads : (ρ : Assign) (k : ℕ) (xs : List Term) (bs : List Bool) → map (value ρ) xs ≡ map truth bs
     → map (value ρ) (extend-bits k xs) ≡ map truth (bs ++ replicate k (top bs))
 extend-reads ρ k xs bs r =
-    let l : value ρ (last (node False nil) xs) ≡ truth (top bs)
-    = last-map (value ρ) (node False nil) xs ∙ ap₂ last (false-value ρ) r ∙ sym (last-map truth false bs) ∙ ap truth (last-top bs) in
     map-append (value ρ) xs (replicate k (last (node False nil) xs))
     ∙ ap₂ (λ (us vs : List Val). us ++ vs) r
-    (map-replicate (value ρ) k (last (node False nil) xs) ∙ ap (replicate k) l ∙ sym (map-replicate truth k (top bs)))
+    (map-replicate (value ρ) k (last (node False nil) xs) ∙ ap (replicate k) (top-reads ρ xs bs r) ∙ sym (map-replicate truth k (top bs)))
     ∙ sym (map-append truth bs (replicate k (top bs)))
 
 extend-number : (k : ℕ) (bs : List Bool)

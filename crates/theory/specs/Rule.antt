@@ -11,8 +11,8 @@ use Rattle.theory.specs.Sort.{is-bv-sort, sort-width, sort-of}
 use Rattle.theory.specs.Value.{to-number}
 use Rattle.theory.specs.Optional.{collect}
 use Rattle.theory.specs.Gates.{term-gates}
-use Rattle.theory.specs.Circuit.{negate, bitblast-ult, slt, equality, shl, lshr, ashr, udiv, urem}
-use Rattle.theory.specs.Bits.{get-term-bits, bb, fold-terms, zipped, add-bits, product, extract-bits, concat-bits, extend-bits, shifted, divided}
+use Rattle.theory.specs.Circuit.{last, negate, bitblast-ult, slt, equality, shl, lshr, ashr, udiv, urem}
+use Rattle.theory.specs.Bits.{get-term-bits, bb, fold-terms, zipped, add-bits, product, extract-bits, concat-bits, extend-bits, shifted, literally-false, divided}
 use Rattle.theory.specs.Verdict.{Verdict, held, form-only, wrong-form, not-bit-vector, not-constant, bit-not-literal, other-value, terms-differ, index-not-next}
 use Rattle.theory.specs.RuleTable.{Rule, by-value, by-var, by-and, by-or, by-xor, by-xnor, by-not, by-ult, by-slt, by-add, by-mult, by-neg, by-equality, by-comp, by-extract, by-concat, by-sign-extend, by-shl, by-lshr, by-ashr, by-udiv, by-urem, by-bitwise-slicing}
 
@@ -112,6 +112,15 @@ value-rule v r = form (args-of (kind BvBbTerm) r) (λ bits. constant (args-of co
 abbrev pub of-bits : Term → Verdict → Verdict
 of-bits x v = cond (is-bv-sort (sort-of x)) v not-bit-vector
 
+-- ---- rule 20: (= (bvashr x y) res). The circuit is SMT-LIB's operation where x cannot be negative
+-- x is a BvBbTerm, and its last bit is the term `false` itself
+abbrev pub ends-in-false : Term → Bool
+ends-in-false (node o ts) = eqb (kind o) (kind BvBbTerm) && literally-false (last (node True nil) (to-list ts))
+
+-- held for such an x, form only for any other
+abbrev pub ashr-rule : Term → Term → Verdict
+ashr-rule l r = binary (kind BvAShr) l (λ x y. compare (cond (ends-in-false x) held form-only) (shifted (ashr term-gates) x y) r)
+
 -- ---- rule 23: (= (bvand a c) (concat ..)), slice by slice
 -- the two parts of a slice: ((_ extract i j) a) and ((_ extract i j) c), with i the next index from the top
 abbrev pub parts-verdict : ℕ → Term → Term → (ℕ → Verdict) → Term → Term → Verdict
@@ -161,7 +170,7 @@ on-sides by-sign-extend l r =
     unary extend-kind l (λ x. compare held (cond (eqb (index-of 0 l) 0) x (bb (extend-bits (index-of 0 l) (get-term-bits x)))) r)
 on-sides by-shl l r = on-two held (kind BvShl) (shifted (shl term-gates)) l r
 on-sides by-lshr l r = on-two held (kind BvLShr) (shifted (lshr term-gates)) l r
-on-sides by-ashr l r = on-two form-only (kind BvAShr) (shifted (ashr term-gates)) l r
+on-sides by-ashr l r = ashr-rule l r
 on-sides by-udiv l r = on-two form-only (kind BvUDiv) (divided (udiv term-gates)) l r
 on-sides by-urem l r = on-two form-only (kind BvURem) (divided (urem term-gates)) l r
 on-sides by-bitwise-slicing l r = slicing-rule l r

@@ -263,10 +263,9 @@ impl Soak {
 
 /// Whether any step can get such an answer.
 fn possible(answer: &Answer) -> bool {
-    let form_only = matches!(answer.rule, 20..=22);
     match answer.code {
-        0 => !form_only,
-        1 => form_only,
+        0 => !matches!(answer.rule, 21 | 22),
+        1 => matches!(answer.rule, 20..=22),
         10..=17 => answer.depth == 0,
         _ => false,
     }

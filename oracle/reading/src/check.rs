@@ -121,7 +121,7 @@ impl Summary {
 /// Whether a rule's step can have a code.
 fn can_end(rule: u16, code: u16) -> bool {
     match code {
-        0 => !matches!(rule, 20..=22),
+        0 => !matches!(rule, 21 | 22),
         1 => matches!(rule, 20..=22),
         10 | 11 => true,
         12 => matches!(rule, 2 | 13),

@@ -78,9 +78,16 @@ pub fn verdict(pool: &mut Pool, rule: u16, literals: &[Id]) -> u16 {
         13 if pool.sort(pool.args(left)[0]) == Sort::Bool => 12,
         23 => slices(pool, left, right),
         _ if expected(pool, rule, left) != right => 16,
+        20 if tops_with_false(pool, left) => 0,
         20..=22 => 1,
         _ => 0,
     }
+}
+
+/// Whether the first operand is a BvBbTerm whose last bit is `false` itself: rule 20 and SMT-LIB agree there.
+fn tops_with_false(pool: &Pool, left: Id) -> bool {
+    let x = pool.args(left)[0];
+    pool.kind(x) == BB_TERM && pool.args(x).last() == Some(&NO)
 }
 
 fn value(pool: &Pool, left: Id, right: Id) -> u16 {

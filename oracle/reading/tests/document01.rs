@@ -173,6 +173,30 @@ fn the_rows_of_values() {
     assert_eq!(both(9, BV_SLT, 64, 1 << 63, 0), (1, 1));
 }
 
+/// Rule 20 on a BvBbTerm of two bits: held exactly where its last bit is `false` itself.
+#[test]
+fn an_arithmetic_shift_is_held_below_a_literal_false() {
+    let code = |low: fn(&mut Maker) -> Id, top: fn(&mut Maker) -> Id| {
+        let build = |m: &mut Maker| {
+            let bits = [low(m), top(m)];
+            let (x, y) = (m.pool.bb(&bits), m.variable(2, 1));
+            let left = m.pool.op(BV_ASHR, &[x, y]);
+            (left, expected(&mut m.pool, 20, left))
+        };
+        claim(20, build).0
+    };
+    let not_true: fn(&mut Maker) -> Id = |m| m.pool.not(YES);
+    assert_eq!(code(|_| YES, |_| NO), 0);
+    assert_eq!(code(|_| NO, |_| YES), 1);
+    assert_eq!(code(|_| NO, not_true), 1);
+    let constant = |m: &mut Maker| {
+        let x = m.pool.add(CONSTANT, &[2, 0], &[]);
+        let left = m.pool.op(BV_ASHR, &[x, x]);
+        (left, expected(&mut m.pool, 20, left))
+    };
+    assert_eq!(claim(20, constant).0, 1);
+}
+
 /// Every rule is answered in every way that it can be, and nothing contradicts what the generator knows.
 #[test]
 fn cases_reach_everything() {

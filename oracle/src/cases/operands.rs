@@ -157,6 +157,28 @@ impl Maker {
         self.bb(bits)
     }
 
+    /// A vector whose top bit is false, said in different ways, or only its lowest bit.
+    fn topped(&mut self, w: usize) -> T {
+        let (x, zero) = (self.any_var(w), self.constant(1, 0));
+        let mut bits = self.bits(&x);
+        let f = self.lit(false);
+        match self.rng.below(7) {
+            0 => return self.constant(w, 0),
+            1 if w > 1 => {
+                let low = self.any_var(w - 1);
+                return self.op2(Operator::BvConcat, &zero, &low);
+            }
+            2 => {
+                let t = self.lit(true);
+                bits[w - 1] = self.not(&t);
+            }
+            3 => bits[w - 1] = self.bit(0, &zero),
+            4 => bits[0] = f,
+            _ => bits[w - 1] = f,
+        }
+        self.bb(bits)
+    }
+
     fn compound(&mut self, w: usize, depth: usize) -> T {
         match self.rng.below(8) {
             0 => {
@@ -259,7 +281,10 @@ impl Maker {
             return self.op(op, args);
         }
         if let Some(op) = binary(rule) {
-            let (a, b) = (get(self, w), get(self, w));
+            let (mut a, b) = (get(self, w), get(self, w));
+            if rule == 20 && !plain && self.rng.chance(50) {
+                a = self.topped(w);
+            }
             return self.op2(op, &a, &b);
         }
         match rule {

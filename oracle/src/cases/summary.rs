@@ -106,8 +106,12 @@ impl Summary {
         );
         let mut missing = Vec::new();
         for rule in 1..=23u16 {
-            let good = if (20..=22).contains(&rule) { 1 } else { 0 };
-            for c in [good, if rule == 1 { 15 } else { 16 }] {
+            let accepted: &[u16] = match rule {
+                20 => &[0, 1],
+                21 | 22 => &[1],
+                _ => &[0],
+            };
+            for &c in accepted.iter().chain([if rule == 1 { &15 } else { &16 }]) {
                 if !self.answers.contains_key(&(rule, c)) {
                     missing.push(format!("rule {} code {}", rule, c));
                 }

@@ -1,7 +1,7 @@
 //! Left sides and right claims for every rule.
 use super::Maker;
 use crate::kind::*;
-use crate::pool::Id;
+use crate::pool::{Id, NO, YES};
 use crate::rule::{expected, left_kind};
 
 /// The rules whose circuits grow with the square of the width.
@@ -45,7 +45,10 @@ impl Maker {
             return self.joined(width);
         }
         let count = self.count_of_operands(rule, width);
-        let args = self.operands(width, count);
+        let mut args = self.operands(width, count);
+        if kind == BV_ASHR && self.rng.chance(60) {
+            args[0] = self.topped(width);
+        }
         let numbers = match kind {
             EXTRACT => {
                 let i = self.rng.below(width);
@@ -55,6 +58,28 @@ impl Maker {
             _ => vec![],
         };
         self.pool.add(kind, &numbers, &args)
+    }
+
+    /// A vector whose top bit is false, said in different ways, or only its lowest bit.
+    fn topped(&mut self, width: usize) -> Id {
+        let x = self.variable(width, 0);
+        let mut bits = self.pool.bits(x);
+        let top = width - 1;
+        match self.rng.below(8) {
+            0 => return self.pool.add(CONSTANT, &[width as u64, 0], &[]),
+            1 if width > 1 => {
+                let (zero, low) = (self.pool.add(CONSTANT, &[1, 0], &[]), self.variable(top, 1));
+                return self.pool.op(CONCAT, &[zero, low]);
+            }
+            2 => bits[top] = self.pool.not(YES),
+            3 => {
+                let zero = self.pool.add(CONSTANT, &[1, 0], &[]);
+                bits[top] = self.pool.bit(0, zero);
+            }
+            4 => bits[0] = NO,
+            _ => bits[top] = NO,
+        }
+        self.pool.bb(&bits)
     }
 
     /// A concat of at most 64 bits.
