@@ -43,7 +43,7 @@ module _ (job : Bytes) (work space : ℕ) where
   demand-1 = ran job work space .why
 
   -- a record that is reached is done
-  reached-done : (m : ℕ) (r : Bytes) → Reached job work space m r → m < run job work space .records
+  pub reached-done : (m : ℕ) (r : Bytes) → Reached job work space m r → m < run job work space .records
   reached-done m r h = go (run job work space .stop) (run job work space .records) demand-1
     where
       go : (stop done : ℕ) → Stops job work space stop done → m < done

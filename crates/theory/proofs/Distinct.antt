@@ -12,7 +12,7 @@ use Rattle.theory.specs.Limit.{first-terms}
 use Rattle.theory.specs.Kind.{Op, True, False, kind}
 use Rattle.theory.specs.Term.{Term, node, nil, to-list, from-list, same-numbers}
 use Rattle.theory.specs.Record.{Bytes, AllBytes, records-of, term, read, step-count}
-use Rattle.theory.specs.Plain.{Entry, entry, Plain, start, at-place, has, feed, plain-after}
+use Rattle.theory.specs.Plain.{Entry, entry, Plain, start, has, feed, plain-after}
 use Rattle.theory.specs.Codes.{all-below, fault}
 use Rattle.theory.specs.Job.{run}
 use Rattle.theory.specs.Claim.{OneNumber}
@@ -20,7 +20,7 @@ use Rattle.theory.proofs.Basics.{none-some, some-inj, or-left, or-right
 use Rattle.theory.proofs.Blast.{to-from-list}
 use Rattle.theory.proofs.Same.{same-numbers-refl}
 use Rattle.theory.proofs.Bytes.{Sound, same-record, record-sound, not-constant}
-use Rattle.theory.proofs.Places.{entry-at, tree-at, tree-of, trees-old, more-below}
+use Rattle.theory.proofs.Places.{entry-at, tree-at, tree-of, term-there, trees-old, more-below}
 use Rattle.theory.proofs.Run.{fed, plain-ind, plain-next}
 
 pub has-at : (list : Plain) (j : ℕ) (e : Entry) (r : Bytes) → getElem? list j ≡ some e → e .bytes ≡ r → T (has list r)
@@ -184,13 +184,7 @@ module _ (list : Plain) (w : WellKept list) where
   pub trees-distinct : DistinctBelow list (length list)
   trees-distinct = distinct-below (length list) (omega arith)
 
--- ---- all through a run
--- a term that is at a place is the tree there
-term-there : (list : Plain) (i : ℕ) (t : Term) → at-place list i ≡ some t → (i < length list) × (tree-at list i ≡ t)
-term-there [] i t e = absurd (none-some t e)
-term-there (d ∷ list) zero t e = (omega arith, some-inj (d .tree) t e)
-term-there (d ∷ list) (suc i) t e = let h = term-there list i t e in (omega (arith, h .0), h .1)
-
+-- all through a run
 pub one-number : OneNumber
 one-number job b work space m i j t l p q =
     let list = plain-after m job in

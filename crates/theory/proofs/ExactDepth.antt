@@ -1,5 +1,5 @@
 -- The depth of an accepted right side under rules 8, 9, 12 and two-argument 10, for arguments that are no BvBbTerm: exactly 2 * n, and 2 * n + 1 for rule 12.
-use mathlib.Core.Path.{_≡_, refl, sym, ap, ap₂, subst, _∙_}
+use mathlib.Core.Path.{_≡_, refl, sym, ap, subst, _∙_}
 use mathlib.Core.Bool.{Bool, true, false, cond}
 use mathlib.Core.List.{List, [], _∷_, map}
 use Prim.Native.Nat.{ℕ, zero, suc, _+_, _*_, _<_, _≤_, max}
@@ -7,7 +7,7 @@ use native.Mathlib.Omega.{arith}
 use lib.Dec.{T, leb, ltb, eqb, leb→le, lt→ltb}
 use lib.Ieee.Fits.{and-l}
 use Rattle.theory.specs.Kind.{Op, True, False, Not, And, Or, Xor, Equals, BvBitOf, BvNeg, BvAdd, BvULt, BvSLt, kind}
-use Rattle.theory.specs.Term.{fold, Term, Terms, node, nil, cons, to-list, from-list, two}
+use Rattle.theory.specs.Term.{fold, Term, Terms, node, nil, cons, from-list, two}
 use Rattle.theory.specs.Sort.{guard, Sort, bool, bv, sort-of}
 use Rattle.theory.specs.Depth.{depth, deepest}
 use Rattle.theory.specs.Gates.{term-gates}
@@ -15,12 +15,11 @@ use Rattle.theory.specs.Circuit.{ripple-carry-adder, negate, bitblast-ul
 use Rattle.theory.specs.Bits.{select, get-term-bits, bb, add-bits}
 use Rattle.theory.specs.Verdict.{Verdict, held, accepted}
 use Rattle.theory.specs.RuleTable.{Rule, by-ult, by-slt, by-neg, by-add}
-use Rattle.theory.specs.Rule.{verdict, compare, on-one, on-two, on-many, on-sides}
+use Rattle.theory.specs.Rule.{verdict, on-sides}
 use Rattle.theory.specs.Claim.{NoBbTerm, HasDepth, rule-8, rule-9, rule-10, rule-12, ExactDepth}
-use Rattle.theory.proofs.Blast.{not-bb, is-bb, to-from-list}
-use Rattle.theory.proofs.Same.{decode}
+use Rattle.theory.proofs.Blast.{not-bb, is-bb}
 use Rattle.theory.proofs.Sorts.{sorts-sized, sized}
-use Rattle.theory.proofs.Form.{code-held, same-of, unary-held, binary-held, many-held}
+use Rattle.theory.proofs.Form.{code-held, one-claim, two-claim, many-claim, sides-of}
 use Rattle.theory.proofs.Basics.{T-true}
 
 -- ---- the bits of the arguments
@@ -202,29 +201,6 @@ neg-depth l (next {n = n} a b p) =
     rw bb-depth (omega (arith, adder-depth 1 (node True nil) (neg-level (next a b p))))
 
 -- ---- the rules
-module _ (k : ℕ) (o : Op) (known : (is : List ℕ) → decode k is ≡ o) where
-  two-claim : (expected : Term → Term → Term) (x y r : Term) → on-two held k expected (two o x y) r ≡ held → expected x y ≡ r
-  two-claim expected x y r e =
-      let u = binary-held k (two o x y) (λ x y. compare held (expected x y) r) e in
-      let i : two o x y ≡ two o (u .left) (u .right) = u .is ∙ ap (λ (p : Op). two p (u .left) (u .right)) (known (u .numbers)) in
-      let a : x ≡ u .left = cc in
-      let b : y ≡ u .right = cc in
-      ap₂ expected a b ∙ same-of (expected (u .left) (u .right)) r (u .after)
-
-  one-claim : (expected : Term → Term) (x r : Term) → on-one k expected (node o (cons x nil)) r ≡ held → expected x ≡ r
-  one-claim expected x r e =
-      let u = unary-held k (node o (cons x nil)) (λ x. compare held (expected x) r) e in
-      let i : node o (cons x nil) ≡ node o (cons (u .one) nil) = u .is ∙ ap (λ (p : Op). node p (cons (u .one) nil)) (known (u .numbers)) in
-      let a : x ≡ u .one = cc in
-      ap expected a ∙ same-of (expected (u .one)) r (u .after)
-
-  many-claim : (expected : List Term → Term) (ts : Terms) (r : Term) → on-many k expected (node o ts) r ≡ held → expected (to-list ts) ≡ r
-  many-claim expected ts r e =
-      let u = many-held k (node o ts) (λ ts. compare held (expected ts) r) e in
-      let i : node o ts ≡ node o (from-list (u .all)) = u .is ∙ ap (λ (p : Op). node p (from-list (u .all))) (known (u .numbers)) in
-      let a : ts ≡ from-list (u .all) = cc in
-      ap (λ (us : Terms). expected (to-list us)) a ∙ ap expected (to-from-list (u .all)) ∙ same-of (expected (u .all)) r (u .after)
-
 -- what each rule expects of such arguments has the depth
 ult-exact : (x y r : Term) (n : ℕ) → NoBbTerm x n → NoBbTerm y n → on-sides by-ult (two BvULt x y) r ≡ held → depth r ≡ 2 * n
 unfolding on-sides
@@ -251,15 +227,6 @@ sides-exact (rule-8 {x} {y} {n} a b) r e = ult-exact x y r n a b e
 sides-exact (rule-9 {x} {y} {n} a b) r e = slt-exact x y r n a b e
 sides-exact (rule-10 {x} {y} {n} a b) r e = add-exact x y r n a b e
 sides-exact (rule-12 {x} {n} a) r e = neg-exact x r n a e
-
-sides-of : (rule : Rule) (l r : Term) → verdict rule (two Equals l r) ≡ held → on-sides rule l r ≡ held
-unfolding verdict
-sides-of rule l r e =
-    let u = binary-held 24 (two Equals l r) (on-sides rule) e in
-    let i : two Equals l r ≡ two Equals (u .left) (u .right) = u .is in
-    let a : l ≡ u .left = cc in
-    let b : r ≡ u .right = cc in
-    ap₂ (on-sides rule) a b ∙ u .after
 
 -- the answer's depth is the right side's
 pub exact-depth : ExactDepth

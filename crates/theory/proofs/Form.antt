@@ -6,12 +6,13 @@ use mathlib.Core.Option.{Option, none, some}
 use Prim.Native.Nat.{ℕ}
 use native.Mathlib.Omega.{arith}
 use lib.Dec.{T, eqb, eqb→eq}
-use Rattle.theory.specs.Kind.{Op, True, False, kind, indices}
-use Rattle.theory.specs.Term.{Term, node, nil, cons, to-list, from-list, same-term}
+use Rattle.theory.specs.Kind.{Op, True, False, Equals, kind, indices}
+use Rattle.theory.specs.Term.{Term, Terms, node, nil, cons, to-list, from-list, same-term, two}
 use Rattle.theory.specs.Verdict.{Verdict, held, form-only, not-one-literal, wrong-form, not-bit-vector, not-constant, bit-not-literal, other-value, terms-differ, index-not-next, code-of}
-use Rattle.theory.specs.Rule.{args-of, one-of, two-of, form, unary, binary, compare, literal-bit, literal-bits}
+use Rattle.theory.specs.RuleTable.{Rule}
+use Rattle.theory.specs.Rule.{args-of, one-of, two-of, form, unary, binary, compare, on-one, on-two, on-many, literal-bit, literal-bits, on-sides, verdict}
 use Rattle.theory.proofs.Basics.{none-some, some-inj, cons-some-is}
-use Rattle.theory.proofs.Blast.{from-to-list}
+use Rattle.theory.proofs.Blast.{from-to-list, to-from-list}
 use Rattle.theory.proofs.Slices.{literal}
 use Rattle.theory.proofs.Same.{decode, decode-kind, same-eq}
 
@@ -141,3 +142,36 @@ literal-bits-are [] bs e = ap (map literal) (some-inj [] bs e)
 literal-bits-are (t ∷ ts) bs e =
     let q = cons-some-is (literal-bit t) (literal-bits ts) bs e in
     ap₂ (λ (u : Term) (us : List Term). u ∷ us) (literal-bit-is t (q .0) (q .2)) (literal-bits-are ts (q .1) (q .3)) ∙ ap (map literal) (sym (q .4))
+
+-- ---- a held step of such a left side: the right side is what the rule expects
+module _ (k : ℕ) (o : Op) (known : (is : List ℕ) → decode k is ≡ o) where
+  pub two-claim : (expected : Term → Term → Term) (x y r : Term) → on-two held k expected (two o x y) r ≡ held → expected x y ≡ r
+  two-claim expected x y r e =
+      let u = binary-held k (two o x y) (λ x y. compare held (expected x y) r) e in
+      let i : two o x y ≡ two o (u .left) (u .right) = u .is ∙ ap (λ (p : Op). two p (u .left) (u .right)) (known (u .numbers)) in
+      let a : x ≡ u .left = cc in
+      let b : y ≡ u .right = cc in
+      ap₂ expected a b ∙ same-of (expected (u .left) (u .right)) r (u .after)
+
+  pub one-claim : (expected : Term → Term) (x r : Term) → on-one k expected (node o (cons x nil)) r ≡ held → expected x ≡ r
+  one-claim expected x r e =
+      let u = unary-held k (node o (cons x nil)) (λ x. compare held (expected x) r) e in
+      let i : node o (cons x nil) ≡ node o (cons (u .one) nil) = u .is ∙ ap (λ (p : Op). node p (cons (u .one) nil)) (known (u .numbers)) in
+      let a : x ≡ u .one = cc in
+      ap expected a ∙ same-of (expected (u .one)) r (u .after)
+
+  pub many-claim : (expected : List Term → Term) (ts : Terms) (r : Term) → on-many k expected (node o ts) r ≡ held → expected (to-list ts) ≡ r
+  many-claim expected ts r e =
+      let u = many-held k (node o ts) (λ ts. compare held (expected ts) r) e in
+      let i : node o ts ≡ node o (from-list (u .all)) = u .is ∙ ap (λ (p : Op). node p (from-list (u .all))) (known (u .numbers)) in
+      let a : ts ≡ from-list (u .all) = cc in
+      ap (λ (us : Terms). expected (to-list us)) a ∙ ap expected (to-from-list (u .all)) ∙ same-of (expected (u .all)) r (u .after)
+
+pub sides-of : (rule : Rule) (l r : Term) → verdict rule (two Equals l r) ≡ held → on-sides rule l r ≡ held
+unfolding verdict
+sides-of rule l r e =
+    let u = binary-held 24 (two Equals l r) (on-sides rule) e in
+    let i : two Equals l r ≡ two Equals (u .left) (u .right) = u .is in
+    let a : l ≡ u .left = cc in
+    let b : r ≡ u .right = cc in
+    ap₂ (on-sides rule) a b ∙ u .after

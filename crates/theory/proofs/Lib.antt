@@ -26,6 +26,7 @@ pub mod Distinct
 pub mod Place
 pub mod Bounds
 pub mod ExactDepth
+pub mod LowBits
 pub mod Codes
 pub mod Cut
 pub mod Tallies

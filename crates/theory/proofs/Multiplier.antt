@@ -144,7 +144,7 @@ to-number-multiplier xs (y ∷ ys) =
     ∙ ap (λ (n : ℕ). n % 2 ^ length xs) (omega (arith, to-number-row y xs))
 
 -- ---- rule 11
-multiplier-reads : (ρ : Assign) (xs ys : List Term) (cs bs : List Bool) → map (value ρ) xs ≡ map truth cs → map (value ρ) ys ≡ map truth bs
+pub multiplier-reads : (ρ : Assign) (xs ys : List Term) (cs bs : List Bool) → map (value ρ) xs ≡ map truth cs → map (value ρ) ys ≡ map truth bs
     → map (value ρ) (shift-add-multiplier term-gates xs ys) ≡ map truth (shift-add-multiplier bool-gates cs bs)
 multiplier-reads ρ xs ys cs bs p q =
     multiplier-hom (fold-hom (meaning ρ)) xs ys ∙ ap₂ (shift-add-multiplier (vals ρ)) p q ∙ sym (multiplier-hom (truth-hom ρ) cs bs)

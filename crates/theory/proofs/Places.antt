@@ -2,7 +2,7 @@
 use mathlib.Core.Path.{_≡_, refl, ap, ap₂}
 use mathlib.Core.List.{List, [], _∷_, _++_, map}
 use mathlib.Core.Option.{none, some}
-use Prim.Native.Nat.{ℕ, _<_, _≤_}
+use Prim.Native.Nat.{ℕ, zero, suc, _<_, _≤_}
 use native.Mathlib.Omega.{arith}
 use lib.Dec.{T, ltb, ltb→lt, lt→ltb}
 use lib.Ieee.Fits.{and-l, and-r, and-i}
@@ -12,7 +12,7 @@ use Rattle.theory.specs.Term.{Term, node, nil, from-list}
 use Rattle.theory.specs.Optional.{either, cons-some}
 use Rattle.theory.specs.Plain.{Entry, entry, Plain, at-place, at-places, term-of}
 use Rattle.theory.specs.Codes.{all-below}
-use Rattle.theory.proofs.Basics.{getElem-of}
+use Rattle.theory.proofs.Basics.{none-some, some-inj, getElem-of}
 
 -- the entry and the term at a place; some entry where there is none
 abbrev pub entry-at : Plain → ℕ → Entry
@@ -27,6 +27,11 @@ tree-of list o ks = node o (from-list (map (tree-at list) ks))
 
 pub at-place-is : (list : Plain) (i : ℕ) → i < length list → at-place list i ≡ some (tree-at list i)
 at-place-is list i h = ap (either none (λ (e : Entry). some (e .tree))) (getElem-of list i (entry (node True nil) []) h)
+
+pub term-there : (list : Plain) (i : ℕ) (t : Term) → at-place list i ≡ some t → (i < length list) × (tree-at list i ≡ t)
+term-there [] i t e = absurd (none-some t e)
+term-there (d ∷ list) zero t e = (omega arith, some-inj (d .tree) t e)
+term-there (d ∷ list) (suc i) t e = let h = term-there list i t e in (omega (arith, h .0), h .1)
 
 pub at-places-are : (list : Plain) (ks : List ℕ) → T (all-below (length list) ks) → at-places list ks ≡ some (map (tree-at list) ks)
 at-places-are list [] h = refl

@@ -136,7 +136,7 @@ fed P work space list answered r e old new shorter = go (read r) e refl
     go unknown f d = old
     go misfit f d = old
 
-feed-good : (work space : ℕ) (list : Plain) (answered : ℕ) (r : Bytes) → fault work space list answered r ≡ 0 → AllGood list → AllGood (feed list r)
+pub feed-good : (work space : ℕ) (list : Plain) (answered : ℕ) (r : Bytes) → fault work space list answered r ≡ 0 → AllGood list → AllGood (feed list r)
 feed-good work space list answered r e h =
     fed AllGood work space list answered r e h
     (λ o ks d p n. good-snoc list (entry (tree-of list o ks) r) h (p .sorted)) (λ n a b. good-take n list h)
@@ -381,3 +381,9 @@ module _ (job : Bytes) (work space : ℕ) where
       let r = getD (records-of job) m [] in
       let e : getElem? (records-of job) m ≡ some r = getElem-of (records-of job) m [] (omega arith) in
       next m r (omega arith) e (ran .all-passed m r (omega arith) e) (plain-ind P base next m (omega arith))
+
+  -- so every term on the list has a sort
+  pub sorted-after : (m : ℕ) → m ≤ run job work space .records → AllGood (plain-after m job)
+  sorted-after =
+      plain-ind (λ m. AllGood (plain-after m job)) start-good
+      (λ m r l e p h. subst AllGood (sym (plain-next m r e)) (feed-good work space (plain-after m job) (step-count (take m (records-of job))) r p h))

@@ -147,7 +147,7 @@ not-wide : (x : Term) → T (good (sort-of (node BvNot (cons x nil)))) → sort-
 unfolding fold
 not-wide x h = one-wide x _ h
 
-neg-wide : (x : Term) → T (good (sort-of (node BvNeg (cons x nil)))) → sort-of x ≡ bv (sort-width (sort-of x))
+pub neg-wide : (x : Term) → T (good (sort-of (node BvNeg (cons x nil)))) → sort-of x ≡ bv (sort-width (sort-of x))
 unfolding fold
 neg-wide x h = one-wide x _ h
 
@@ -163,11 +163,11 @@ xor-wide : (ts : Terms) → T (good (sort-of (node BvXor ts))) → sort-of (node
 unfolding fold
 xor-wide ts h = bv-of-width _ _ (many-wide ts h)
 
-add-wide : (ts : Terms) → T (good (sort-of (node BvAdd ts))) → sort-of (node BvAdd ts) ≡ bv (sort-width (sort-of (node BvAdd ts)))
+pub add-wide : (ts : Terms) → T (good (sort-of (node BvAdd ts))) → sort-of (node BvAdd ts) ≡ bv (sort-width (sort-of (node BvAdd ts)))
 unfolding fold
 add-wide ts h = bv-of-width _ _ (many-wide ts h)
 
-mul-wide : (ts : Terms) → T (good (sort-of (node BvMul ts))) → sort-of (node BvMul ts) ≡ bv (sort-width (sort-of (node BvMul ts)))
+pub mul-wide : (ts : Terms) → T (good (sort-of (node BvMul ts))) → sort-of (node BvMul ts) ≡ bv (sort-width (sort-of (node BvMul ts)))
 unfolding fold
 mul-wide ts h = bv-of-width _ _ (many-wide ts h)
 
@@ -186,7 +186,7 @@ and-pair a c h =
     let s = is-bv (sort-of a) (and-l (is-bv-sort (sort-of a)) _ b) in
     (s, sym (same-sort-eq (sort-of a) (sort-of c) (and-l (same-sort (sort-of a) (sort-of c)) _ (and-r (same-sort (sort-of a) (sort-of a)) _ (and-r (is-bv-sort (sort-of a)) _ b)))) ∙ s, g .1 ∙ s)
 
-equals-bool : (x y : Term) → T (good (sort-of (two Equals x y))) → sort-of (two Equals x y) ≡ bool
+pub equals-bool : (x y : Term) → T (good (sort-of (two Equals x y))) → sort-of (two Equals x y) ≡ bool
 unfolding fold
 equals-bool x y h = guard-good _ bool h .1
 

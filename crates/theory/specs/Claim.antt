@@ -4,18 +4,20 @@ use mathlib.Core.Path.{_≡_}
 use mathlib.Core.Bool.{Bool, false, _||_}
 use mathlib.Core.List.{List, [], _∷_, map}
 use mathlib.Core.Option.{some}
-use Prim.Native.Nat.{ℕ, _+_, _-_, _*_, _<_, _≤_}
+use Prim.Native.Nat.{ℕ, _+_, _-_, _*_, _%_, _^_, _<_, _≤_}
 use lib.Dec.{T, eqb}
-use lib.ListN.{length, drop, getElem?}
+use lib.ListN.{length, take, drop, getElem?}
 use Rattle.theory.specs.Limit.{max-terms, first-terms, term-bytes, answer-bytes}
-use Rattle.theory.specs.Kind.{Equals, BvBbTerm, BvNeg, BvAdd, BvULt, BvSLt}
+use Rattle.theory.specs.Kind.{Op, Equals, BvBbTerm, BvNeg, BvAdd, BvMul, BvULt, BvSLt}
 use Rattle.theory.specs.Term.{Term, Terms, node, nil, cons, two}
 use Rattle.theory.specs.Sort.{bv, sort-of}
-use Rattle.theory.specs.RuleTable.{Rule, by-ult, by-slt, by-add, by-neg}
-use Rattle.theory.specs.Record.{Bytes, AllBytes}
-use Rattle.theory.specs.Plain.{plain-after, at-place}
+use Rattle.theory.specs.Value.{Assign, Val, number-of, value}
+use Rattle.theory.specs.RuleTable.{Rule, by-ult, by-slt, by-add, by-mult, by-neg, rule-at}
+use Rattle.theory.specs.Record.{Bytes, AllBytes, records-of, step, read, step-count}
+use Rattle.theory.specs.Plain.{Plain, plain-after, at-place}
 use Rattle.theory.specs.Answer.{Answer, decode-answers}
 use Rattle.theory.specs.Job.{answer-to, Outcome, run, call}
+use Rattle.theory.specs.Demand.{Reached}
 use Rattle.theory.specs.Tally.{Tally, max-tally, tally-of}
 
 -- ---- "Codes 2 to 9, 18 and 19 stop the job; 10 to 17 are answers", beside 0 and 1
@@ -82,6 +84,49 @@ abbrev pub ExactDepth : Type 0
 ExactDepth =
     (number : ℕ) (rule : Rule) (left right : Term) (d : ℕ) → HasDepth rule left d
     → let a = answer-to number rule (two Equals left right ∷ []) in a .code ≡ 0 → a .depth ≡ d
+
+-- ---- "For held steps of add, mult and neg .. if two assignments give every operand the same low i bits, the claimed circuits agree in their low i bits"
+-- the low i bits of a value, as a number
+abbrev pub low-bits : ℕ → Val → ℕ
+low-bits i v = number-of v % 2 ^ i
+
+-- two assignments give every operand the same low i bits
+abbrev pub SameLow : ℕ → Assign → Assign → Terms → Type 0
+SameLow i ρ σ nil = Unit {0}
+SameLow i ρ σ (cons t ts) = (low-bits i (value ρ t) ≡ low-bits i (value σ t)) × SameLow i ρ σ ts
+
+-- the rules that it is said of, each with its operation
+pub data Counts : Rule → Op → Type 0 where
+  rule-10 : Counts by-add BvAdd
+  rule-11 : Counts by-mult BvMul
+  rule-12 : Counts by-neg BvNeg
+
+-- for every i: above the width the low i bits are all
+abbrev pub LowAgree : Terms → Term → Type 0
+LowAgree operands right = (i : ℕ) (ρ σ : Assign) → SameLow i ρ σ operands → low-bits i (value ρ right) ≡ low-bits i (value σ right)
+
+-- the answer to such a step, of every width n
+abbrev pub LowBits : Type 0
+LowBits =
+    (number : ℕ) (rule : Rule) (o : Op) (operands : Terms) (right : Term) (n : ℕ) → Counts rule o → sort-of (node o operands) ≡ bv n
+    → answer-to number rule (two Equals (node o operands) right ∷ []) .code ≡ 0 → LowAgree operands right
+
+-- the literals at these places are one, an equality of such an operation with a circuit, of which this is true
+pub record LowHeld (o : Op) (list : Plain) (places : List ℕ) : Type 0 where
+  pub place : ℕ
+  pub operands : Terms
+  pub right : Term
+  pub one-literal : places ≡ place ∷ []
+  pub on-list : at-place list place ≡ some (two Equals (node o operands) right)
+  pub agree : LowAgree operands right
+
+-- of every job: each step of these rules that it reaches and answers with code 0
+abbrev pub LowBitsHeld : Type 0
+LowBitsHeld =
+    (job : Bytes) (work space m : ℕ) (r : Bytes) (number : ℕ) (places : List ℕ) (rule : Rule) (o : Op) (a : Answer)
+    → Reached job work space m r → read r ≡ step number places → rule-at number ≡ some rule → Counts rule o
+    → getElem? (run job work space .answers) (step-count (take m (records-of job))) ≡ some a → a .code ≡ 0
+    → LowHeld o (plain-after m job) places
 
 -- ---- "Until one holds, the last three sum to all answers written, since the tally was zero, by the jobs it was lent for"
 -- none of the three holds at its largest number
