@@ -20,12 +20,14 @@ claims that an operation equals a circuit of gates, under one of 23 rules. The c
 A job that is ill-formed stops at the first bad record, with a code that is named.
 
 usage:
-  bbhost check [--json] [-q] [--work BYTES] [--answers BYTES] FILE..
+  bbhost check [--json] [-q] [--steps N] [--work BYTES] [--answers BYTES] FILE..
       Checks the job in each file (- is the standard input; up to 16 MiB each) and prints a table of its steps.
       --json     prints one JSON object instead
       -q         prints nothing
+      --steps N  demands exactly N answers of each job, so that a job that lost its end does not pass
       --work, --answers   lend that much memory only (a kept term takes 8 bytes, an answer 10)
-      Exit status 0: every job ran to its end and every step is held. 1: not so. 2: usage, or a file that cannot be read.
+      Exit status 0: every job ran to its end, has a step (or the demanded number), and every step is held. 1: not so; a job
+      without a step was not checked. 2: usage, or a file that cannot be read.
 
   bbhost soak SECONDS [--seed N]
       Runs right, damaged and random jobs on the same memory, and watches the memory, a known job and the tally after each.

@@ -65,9 +65,11 @@ impl<'a> Report<'a> {
         self.tally
     }
 
-    /// Whether the job ran to its end and each of its steps is held.
+    /// Whether the job ran to its end, has a step, and each of its steps is held. A job without a step is none that was checked: an
+    /// empty file, say, or one cut where a record ends.
     pub fn all_held(&self) -> bool {
-        self.outcome.stop == 0 && self.answers().all(|answer| answer.verdict() == Verdict::Held)
+        let mut answers = self.answers().peekable();
+        self.outcome.stop == 0 && answers.peek().is_some() && answers.all(|answer| answer.verdict() == Verdict::Held)
     }
 }
 

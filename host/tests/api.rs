@@ -152,6 +152,20 @@ fn services_of_any_size() {
 }
 
 #[test]
+fn all_held_asks_for_a_step() {
+    let mut service = Service::new(1 << 16, 1 << 16);
+    let specimen = jobs::specimen();
+    assert!(service.check(&specimen).all_held());
+    for without_step in [&[][..], &specimen[..specimen.len() - 8]] {
+        let report = service.check(without_step);
+        assert_eq!((report.outcome().stop, report.outcome().answers, report.all_held()), (0, 0, false));
+    }
+    let cut_behind_the_step = [&specimen[..], &[6]].concat();
+    let report = service.check(&cut_behind_the_step);
+    assert_eq!((report.outcome().stop, report.outcome().answers, report.all_held()), (3, 1, false));
+}
+
+#[test]
 fn no_input_makes_it_panic() {
     let mut rng = Rng::new(11);
     let mut service = Service::new(4096, 100);

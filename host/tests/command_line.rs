@@ -110,7 +110,7 @@ fn exit_statuses_of_check() {
     assert_eq!(status(&["check", &missing, &held], b""), 2);
     assert_eq!(status(&["check", "-"], &jobs::specimen()), 0);
     assert_eq!(status(&["check", "-"], &wrong), 1);
-    assert_eq!(status(&["check", "-"], b""), 0);
+    assert_eq!(status(&["check", "-"], b""), 1);
     assert_eq!(status(&["check", "--work", "63", &held], b""), 1);
     assert_eq!(status(&["check", "--answers", "9", &held], b""), 1);
 
@@ -142,6 +142,30 @@ fn exit_statuses_of_check() {
     assert!(is_json(text(&one.stdout)));
 }
 
+/// A job without a step was not checked, and `--steps` demands a number of answers: of a job that lost its end it tells.
+#[test]
+fn jobs_without_the_steps_that_they_should_have() {
+    let specimen = jobs::specimen();
+    let no_step = &specimen[..specimen.len() - 8];
+    let two = [&specimen[..], &specimen[specimen.len() - 8..]].concat();
+    for job in [b"", no_step] {
+        let output = bbhost(&["check", "-"], job);
+        assert_eq!(output.status.code(), Some(1));
+        assert!(text(&output.stdout).ends_with("  NOTHING CHECKED: the job ran to its end and has no step\n"));
+        let output = bbhost(&["check", "--json", "-"], job);
+        assert_eq!((output.status.code(), text(&output.stdout).matches("\"all_held\":false").count()), (Some(1), 2));
+    }
+    assert_eq!(status(&["check", "-q", "--steps", "1", "-"], &specimen), 0);
+    assert_eq!(status(&["check", "-q", "--steps", "2", "-"], &two), 0);
+    for (demanded, job) in [("2", &specimen[..]), ("1", &two), ("1", no_step)] {
+        let output = bbhost(&["check", "--steps", demanded, "-"], job);
+        assert_eq!(output.status.code(), Some(1));
+        assert!(text(&output.stdout).contains("WRONG NUMBER OF STEPS: "));
+        let output = bbhost(&["check", "--json", "--steps", demanded, "-"], job);
+        assert_eq!((output.status.code(), text(&output.stdout).matches("\"all_held\":false").count()), (Some(1), 2));
+    }
+}
+
 #[test]
 fn long_jobs() {
     let longest = vec![0; 16_777_216];
@@ -162,6 +186,7 @@ fn usage() {
         &["check", "--jason", "file"],
         &["check", "--work"],
         &["check", "--work", "many", "-"],
+        &["check", "--steps", "0", "-"],
         &["soak"],
         &["soak", "soon"],
         &["soak", "-1"],
@@ -197,8 +222,12 @@ fn bench_writes_jobs_that_are_held() {
     assert_eq!(status(&["bench", "--write", folder.to_str().unwrap()], b""), 0);
     let name = |file: &str| folder.join(format!("{file}.job")).to_str().unwrap().to_owned();
     assert_eq!(fs::read_dir(&folder).unwrap().count(), 24);
-    let (add, mult) = (name("add64"), name("mult32"));
-    assert_eq!(status(&["check", "-q", &add, &mult, &name("terms60000"), &name("backs20000")], b""), 0);
+    assert_eq!(status(&["check", "-q", &name("add64"), &name("mult32")], b""), 0);
+    for without_step in [name("terms60000"), name("backs20000")] {
+        let output = bbhost(&["check", &without_step], b"");
+        assert_eq!(output.status.code(), Some(1));
+        assert!(text(&output.stdout).ends_with("  NOTHING CHECKED: the job ran to its end and has no step\n"));
+    }
     assert_eq!(status(&["check", "-q", &name("udiv16")], b""), 1);
 }
 

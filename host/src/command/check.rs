@@ -8,6 +8,7 @@ use std::{
     ffi::{OsStr, OsString},
     fs::File,
     io::{self, Read, Write},
+    num::NonZero,
 };
 
 #[derive(Clone, Copy, PartialEq)]
@@ -21,11 +22,14 @@ struct Options<'a> {
     form: Form,
     work: usize,
     answers: usize,
+    /// The number of answers that each job must have.
+    steps: Option<u32>,
     files: Vec<&'a OsString>,
 }
 
 fn options(words: &[OsString]) -> Result<Options<'_>, Failure> {
-    let mut options = Options { form: Form::Table, work: MAX_WORK_BYTES, answers: MAX_ANSWER_BYTES, files: Vec::new() };
+    let mut options =
+        Options { form: Form::Table, work: MAX_WORK_BYTES, answers: MAX_ANSWER_BYTES, steps: None, files: Vec::new() };
     let mut rest = words.iter();
     while let Some(word) = rest.next() {
         match word.to_str() {
@@ -33,6 +37,7 @@ fn options(words: &[OsString]) -> Result<Options<'_>, Failure> {
             Some("-q") => options.form = Form::Quiet,
             Some("--work") => options.work = number("--work", &mut rest)?,
             Some("--answers") => options.answers = number("--answers", &mut rest)?,
+            Some("--steps") => options.steps = Some(number::<NonZero<u32>>("--steps", &mut rest)?.get()),
             Some("--") => options.files.extend(rest.by_ref()),
             Some(text) if text.starts_with('-') && text != "-" => return Err(unknown(word)),
             _ => options.files.push(word),
@@ -71,15 +76,7 @@ pub fn run(words: &[OsString], out: &mut impl Write) -> Result<Status, Failure> 
         }
         progress.show(|| format!("file {} of {}: {name}", k + 1, options.files.len()));
         match read(file) {
-            Ok(job) => {
-                let report = service.check(&job);
-                all_held &= report.all_held();
-                match options.form {
-                    Form::Table => table(&name, job.len(), &report, out)?,
-                    Form::Json => object(&name, job.len(), &report, out)?,
-                    Form::Quiet => {}
-                }
-            }
+            Ok(job) => all_held &= check(&name, &job, &options, &mut service, out)?,
             Err(error) => {
                 unreadable = true;
                 eprintln!("bbhost: {name}: {error}");
@@ -91,24 +88,46 @@ pub fn run(words: &[OsString], out: &mut impl Write) -> Result<Status, Failure> 
         }
     }
     all_held &= !unreadable;
-    let tally = service.tally();
+    sum(&options, service.tally(), all_held, out)?;
+    Ok(match (unreadable, all_held) {
+        (true, _) => Status::Trouble,
+        (false, true) => Status::Fine,
+        (false, false) => Status::Failed,
+    })
+}
+
+/// Checks one job and prints what came of it; whether it is a success.
+fn check(
+    name: &str,
+    job: &[u8],
+    options: &Options,
+    service: &mut Service,
+    out: &mut impl Write,
+) -> Result<bool, Failure> {
+    let report = service.check(job);
+    let success = report.all_held() && options.steps.is_none_or(|steps| steps == report.outcome().answers);
     match options.form {
-        Form::Table if options.files.len() > 1 => writeln!(out, "{}: {}", counted(tally.jobs, "job"), classes(tally))?,
+        Form::Table => table(name, job.len(), &report, options.steps, out)?,
+        Form::Json => object(name, job.len(), &report, success, out)?,
+        Form::Quiet => {}
+    }
+    Ok(success)
+}
+
+/// Prints what all files came to.
+fn sum(options: &Options, tally: Tally, all_held: bool, out: &mut impl Write) -> io::Result<()> {
+    match options.form {
+        Form::Table if options.files.len() > 1 => writeln!(out, "{}: {}", counted(tally.jobs, "job"), classes(tally)),
         Form::Json => {
             let Tally { jobs, held, form_only, refused } = tally;
             writeln!(
                 out,
                 "],\"tally\":{{\"jobs\":{jobs},\"held\":{held},\"form_only\":{form_only},\"refused\":{refused}}},\
                  \"all_held\":{all_held}}}"
-            )?;
+            )
         }
-        _ => {}
+        _ => Ok(()),
     }
-    Ok(match (unreadable, all_held) {
-        (true, _) => Status::Trouble,
-        (false, true) => Status::Fine,
-        (false, false) => Status::Failed,
-    })
 }
 
 fn classes(tally: Tally) -> String {
@@ -128,7 +147,7 @@ fn tally_of(report: &Report) -> Tally {
     tally
 }
 
-fn table(name: &str, bytes: usize, report: &Report, out: &mut impl Write) -> io::Result<()> {
+fn table(name: &str, bytes: usize, report: &Report, steps: Option<u32>, out: &mut impl Write) -> io::Result<()> {
     let outcome = report.outcome();
     writeln!(
         out,
@@ -153,20 +172,32 @@ fn table(name: &str, bytes: usize, report: &Report, out: &mut impl Write) -> io:
             answer.meaning()
         )?;
     }
+    writeln!(out, "  {}", end(report))?;
+    match steps {
+        Some(steps) if steps != outcome.answers => {
+            writeln!(out, "  WRONG NUMBER OF STEPS: {} answered, {steps} demanded", outcome.answers)
+        }
+        _ => Ok(()),
+    }
+}
+
+/// How a job ended.
+fn end(report: &Report) -> String {
+    let outcome = report.outcome();
     let classes = classes(tally_of(report));
     match outcome.stop {
-        0 => writeln!(out, "  ran to its end: {classes}"),
-        2 => writeln!(out, "  NOT READ (code 2): {}", report.stop_meaning()),
-        stop => writeln!(
-            out,
-            "  STOPPED at record {} (code {stop}): {}; before it: {classes}",
+        0 if outcome.answers == 0 => "NOTHING CHECKED: the job ran to its end and has no step".to_owned(),
+        0 => format!("ran to its end: {classes}"),
+        2 => format!("NOT READ (code 2): {}", report.stop_meaning()),
+        stop => format!(
+            "STOPPED at record {} (code {stop}): {}; before it: {classes}",
             u64::from(outcome.records) + 1,
             report.stop_meaning()
         ),
     }
 }
 
-fn object(name: &str, bytes: usize, report: &Report, out: &mut impl Write) -> io::Result<()> {
+fn object(name: &str, bytes: usize, report: &Report, all_held: bool, out: &mut impl Write) -> io::Result<()> {
     let outcome = report.outcome();
     write!(
         out,
@@ -176,7 +207,7 @@ fn object(name: &str, bytes: usize, report: &Report, out: &mut impl Write) -> io
         json::string(report.stop_meaning()),
         outcome.records,
         outcome.terms,
-        report.all_held()
+        all_held
     )?;
     for (k, answer) in report.answers().enumerate() {
         let verdict = match answer.verdict() {
