@@ -9,7 +9,7 @@ use std::{
     process::ExitCode,
 };
 
-const HELP: &str = "\
+const ABOUT: &str = "\
 bbhost: asks the verified checker of bit-blasting steps
 
 A job is a file of records. Some records build terms: variables, constants, bit-vector operations, gates over bits. A step
@@ -19,30 +19,9 @@ claims that an operation equals a circuit of gates, under one of 23 rules. The c
   refused    for a reason that is named
 A job that is ill-formed stops at the first bad record, with a code that is named.
 
-usage:
-  bbhost check [--json] [-q] [--steps N] [--work BYTES] [--answers BYTES] FILE..
-      Checks the job in each file (- is the standard input; up to 16 MiB each) and prints a table of its steps.
-      --json     prints one JSON object instead
-      -q         prints nothing
-      --steps N  demands exactly N answers of each job, so that a job that lost its end does not pass
-      --work, --answers   lend that much memory only (a kept term takes 8 bytes, an answer 10)
-      Exit status 0: every job ran to its end, has a step (or the demanded number), and every step is held. 1: not so; a job
-      without a step was not checked. 2: usage, or a file that cannot be read.
-
-  bbhost soak SECONDS [--seed N]
-      Runs right, damaged and random jobs on the same memory, and watches the memory, a known job and the tally after each.
-      Exit status 1 on any deviation, or where resident memory grows by more than 1 MiB.
-
-  bbhost bench [--work BYTES] [--against COMMAND] [--write DIR]
-      Measures a list of jobs. --against also runs `COMMAND FILE RUNS` on each, as with `oracle bench`, and prints the ratio.
-      --write only writes the jobs as files.
-
-  bbhost compare DIR [--counts FILE]
-      Runs each NNNNN.job of a folder against its NNNNN.expect (both from `oracle gen`), and prints which answers of which
-      rule were reached. --counts adds the counts in a file to the table, and keeps the sums there. Exit status 1 on any difference.
-
-  bbhost --help
 ";
+
+const USAGE: &str = "  bbhost --help, bbhost COMMAND --help";
 
 fn main() -> ExitCode {
     let words: Vec<OsString> = env::args_os().skip(1).collect();
@@ -70,15 +49,26 @@ fn run(words: &[OsString], out: &mut impl Write) -> Result<Status, Failure> {
     let Some((command, rest)) = words.split_first() else {
         return Err(Failure::Usage("no command is given".to_owned()));
     };
+    // What stands behind `--` is a file, whatever its name.
+    let help = rest.iter().take_while(|word| *word != "--").any(|word| word == "--help" || word == "-h");
     match command.to_str() {
+        Some("check") if help => print(&[check::USAGE], out),
+        Some("soak") if help => print(&[soak::USAGE], out),
+        Some("bench") if help => print(&[bench::USAGE], out),
+        Some("compare") if help => print(&[compare::USAGE], out),
         Some("check") => check::run(rest, out),
         Some("soak") => soak::run(rest, out),
         Some("bench") => bench::run(rest, out),
         Some("compare") => compare::run(rest, out),
         Some("--help" | "-h" | "help") => {
-            out.write_all(HELP.as_bytes())?;
-            Ok(Status::Fine)
+            out.write_all(ABOUT.as_bytes())?;
+            print(&[check::USAGE, soak::USAGE, bench::USAGE, compare::USAGE, USAGE], out)
         }
         _ => Err(Failure::Usage(format!("there is no command {}", command.display()))),
     }
+}
+
+fn print(usages: &[&str], out: &mut impl Write) -> Result<Status, Failure> {
+    writeln!(out, "usage:\n{}", usages.join("\n\n"))?;
+    Ok(Status::Fine)
 }

@@ -172,9 +172,14 @@ fn long_jobs() {
     let output = bbhost(&["check", "-"], &longest);
     assert_eq!(output.status.code(), Some(1));
     assert!(text(&output.stdout).contains("STOPPED at record 1 (code 3)"));
-    let output = bbhost(&["check", "-"], &[&longest[..], &[0, 0, 0]].concat());
+    assert!(text(&output.stdout).starts_with("-: 16,777,216 bytes, "));
+    let longer = [&longest[..], &[0, 0, 0]].concat();
+    let output = bbhost(&["check", "-"], &longer);
     assert_eq!(output.status.code(), Some(1));
     assert!(text(&output.stdout).contains("NOT READ (code 2)"));
+    assert!(text(&output.stdout).starts_with("-: more than 16,777,216 bytes, "));
+    let output = bbhost(&["check", "--json", "-"], &longer);
+    assert!(is_json(text(&output.stdout)) && text(&output.stdout).contains("\"bytes\":null,\"stop\":2,"));
 }
 
 #[test]
@@ -204,8 +209,19 @@ fn usage() {
     for word in ["--help", "-h", "help"] {
         let output = bbhost(&[word], b"");
         assert_eq!(output.status.code(), Some(0));
-        assert!(text(&output.stdout).contains("usage:"));
+        for command in ["check", "soak", "bench", "compare"] {
+            assert!(text(&output.stdout).contains(&format!("\n  bbhost {command} ")), "{command}");
+        }
     }
+    for command in ["check", "soak", "bench", "compare"] {
+        for words in [&[command, "--help"][..], &[command, "-h"], &[command, "file", "-h"]] {
+            let output = bbhost(words, b"");
+            assert_eq!(output.status.code(), Some(0), "{words:?}");
+            assert!(text(&output.stdout).starts_with(&format!("usage:\n  bbhost {command} ")), "{words:?}");
+            assert_eq!(text(&output.stdout).matches("\n  bbhost ").count(), 1, "{words:?}");
+        }
+    }
+    assert_eq!(status(&["check", "--", "-h"], b""), 2);
 }
 
 #[test]

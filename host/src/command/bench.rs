@@ -12,6 +12,11 @@ use std::{
     time::{Duration, Instant},
 };
 
+/// How the command is used.
+pub const USAGE: &str = "  bbhost bench [--work BYTES] [--against COMMAND] [--write DIR]
+      Measures a list of jobs. --against also runs `COMMAND FILE RUNS` on each, as with `oracle bench`, and prints the ratio.
+      --write only writes the jobs as files.";
+
 /// The memory lent: work unless an option says otherwise, and answers.
 const WORK: usize = 1 << 20;
 const ANSWERS: usize = 1 << 16;

@@ -11,6 +11,16 @@ use std::{
     num::NonZero,
 };
 
+/// How the command is used.
+pub const USAGE: &str = "  bbhost check [--json] [-q] [--steps N] [--work BYTES] [--answers BYTES] FILE..
+      Checks the job in each file (- is the standard input; up to 16 MiB each) and prints a table of its steps.
+      --json     prints one JSON object instead
+      -q         prints nothing
+      --steps N  demands exactly N answers of each job, so that a job that lost its end does not pass
+      --work, --answers   lend that much memory only (a kept term takes 8 bytes, an answer 10)
+      Exit status 0: every job ran to its end, has a step (or the demanded number), and every step is held. 1: not so; a job
+      without a step was not checked. 2: usage, or a file that cannot be read.";
+
 #[derive(Clone, Copy, PartialEq)]
 enum Form {
     Table,
@@ -149,10 +159,14 @@ fn tally_of(report: &Report) -> Tally {
 
 fn table(name: &str, bytes: usize, report: &Report, steps: Option<u32>, out: &mut impl Write) -> io::Result<()> {
     let outcome = report.outcome();
+    let bytes = if bytes > MAX_JOB_BYTES {
+        format!("more than {}", counted(MAX_JOB_BYTES as u64, "byte"))
+    } else {
+        counted(bytes as u64, "byte")
+    };
     writeln!(
         out,
-        "{name}: {}, {}, {} kept, {}",
-        counted(bytes as u64, "byte"),
+        "{name}: {bytes}, {}, {} kept, {}",
         counted(outcome.records.into(), "record"),
         counted(outcome.terms.into(), "term"),
         counted(outcome.answers.into(), "step")
@@ -199,6 +213,8 @@ fn end(report: &Report) -> String {
 
 fn object(name: &str, bytes: usize, report: &Report, all_held: bool, out: &mut impl Write) -> io::Result<()> {
     let outcome = report.outcome();
+    // Of a longer file not all is read.
+    let bytes = if bytes > MAX_JOB_BYTES { "null".to_owned() } else { bytes.to_string() };
     write!(
         out,
         "{{\"file\":{},\"bytes\":{bytes},\"stop\":{},\"stop_meaning\":{},\"records\":{},\"terms\":{},\"all_held\":{},\"steps\":[",

@@ -9,6 +9,11 @@ use std::{
     path::{Path, PathBuf},
 };
 
+/// How the command is used.
+pub const USAGE: &str = "  bbhost compare DIR [--counts FILE]
+      Runs each NNNNN.job of a folder against its NNNNN.expect (both from `oracle gen`), and prints which answers of which
+      rule were reached. --counts adds the counts in a file to the table, and keeps the sums there. Exit status 1 on any difference.";
+
 /// The differences that are printed one by one.
 const SHOWN: usize = 20;
 

@@ -13,6 +13,11 @@ use std::{
     time::{Duration, Instant},
 };
 
+/// How the command is used.
+pub const USAGE: &str = "  bbhost soak SECONDS [--seed N]
+      Runs right, damaged and random jobs on the same memory, and watches the memory, a known job and the tally after each.
+      Exit status 1 on any deviation, or where resident memory grows by more than 1 MiB.";
+
 /// The right jobs that are used again and again.
 const RIGHT_JOBS: usize = 300;
 
