@@ -4,6 +4,15 @@
  *
  * Pointers are not NULL, also where their length is 0, and the lent memories do not overlap. The library has no memory of its
  * own: calls on different memories may run at the same time.
+ *
+ * Stack: BB_STACK_BYTES are enough for any job. The job decides how much is used: most of it in a division of width 64, which a
+ * default thread of some C libraries has no room for.
+ *
+ * Time: every call ends, but nothing interrupts it. A job may repeat its longest step, a division of width 64, in eight bytes for
+ * each answer that has room. Where the work memory is twice what the terms need, such a step took less than ten milliseconds
+ * (docs/PERFORMANCE.md); where the terms fill it, or are made to collide in the table over them, each lookup walks many rows, and
+ * a step takes seconds. So the time is bounded by the answers lent and, for terms that collide, by the job's length. For jobs of
+ * strangers lend few answers, and make the call where it can be ended: in a process of its own.
  */
 #ifndef BITBLAST_H
 #define BITBLAST_H
@@ -17,6 +26,9 @@ extern "C" {
 
 /* The longest job, in bytes. */
 #define BB_MAX_JOB 16777216
+
+/* The stack that is enough for a call, in bytes. */
+#define BB_STACK_BYTES 262144
 
 /* The bytes of work memory that a kept term costs; no job keeps more than 65,535 terms, two of them free. */
 #define BB_TERM_BYTES 8

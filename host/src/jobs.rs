@@ -251,10 +251,17 @@ pub const SPECIMEN_ANSWER: [u8; 10] = [8, 0, 200, 0, 9, 0, 0, 0, 2, 0];
 
 /// One right claim over variables.
 pub fn right_claim(rule: u16, width: usize) -> Vec<u8> {
+    right_claims(rule, width, 1)
+}
+
+/// One right claim over variables, made `count` times: each time but the first costs the eight bytes of the step.
+pub fn right_claims(rule: u16, width: usize, count: usize) -> Vec<u8> {
     let mut job = JobWriter::new();
     let left = job.left_side(rule, width);
     let right = job.circuit(rule, left);
-    job.claim(rule, left, right);
+    for _ in 0..count {
+        job.claim(rule, left, right);
+    }
     job.finish()
 }
 

@@ -34,5 +34,8 @@ pub const TERM_BYTES: usize = 8;
 /// The bytes of an answer.
 pub const ANSWER_BYTES: usize = 10;
 
+/// The stack, in bytes, that is enough for a call with any job. Most of it is used by divisions of width 64.
+pub const STACK_BYTES: usize = 262_144;
+
 /// The bytes of the shortest record of a step, and of a term.
 pub const SHORTEST_RECORD: usize = 6;

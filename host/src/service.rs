@@ -8,6 +8,15 @@ pub const MAX_WORK_BYTES: usize = 1 << 20;
 pub const MAX_ANSWER_BYTES: usize = MAX_JOB_BYTES / SHORTEST_RECORD * ANSWER_BYTES;
 
 /// Checks jobs one after the other on the same memory, and counts what they came to.
+///
+/// Stack: [`STACK_BYTES`](crate::STACK_BYTES) (256 KiB) are enough for any job, and a job decides how much is used: a thread that
+/// is smaller may end the process. Rust's threads have 2 MiB unless they are built otherwise.
+///
+/// Time: every job ends, but nothing interrupts it. A job may repeat its longest step, a division of width 64, in eight bytes for
+/// each answer that has room. Where the work memory is twice what the terms need, such a step took less than ten milliseconds
+/// (docs/PERFORMANCE.md); it takes seconds where the terms fill the memory or are made to collide in the table over them. So the
+/// time is bounded by the answers lent and, for terms that collide, by the job's length: for jobs of strangers lend few answers,
+/// and check where the check can be ended, in a process of its own.
 pub struct Service {
     work: Vec<u8>,
     answers: Vec<u8>,

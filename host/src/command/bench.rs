@@ -34,6 +34,7 @@ fn jobs() -> Vec<(String, Vec<u8>)> {
             list.push((format!("{name}{width}"), jobs::right_claim(rule, width)));
         }
     }
+    list.push(("udiv64x10".to_owned(), jobs::right_claims(21, 64, 10)));
     list.push(("mixed".to_owned(), jobs::mixed(50_000)));
     list.push(("terms60000".to_owned(), jobs::many_terms(60_000)));
     list.push(("backs20000".to_owned(), jobs::many_backs(20_000)));
