@@ -2,9 +2,10 @@
 """Small jobs with what the original Rust answers to each. Document 01's own are computed by the prover (crates/theory/proofs/Computed.antt);
 the program `replay` runs all of them, after its generated ones.
 
-  listed_jobs.py write            writes Computed.antt, and the listed jobs into crates/replay
-  listed_jobs.py check            exit status 1 where one of these is not what `write` would write
-  listed_jobs.py compare ORACLE   asks a program that answers jobs (`ORACLE case FILE WORK ROOM`) about every job
+  listed_jobs.py write                       writes Computed.antt, and the listed jobs into crates/replay
+  listed_jobs.py check                       exit status 1 where one of these is not what `write` would write
+  listed_jobs.py compare ORACLE [requests]   asks a program that answers jobs (`ORACLE case FILE WORK ROOM`) about every job; about those of
+                                             the requests, which the original does not know, only where `requests` is said
 
 A line of listed_jobs.txt: name; work bytes; answer bytes; the job in hex; stop, records, terms; rule:code:depth of each answer."""
 import os, subprocess, sys, tempfile
@@ -14,6 +15,7 @@ from replay_jobs import GENERATED, JOBS, STDOUT, head, printed
 HERE = os.path.dirname(os.path.abspath(__file__))
 LIST = os.path.join(HERE, 'listed_jobs.txt')
 COMPUTED = 'document 01'    # how the names of the computed jobs begin
+REQUEST = 'request '        # of those with what the requests after document 01 brought, which the original does not know
 OUT = os.path.join(HERE, '..', 'crates', 'theory', 'proofs', 'Computed.antt')
 
 # What a run has to unfold to be computed, by the module of specs/ that defines it.
@@ -21,7 +23,7 @@ UNFOLD = {
     'Term': 'fold same-op same-term',
     'Sort': 'guard',
     'Depth': 'depth',
-    'Circuit': 'zip-with last clog2 ripple-carry-adder last-carry ult-from bitblast-ult slt-from slt gather add-rows '
+    'Circuit': 'zip-with last clog2 ripple-carry-adder last-carry carry-out ult-from bitblast-ult slt-from slt gather add-rows '
                'shift-add-multiplier shl-bits shl-stages shr-bits shr-stages shl lshr ashr divide-step '
                'bitblast-udiv-urem-rec udiv urem',
     'Bits': 'select get-term-bits fold-terms add-bits concat-bits',
@@ -92,9 +94,11 @@ def antt():
     return ''.join(out)
 
 
-def compare(oracle):
+def compare(oracle, requests):
     wrong = total = 0
     for name, work, room, job, stop, records, terms, answers in jobs():
+        if name.startswith(REQUEST) and not requests:
+            continue
         with tempfile.NamedTemporaryFile(suffix='.job') as f:
             f.write(job)
             f.flush()
@@ -132,8 +136,8 @@ def main():
         wrong = [os.path.relpath(path) for path, text in files().items() if open(path, encoding='utf-8').read() != text]
         print('not as listed: ' + ', '.join(wrong) if wrong else 'the computed and the replayed jobs are as listed')
         return 1 if wrong else 0
-    if len(sys.argv) == 3 and sys.argv[1] == 'compare':
-        return compare(sys.argv[2])
+    if len(sys.argv) in (3, 4) and sys.argv[1] == 'compare' and sys.argv[3:] in ([], ['requests']):
+        return compare(sys.argv[2], len(sys.argv) == 4)
     print(__doc__)
     return 2
 

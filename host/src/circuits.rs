@@ -23,8 +23,16 @@ fn operation(rule: u16) -> Option<(Kind, bool)> {
         21 => (Kind::BvUDiv, false),
         22 => (Kind::BvURem, false),
         23 => (Kind::BvAnd, false),
+        24 => (Kind::BvUDiv, false),
+        25 => (Kind::BvURem, false),
+        26 => (Kind::BvAShr, false),
         _ => return None,
     })
+}
+
+/// Whether the rule's circuit has some multiple of n × n gates at width n.
+pub fn is_quadratic(rule: u16) -> bool {
+    matches!(rule, 11 | 21 | 22 | 24 | 25)
 }
 
 impl JobWriter {
@@ -179,9 +187,12 @@ impl JobWriter {
                 bits.resize(usize::from(node.width), top);
                 self.bb(&bits)
             }
-            18..=20 => self.shift(node.kind, operands[0], operands[1]),
-            21 | 22 => self.division(rule == 21, operands[0], operands[1]),
-            _ => self.slices(operands[0], operands[1]),
+            18..=20 => self.shift(node.kind, operands[0], operands[1], false),
+            21 | 22 => self.division(node.kind, operands[0], operands[1], false),
+            23 => self.slices(operands[0], operands[1]),
+            24 | 25 => self.division(node.kind, operands[0], operands[1], true),
+            26 => self.shift(node.kind, operands[0], operands[1], true),
+            _ => panic!("there is no rule {rule}"),
         }
     }
 
@@ -324,7 +335,8 @@ impl JobWriter {
         self.bb(&result)
     }
 
-    fn shift(&mut self, kind: Kind, x: Term, y: Term) -> Term {
+    /// Where y is not below the width, every bit is `false`, and in the standard's arithmetic shift x's top bit.
+    fn shift(&mut self, kind: Kind, x: Term, y: Term, standard: bool) -> Term {
         let width = self.width(x);
         let size = self.constant(width, width as u64);
         let inside = self.less(y, size);
@@ -347,18 +359,20 @@ impl JobWriter {
                 };
             }
         }
+        let beyond = if standard { fill } else { FALSE };
         for bit in &mut bits {
-            *bit = self.ite(inside, *bit, FALSE);
+            *bit = self.ite(inside, *bit, beyond);
         }
         self.bb(&bits)
     }
 
-    fn division(&mut self, quotient: bool, x: Term, y: Term) -> Term {
+    /// The quotient for BvUDiv, else the remainder.
+    fn division(&mut self, kind: Kind, x: Term, y: Term, standard: bool) -> Term {
         let (x, y) = (self.bits(x), self.bits(y));
-        let (quotients, remainders) = self.divider(&x, &y, x.len());
+        let (quotients, remainders) = self.divider(&x, &y, x.len(), standard);
         let zeros: Vec<Term> = y.iter().map(|&bit| self.equals(bit, FALSE)).collect();
         let by_zero = self.term(Kind::And, &zeros);
-        let bits: Vec<Term> = if quotient {
+        let bits: Vec<Term> = if kind == Kind::BvUDiv {
             quotients.iter().map(|&bit| self.ite(by_zero, TRUE, bit)).collect()
         } else {
             x.iter().zip(&remainders).map(|(&a, &bit)| self.ite(by_zero, a, bit)).collect()
@@ -366,14 +380,15 @@ impl JobWriter {
         self.bb(&bits)
     }
 
-    /// The quotient and the remainder of the divider's n lowest stages.
-    fn divider(&mut self, x: &[Term], y: &[Term], n: usize) -> (Vec<Term>, Vec<Term>) {
+    /// The quotient and the remainder of the divider's n lowest stages. The original compares by the carry into the top bit, and makes
+    /// every bit of the remainder `true` where y fits into it; the standard's divider takes the carry out of the top bit, and subtracts y.
+    fn divider(&mut self, x: &[Term], y: &[Term], n: usize, standard: bool) -> (Vec<Term>, Vec<Term>) {
         let zeros = vec![FALSE; x.len()];
         if n == 0 || x.iter().all(|&bit| bit == FALSE) {
             return (zeros.clone(), zeros);
         }
         let halved: Vec<Term> = x[1..].iter().copied().chain([FALSE]).collect();
-        let (mut quotient, mut remainder) = self.divider(&halved, y, n - 1);
+        let (mut quotient, mut remainder) = self.divider(&halved, y, n - 1, standard);
         for bits in [&mut quotient, &mut remainder] {
             bits.rotate_right(1);
             bits[0] = FALSE;
@@ -382,19 +397,27 @@ impl JobWriter {
         let odd = self.ite(is_odd, TRUE, FALSE);
         let mut remainder = self.adder(&remainder, &zeros, odd).0;
         let not_y: Vec<Term> = y.iter().map(|&bit| self.not(bit)).collect();
-        let fits = self.adder(&remainder, &not_y, TRUE).1;
-        let small = self.not(fits);
+        let (difference, small) = self.difference(&remainder, &not_y, standard);
         quotient[0] = self.ite(small, quotient[0], TRUE);
-        for bit in &mut remainder {
-            *bit = self.ite(small, *bit, TRUE);
+        for (bit, less_y) in remainder.iter_mut().zip(difference) {
+            *bit = self.ite(small, *bit, if standard { less_y } else { TRUE });
         }
-        let fits = self.adder(x, &not_y, TRUE).1;
-        let less = self.not(fits);
+        let less = self.difference(x, &not_y, standard).1;
         for k in 0..x.len() {
             quotient[k] = self.ite(less, FALSE, quotient[k]);
             remainder[k] = self.ite(less, x[k], remainder[k]);
         }
         (quotient, remainder)
+    }
+
+    /// x - y from the negated bits of y, and whether it has no carry: out of the top bit, or into it as the original has it.
+    fn difference(&mut self, x: &[Term], not_y: &[Term], standard: bool) -> (Vec<Term>, Term) {
+        let (difference, mut carry) = self.adder(x, not_y, TRUE);
+        if standard {
+            let top = x.len() - 1;
+            carry = self.carry(x[top], not_y[top], carry);
+        }
+        (difference, self.not(carry))
     }
 
     /// Rule 23's right side: the upper half and the lower half, or the one bit.

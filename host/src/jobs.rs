@@ -1,5 +1,5 @@
 //! Writes jobs. Equal terms are one term, and a term's record is written when a step first needs it, its arguments before it.
-use crate::{MAX_TERMS, rng::Rng};
+use crate::{MAX_TERMS, circuits::is_quadratic, rng::Rng, words::RULES};
 use std::{collections::HashMap, rc::Rc};
 
 /// A term of a writer.
@@ -265,13 +265,12 @@ pub fn right_claims(rule: u16, width: usize, count: usize) -> Vec<u8> {
     job.finish()
 }
 
-/// Right claims of all rules in turn, at widths 1 to 16, with a back where 1,500 terms are kept; `size` bytes or a little more.
-pub fn mixed(size: usize) -> Vec<u8> {
+/// Right claims of the first so many rules in turn, at widths 1 to 16, with a back where 1,500 terms are kept; `size` bytes or a little more.
+pub fn mixed(size: usize, rules: usize) -> Vec<u8> {
     let mut job = JobWriter::new();
     for k in 0.. {
-        let (rule, width) = ((k % 23 + 1) as u16, k * 7 % 16 + 1);
-        let narrow = matches!(rule, 11 | 21 | 22);
-        let left = job.left_side(rule, if narrow { width.min(5) } else { width });
+        let (rule, width) = ((k % rules + 1) as u16, (k * 7 + k / rules) % 16 + 1);
+        let left = job.left_side(rule, if is_quadratic(rule) { width.min(5) } else { width });
         let right = job.circuit(rule, left);
         job.claim(rule, left, right);
         if job.count() > 1_500 {
@@ -328,9 +327,9 @@ pub fn random_right(rng: &mut Rng) -> (Vec<u8>, Vec<u16>) {
     let mut job = JobWriter::new();
     let mut codes = Vec::new();
     for _ in 0..rng.range(1, 6) {
-        let rule = rng.range(1, 23) as u16;
+        let rule = rng.range(1, RULES.len()) as u16;
         let widest = match rule {
-            11 | 21 | 22 => 5,
+            _ if is_quadratic(rule) => 5,
             _ if rng.chance(20) => 64,
             _ => 10,
         };

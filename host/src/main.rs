@@ -1,6 +1,7 @@
 //! The command line `bbhost`.
 mod command;
 
+use bitblast_host::words::RULES;
 use command::{Failure, Status, bench, check, compare, soak};
 use std::{
     env,
@@ -9,17 +10,23 @@ use std::{
     process::ExitCode,
 };
 
-const ABOUT: &str = "\
+/// What the program is for, before the commands' usages.
+fn about() -> String {
+    format!(
+        "\
 bbhost: asks the verified checker of bit-blasting steps
 
 A job is a file of records. Some records build terms: variables, constants, bit-vector operations, gates over bits. A step
-claims that an operation equals a circuit of gates, under one of 23 rules. The checker answers each step:
+claims that an operation equals a circuit of gates, under one of {} rules. The checker answers each step:
   held       the claim is the rule's circuit, and both sides are equal for all values of the variables
   form only  the claim is the rule's circuit, but for this rule (ashr, udiv, urem) that is not the standard's operation
   refused    for a reason that is named
 A job that is ill-formed stops at the first bad record, with a code that is named.
 
-";
+",
+        RULES.len()
+    )
+}
 
 const USAGE: &str = "  bbhost --help, bbhost COMMAND --help";
 
@@ -61,7 +68,7 @@ fn run(words: &[OsString], out: &mut impl Write) -> Result<Status, Failure> {
         Some("bench") => bench::run(rest, out),
         Some("compare") => compare::run(rest, out),
         Some("--help" | "-h" | "help") => {
-            out.write_all(ABOUT.as_bytes())?;
+            out.write_all(about().as_bytes())?;
             print(&[check::USAGE, soak::USAGE, bench::USAGE, compare::USAGE, USAGE], out)
         }
         _ => Err(Failure::Usage(format!("there is no command {}", command.display()))),

@@ -1,7 +1,7 @@
 //! Rules and codes in words.
 
 /// The rules in the order of their numbers, from 1.
-pub const RULES: [&str; 23] = [
+pub const RULES: [&str; 26] = [
     "value",
     "var",
     "and",
@@ -25,7 +25,13 @@ pub const RULES: [&str; 23] = [
     "udiv",
     "urem",
     "bitwise_slicing",
+    "udiv_standard",
+    "urem_standard",
+    "ashr_standard",
 ];
+
+/// How many of the rules, the first ones, are those of the original.
+pub const ORIGINAL_RULES: usize = 23;
 
 /// The codes that stop a job.
 pub const STOPS: [(u32, &str); 11] = [
@@ -37,7 +43,7 @@ pub const STOPS: [(u32, &str); 11] = [
     (6, "an argument or literal is not the number of a kept term"),
     (7, "a sort, width, index or value does not fit"),
     (8, "no room for a new term: the work memory or the term numbers are spent"),
-    (9, "the step's rule is not one of 1 to 23"),
+    (9, "the record's kind has no such rule"),
     (18, "a back to below 2 or above the number of terms"),
     (19, "fewer than 10 bytes are left for the step's answer"),
 ];

@@ -44,7 +44,7 @@ fn codes_that_stop_a_job() {
     assert_eq!(stop("06 00 14 00 00 00 01 00"), 5);
     assert_eq!(stop("04 00 14 00 02 00"), 6);
     assert_eq!(stop("06 00 0B 00 41 00 00 00"), 7);
-    assert_eq!(stop("04 00 64 00 18 00"), 9);
+    assert_eq!(stop("04 00 64 00 63 00"), 9);
     assert_eq!(stop("04 00 65 00 01 00"), 18);
     let variable = hex("06 00 0B 00 01 00 00 00");
     assert_eq!(run_job(&variable, &mut [0; 7], &mut []).stop, 8);
@@ -122,7 +122,9 @@ fn every_code_has_words() {
         (words::rule_name(0), words::rule_name(1), words::rule_name(23)),
         ("unknown", "value", "bitwise_slicing")
     );
-    assert_eq!(words::rule_name(24), "unknown");
+    let last = words::RULES.len();
+    assert_eq!(words::rule_name(last as u16), words::RULES[last - 1]);
+    assert_eq!(words::rule_name(last as u16 + 1), "unknown");
 }
 
 #[test]

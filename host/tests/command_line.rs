@@ -237,8 +237,8 @@ fn bench_writes_jobs_that_are_held() {
     let folder = folder("bench");
     assert_eq!(status(&["bench", "--write", folder.to_str().unwrap()], b""), 0);
     let name = |file: &str| folder.join(format!("{file}.job")).to_str().unwrap().to_owned();
-    assert_eq!(fs::read_dir(&folder).unwrap().count(), 25);
-    assert_eq!(status(&["check", "-q", &name("add64"), &name("mult32")], b""), 0);
+    assert_eq!(fs::read_dir(&folder).unwrap().count(), 39);
+    assert_eq!(status(&["check", "-q", &name("add64"), &name("mult32"), &name("udiv_standard16")], b""), 0);
     for without_step in [name("terms60000"), name("backs20000")] {
         let output = bbhost(&["check", &without_step], b"");
         assert_eq!(output.status.code(), Some(1));

@@ -5,7 +5,7 @@ use std::{fs, path::Path, thread};
 /// The widest divisions on a thread with just that much stack. The job is written before, on a larger one.
 #[test]
 fn the_deepest_jobs() {
-    for rule in [21, 22] {
+    for rule in [21, 22, 24, 25] {
         let job = jobs::right_claim(rule, 64);
         let (mut work, mut answers) = (vec![0; 1 << 20], vec![0; 10]);
         let call = move || run_job(&job, &mut work, &mut answers);

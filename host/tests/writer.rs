@@ -1,8 +1,10 @@
 //! The job writer: its right claims are accepted at all kinds of widths, its wrong ones refused.
 use bitblast_host::{
     Service, Verdict,
+    circuits::is_quadratic,
     jobs::{self, JobWriter, Kind},
     rng::Rng,
+    words::RULES,
 };
 
 fn service() -> Service {
@@ -16,10 +18,10 @@ fn right_code(rule: u16) -> u16 {
 #[test]
 fn right_claims_of_every_rule() {
     let mut service = service();
-    for rule in 1..=23 {
-        let widths: &[usize] = match rule {
-            11 | 21 | 22 => &[1, 2, 3, 4, 5, 8, 12],
-            _ => &[1, 2, 3, 4, 5, 7, 8, 9, 16, 31, 32, 33, 63, 64],
+    for rule in 1..=RULES.len() as u16 {
+        let widths: &[usize] = match is_quadratic(rule) {
+            true => &[1, 2, 3, 4, 5, 8, 12],
+            false => &[1, 2, 3, 4, 5, 7, 8, 9, 16, 31, 32, 33, 63, 64],
         };
         for &width in widths {
             let report = service.check(&jobs::right_claim(rule, width));
@@ -33,17 +35,43 @@ fn right_claims_of_every_rule() {
 #[test]
 fn wide_products_and_divisions_fit() {
     let mut service = service();
-    for (rule, width, terms) in [(11, 64, 12_106), (21, 64, 58_732), (22, 64, 56_723)] {
+    for (rule, width, terms) in
+        [(11, 64, 12_106), (21, 64, 58_732), (22, 64, 56_723), (24, 64, 63_534), (25, 64, 61_582)]
+    {
         let report = service.check(&jobs::right_claim(rule, width));
         assert_eq!((report.outcome().stop, report.outcome().terms), (0, terms), "rule {rule}");
         assert!(report.answers().all(|answer| answer.code == right_code(rule)));
     }
 }
 
+/// The standard's divisions and arithmetic shift at every width; the original's circuits for the same operations are no claims of these rules.
+#[test]
+fn the_standards_divisions_and_shift() {
+    let mut service = service();
+    for (original, rule) in [(20, 26), (21, 24), (22, 25)] {
+        for width in 1..=64 {
+            let mut job = JobWriter::new();
+            let left = job.left_side(rule, width);
+            let right = job.circuit(rule, left);
+            job.claim(rule, left, right);
+            let report = service.check(&job.finish());
+            assert!(report.all_held(), "rule {rule} width {width}: {:?}", report.outcome());
+        }
+        let mut job = JobWriter::new();
+        let left = job.left_side(rule, 6);
+        let (right, wrong) = (job.circuit(rule, left), job.circuit(original, left));
+        for (rule, right) in [(rule, wrong), (original, right), (original, wrong), (rule, right)] {
+            job.claim(rule, left, right);
+        }
+        let codes: Vec<u16> = service.check(&job.finish()).answers().map(|answer| answer.code).collect();
+        assert_eq!(codes, [16, 16, 1, 0], "rule {rule}");
+    }
+}
+
 #[test]
 fn a_variable_for_the_circuit_is_refused() {
     let mut service = service();
-    for rule in 1..=23 {
+    for rule in 1..=RULES.len() as u16 {
         let mut job = JobWriter::new();
         let left = job.left_side(rule, 4);
         let other = match job.width(left) {

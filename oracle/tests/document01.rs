@@ -156,7 +156,7 @@ fn codes_table() {
     let variable = hex("06 00 0B 00 01 00 00 00");
     assert_eq!(expect_text(&variable, 7, 0).1.stop, 8);
     assert_eq!(expect_text(&variable, 8, 0).1.stop, 0);
-    assert_eq!(stop("04 00 64 00 18 00"), 9);
+    assert_eq!(stop("04 00 64 00 63 00"), 9);
     assert_eq!(answers(&hex("04 00 64 00 01 00")).0, [(1, 10, 0)]);
     // rule 1 on `true`
     assert_eq!(answers(&hex("06 00 64 00 01 00 00 00")).0, [(1, 11, 0)]);
@@ -207,8 +207,8 @@ fn codes_table() {
 #[test]
 fn order_of_tests() {
     // a step: 6 before 9, 9 before 19, 19 before 10
-    assert_eq!(stop("06 00 64 00 18 00 02 00"), 6);
-    assert_eq!(expect_text(&hex("06 00 64 00 18 00 00 00"), 0, 0).1.stop, 9);
+    assert_eq!(stop("06 00 64 00 63 00 02 00"), 6);
+    assert_eq!(expect_text(&hex("06 00 64 00 63 00 00 00"), 0, 0).1.stop, 9);
     assert_eq!(expect_text(&hex("04 00 64 00 01 00"), 0, 0).1.stop, 19);
     // a term: 5 before 6 before 7 before 8
     assert_eq!(stop("06 00 14 00 09 00 09 00"), 5);

@@ -1,4 +1,4 @@
-// The 23 rules, by their numbers.
+// The 26 rules, by their numbers.
 ghost use mathlib.Core.Path.{_≡_};
 ghost use Prim.Native.Nat.{_+_, _<_};
 ghost use Rattle.theory.specs.Limit.{first-terms};
@@ -23,8 +23,11 @@ pub use operand_rules::equations::comp;
 pub use operand_rules::equations::equality;
 pub use operand_rules::variables::var;
 pub use shift_rules::division::udiv;
+pub use shift_rules::division::udiv_standard;
 pub use shift_rules::division::urem;
+pub use shift_rules::division::urem_standard;
 pub use shift_rules::shifts::ashr;
+pub use shift_rules::shifts::ashr_standard;
 pub use shift_rules::shifts::lshr;
 pub use shift_rules::shifts::shl;
 pub use slice_rules::constants::value;
@@ -62,6 +65,9 @@ pub fn verdict(job: &[u8], work: &[u8], n: usize, rule: u32, literal: u32) -> Ve
         21 => udiv(job, work, n, literal),
         22 => urem(job, work, n, literal),
         23 => bitwise_slicing(job, work, n, literal),
+        24 => udiv_standard(job, work, n, literal),
+        25 => urem_standard(job, work, n, literal),
+        26 => ashr_standard(job, work, n, literal),
         _ => Verdict::WrongForm,
     }
 }

@@ -1,13 +1,13 @@
 -- Division: shifts by one place, the test for `false`, a step, and the three ways of the recursion.
 use mathlib.Core.Path.{_≡_, refl, sym, ap, ap₂, _∙_}
-use mathlib.Core.Bool.{Bool, true, false, _&&_}
-use mathlib.Core.List.{List, [], _∷_, _++_}
+use mathlib.Core.Bool.{Bool, true, false, _&&_, cond}
+use mathlib.Core.List.{List, [], _∷_, _++_, map}
 use Prim.Native.Nat.{ℕ, zero, suc, _+_, _-_, _<_, _≤_}
 use native.Mathlib.Omega.{arith}
 use lib.ListN.{length, take, drop, getD, set, replicate, length-drop, length-append, drop-of-length-le, List·getD-append}
 use lib.Seq.{length-take-le, getD-take, getD-drop, getD-at, drop-cons, take-take}
 use Rattle.theory.specs.Gates.{Gates}
-use Rattle.theory.specs.Circuit.{zip-with, drop-top, ripple-carry-adder, all-false, falses, choose, next-remainder, no-carry, divide-step, bitblast-udiv-urem-rec, is-zero, udiv, urem}
+use Rattle.theory.specs.Circuit.{zip-with, drop-top, ripple-carry-adder, next-carry, last-carry, carry-out, all-false, falses, choose, next-remainder, no-carry, reduced, divide-step, bitblast-udiv-urem-rec, is-zero, udiv, urem}
 use Rattle.theory.specs.Alethe.{bits, bit-of}
 use Rattle.circuits.proofs.FillLaws.{Filling, fill-start, fill-turn, fill-end, front, reached, repeated, with-left, with-right}
 
@@ -111,19 +111,54 @@ remainder g low r s n a o e l h = e ∙ rw (repeated (g .false-gate) s n 64 l h,
 pub first : (xs : List ℕ) (n : ℕ) → 1 ≤ n → n ≤ length xs → take n xs ≡ getD xs 0 0 ∷ drop 1 (take n xs)
 first xs n h l = ahead xs n 0 h l
 
-module _ (g : Gates ℕ) (x0 : ℕ) (xs ys q r r1 q1 : List ℕ) (n sign low : ℕ) {below : ℕ} {x r2 quot rem : List ℕ} where
-  pub stepped : x ≡ x0 ∷ xs → take n r1 ≡ next-remainder g x0 r → sign ≡ no-carry g (take n r1) ys → low ≡ g .ite-gate sign (g .false-gate) (g .true-gate)
-      → take n q1 ≡ low ∷ drop-top q → r2 ≡ choose g sign (take n r1) (take n (replicate 64 (g .true-gate))) → below ≡ no-carry g x ys
+-- ---- the carry out of the top bit is one more than the last that the adder lists
+pub carry-last : (g : Gates ℕ) (c : ℕ) (xs ys : List ℕ) (n : ℕ) → 1 ≤ n → n ≤ length xs → n ≤ length ys
+    → next-carry g (getD xs (n - 1) 0) (getD ys (n - 1) 0) (last-carry g c (take n xs) (take n ys)) ≡ carry-out g c (take n xs) (take n ys)
+unfolding last-carry carry-out
+carry-last g c xs ys zero p h l = absurd (omega arith)
+carry-last g c [] ys (suc n) p h l = absurd (omega arith)
+carry-last g c (x ∷ xs) [] (suc n) p h l = absurd (omega arith)
+carry-last g c (x ∷ xs) (y ∷ ys) (suc zero) p h l = refl
+carry-last g c (x ∷ []) (y ∷ ys) (suc (suc n)) p h l = absurd (omega arith)
+carry-last g c (x ∷ x′ ∷ xs) (y ∷ []) (suc (suc n)) p h l = absurd (omega arith)
+carry-last g c (x ∷ x′ ∷ xs) (y ∷ y′ ∷ ys) (suc (suc n)) p h l =
+    let z : suc (suc n) - 1 ≡ suc n = omega arith in
+    let w : suc n - 1 ≡ n = omega arith in
+    rw z (rw w at (carry-last g (next-carry g x y c) (x′ ∷ xs) (y′ ∷ ys) (suc n) (omega arith) (omega arith) (omega arith)))
+
+pub carry-used : (g : Gates ℕ) (standard : Bool) (xs ys nys : List ℕ) (n : ℕ) {last carry r : ℕ} → take n nys ≡ map (g .not-gate) (take n ys)
+    → last ≡ last-carry g (g .true-gate) (take n xs) (take n nys) → carry ≡ cond standard (next-carry g (getD xs (n - 1) 0) (getD nys (n - 1) 0) last) last
+    → r ≡ g .not-gate carry → 1 ≤ n → n ≤ length xs → n ≤ length nys → r ≡ no-carry g standard (take n xs) (take n ys)
+carry-used g standard xs ys nys n {last} a b c d p h l =
+    d ∙ ap (g .not-gate) (c ∙ by standard)
+  where
+    by : (t : Bool) → cond t (next-carry g (getD xs (n - 1) 0) (getD nys (n - 1) 0) last) last
+        ≡ cond t (carry-out g (g .true-gate) (take n xs) (map (g .not-gate) (take n ys))) (last-carry g (g .true-gate) (take n xs) (map (g .not-gate) (take n ys)))
+    by true = ap (next-carry g (getD xs (n - 1) 0) (getD nys (n - 1) 0)) b ∙ carry-last g (g .true-gate) xs nys n p h l ∙ ap (carry-out g (g .true-gate) (take n xs)) a
+    by false = b ∙ ap (last-carry g (g .true-gate) (take n xs)) a
+
+-- the remainder where it is not below y
+pub all-true : (g : Gates ℕ) (standard : Bool) (rs ys : List ℕ) (n : ℕ) → standard ≡ false → n ≤ length rs → n ≤ 64
+    → take n (replicate 64 (g .true-gate)) ≡ reduced g standard (take n rs) ys
+all-true g standard rs ys n e l h = repeated (g .true-gate) rs n 64 l h ∙ rw e
+
+pub subtracted : (g : Gates ℕ) (standard : Bool) (rs ys : List ℕ) {nys bs : List ℕ} → standard ≡ true → nys ≡ map (g .not-gate) ys
+    → bs ≡ ripple-carry-adder g (g .true-gate) rs nys → bs ≡ reduced g standard rs ys
+subtracted g standard rs ys e a b = b ∙ rw (a, e)
+
+module _ (g : Gates ℕ) (standard : Bool) (x0 : ℕ) (xs ys q r r1 q1 : List ℕ) (n sign low : ℕ) {below : ℕ} {x less r2 quot rem : List ℕ} where
+  pub stepped : x ≡ x0 ∷ xs → take n r1 ≡ next-remainder g x0 r → sign ≡ no-carry g standard (take n r1) ys → low ≡ g .ite-gate sign (g .false-gate) (g .true-gate)
+      → take n q1 ≡ low ∷ drop-top q → less ≡ reduced g standard (take n r1) ys → r2 ≡ choose g sign (take n r1) less → below ≡ no-carry g standard x ys
       → quot ≡ choose g below (take n (replicate 64 (g .false-gate))) (take n q1) → rem ≡ choose g below x r2
-      → n ≤ length r1 → n ≤ length q1 → n ≤ 64 → (quot, rem) ≡ divide-step g x0 xs ys (q, r)
+      → n ≤ length q1 → n ≤ 64 → (quot, rem) ≡ divide-step g standard x0 xs ys (q, r)
   unfolding divide-step
-  stepped e a s l b t c u v lr lq h = λ i. (quotient i, rest i)
+  stepped e a s l b m t c u v lq h = λ i. (quotient i, rest i)
     where
-      quotient : quot ≡ divide-step g x0 xs ys (q, r) .0
+      quotient : quot ≡ divide-step g standard x0 xs ys (q, r) .0
       quotient = u ∙ with-left (g .ite-gate below) (g .false-gate) q1 n lq h ∙ rw (b, l, s, a, c, e)
 
-      rest : rem ≡ divide-step g x0 xs ys (q, r) .1
-      rest = v ∙ rw (t, with-right (g .ite-gate sign) (g .true-gate) r1 n lr h, s, a, c, e)
+      rest : rem ≡ divide-step g standard x0 xs ys (q, r) .1
+      rest = v ∙ rw (t, m, s, a, c, e)
 
 -- ---- the recursion
 if-true : {A : Type 0} (b : Bool) (u v : A) → b ≡ true → u ≡ (elim b [ true ↦ u | false ↦ v ])
@@ -132,17 +167,17 @@ if-true b u v e = rw e
 if-false : {A : Type 0} (b : Bool) (u v : A) → b ≡ false → v ≡ (elim b [ true ↦ u | false ↦ v ])
 if-false b u v e = rw e
 
-module _ (g : Gates ℕ) (p : ℕ → Bool) (ys : List ℕ) where
+module _ (g : Gates ℕ) (standard : Bool) (p : ℕ → Bool) (ys : List ℕ) where
   -- a dividend with a first bit, k being left
   abbrev step : ℕ → ℕ → List ℕ → List ℕ × List ℕ
-  step k x xs = divide-step g x xs ys (bitblast-udiv-urem-rec g p k (xs ++ (g .false-gate ∷ [])) ys)
+  step k x xs = divide-step g standard x xs ys (bitblast-udiv-urem-rec g standard p k (xs ++ (g .false-gate ∷ [])) ys)
 
-  pub divide-stop : (xs : List ℕ) {q : List ℕ} {k : ℕ} → k ≡ 0 → q ≡ falses g xs → (q, q) ≡ bitblast-udiv-urem-rec g p k xs ys
+  pub divide-stop : (xs : List ℕ) {q : List ℕ} {k : ℕ} → k ≡ 0 → q ≡ falses g xs → (q, q) ≡ bitblast-udiv-urem-rec g standard p k xs ys
   unfolding bitblast-udiv-urem-rec
   divide-stop xs e f = rw (e, f)
 
   pub divide-none : (xs : List ℕ) (h : Gates ℕ) {q : List ℕ} {t : Bool} (k : ℕ) → (k ≡ 0 → ⊥) → t ≡ all-false h p xs → t ≡ true → q ≡ falses g xs
-      → (q, q) ≡ bitblast-udiv-urem-rec g p k xs ys
+      → (q, q) ≡ bitblast-udiv-urem-rec g standard p k xs ys
   unfolding bitblast-udiv-urem-rec
   divide-none xs h zero ne a e f = absurd (ne refl)
   divide-none [] h (suc k) ne a e f = rw f
@@ -150,26 +185,26 @@ module _ (g : Gates ℕ) (p : ℕ → Bool) (ys : List ℕ) where
       rw f (if-true (all-false g p (x ∷ xs)) (falses g (x ∷ xs), falses g (x ∷ xs)) (step k x xs) (any-gates g h p (x ∷ xs) ∙ sym a ∙ e))
 
   pub divide-more : (x0 : ℕ) (xs : List ℕ) (h : Gates ℕ) {half all : List ℕ} {t : Bool} {d e : List ℕ × List ℕ} (k : ℕ) → (k ≡ 0 → ⊥) → all ≡ x0 ∷ xs
-      → t ≡ all-false h p all → t ≡ false → half ≡ drop 1 all ++ (g .false-gate ∷ []) → d ≡ bitblast-udiv-urem-rec g p (k - 1) half ys
-      → e ≡ divide-step g x0 xs ys d → e ≡ bitblast-udiv-urem-rec g p k all ys
+      → t ≡ all-false h p all → t ≡ false → half ≡ drop 1 all ++ (g .false-gate ∷ []) → d ≡ bitblast-udiv-urem-rec g standard p (k - 1) half ys
+      → e ≡ divide-step g standard x0 xs ys d → e ≡ bitblast-udiv-urem-rec g standard p k all ys
   unfolding bitblast-udiv-urem-rec
   divide-more x0 xs h zero ne w a f b c s = absurd (ne refl)
   divide-more x0 xs h {t} {e} (suc k) ne w a f b c s =
       let z : suc k - 1 ≡ k = omega arith in
       s
-      ∙ ap (divide-step g x0 xs ys)
-      (c ∙ ap₂ (λ (k : ℕ) (l : List ℕ). bitblast-udiv-urem-rec g p k l ys) z (b ∙ ap (λ (l : List ℕ). drop 1 l ++ (g .false-gate ∷ [])) w))
+      ∙ ap (divide-step g standard x0 xs ys)
+      (c ∙ ap₂ (λ (k : ℕ) (l : List ℕ). bitblast-udiv-urem-rec g standard p k l ys) z (b ∙ ap (λ (l : List ℕ). drop 1 l ++ (g .false-gate ∷ [])) w))
       ∙ if-false (all-false g p (x0 ∷ xs)) (falses g (x0 ∷ xs), falses g (x0 ∷ xs)) (step k x0 xs) (any-gates g h p (x0 ∷ xs) ∙ ap (all-false h p) (sym w) ∙ sym a ∙ f)
-      ∙ ap (λ (l : List ℕ). bitblast-udiv-urem-rec g p (suc k) l ys) (sym w)
+      ∙ ap (λ (l : List ℕ). bitblast-udiv-urem-rec g standard p (suc k) l ys) (sym w)
 
   -- ---- where the divisor is zero
-  pub quotient : (xs : List ℕ) (n : ℕ) (q : List ℕ) {z : ℕ} {d : List ℕ × List ℕ} {out : List ℕ} → d ≡ bitblast-udiv-urem-rec g p n xs ys → take n q ≡ d .0
-      → z ≡ is-zero g ys → out ≡ choose g z (take n (replicate 64 (g .true-gate))) (take n q) → length xs ≡ n → n ≤ length q → n ≤ 64 → out ≡ udiv g p xs ys
+  pub quotient : (xs : List ℕ) (n : ℕ) (q : List ℕ) {z : ℕ} {d : List ℕ × List ℕ} {out : List ℕ} → d ≡ bitblast-udiv-urem-rec g standard p n xs ys → take n q ≡ d .0
+      → z ≡ is-zero g ys → out ≡ choose g z (take n (replicate 64 (g .true-gate))) (take n q) → length xs ≡ n → n ≤ length q → n ≤ 64 → out ≡ udiv g standard p xs ys
   unfolding udiv
   quotient xs n q {z} a b c e f l h = e ∙ with-left (g .ite-gate z) (g .true-gate) q n l h ∙ rw (b, a, c, f)
 
-  pub remains : (xs : List ℕ) (n : ℕ) {z : ℕ} {d : List ℕ × List ℕ} {r out : List ℕ} → d ≡ bitblast-udiv-urem-rec g p n xs ys → r ≡ d .1
-      → z ≡ is-zero g ys → out ≡ choose g z xs r → length xs ≡ n → out ≡ urem g p xs ys
+  pub remains : (xs : List ℕ) (n : ℕ) {z : ℕ} {d : List ℕ × List ℕ} {r out : List ℕ} → d ≡ bitblast-udiv-urem-rec g standard p n xs ys → r ≡ d .1
+      → z ≡ is-zero g ys → out ≡ choose g z xs r → length xs ≡ n → out ≡ urem g standard p xs ys
   unfolding urem
   remains xs n a b c e f = e ∙ rw (b, a, c, f)
 

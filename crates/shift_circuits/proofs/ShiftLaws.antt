@@ -1,6 +1,6 @@
 -- The loops of the shifts: along a stage, and over the stages.
 use mathlib.Core.Path.{_≡_, refl, sym, ap, _∙_}
-use mathlib.Core.Bool.{Bool, true, false}
+use mathlib.Core.Bool.{Bool, cond, false, true}
 use mathlib.Core.List.{List, [], _++_, map}
 use Prim.Native.Nat.{ℕ, zero, suc, _+_, _-_, _*_, _^_, _%_, _<_, _≤_}
 use native.Mathlib.Nat.{le-antisymm}
@@ -168,19 +168,19 @@ module _ {g : Gates ℕ} {fill : ℕ} {xs ys : List ℕ} {n stages : ℕ} where
 
 -- ---- the whole shift: the stages, and then the bound
 module _ (g : Gates ℕ) (size ys : List ℕ) where
-  pub within : (ps : List ℕ) (n : ℕ) {c : ℕ} {r : List ℕ} → c ≡ bitblast-ult g ys size → r ≡ choose g c (take n ps) (take n (replicate 64 (g .false-gate)))
-      → n ≤ length ps → n ≤ 64 → r ≡ bounded g size ys (take n ps)
-  within ps n {c} a b l h = b ∙ with-right (g .ite-gate c) (g .false-gate) ps n l h ∙ ap (λ (c : ℕ). map (λ p. g .ite-gate c p (g .false-gate)) (take n ps)) a
+  pub within : (ps : List ℕ) (n beyond : ℕ) {c : ℕ} {r : List ℕ} → c ≡ bitblast-ult g ys size → r ≡ choose g c (take n ps) (take n (replicate 64 beyond))
+      → n ≤ length ps → n ≤ 64 → r ≡ bounded g beyond size ys (take n ps)
+  within ps n beyond {c} a b l h = b ∙ with-right (g .ite-gate c) beyond ps n l h ∙ ap (λ (c : ℕ). map (λ p. g .ite-gate c p beyond) (take n ps)) a
 
-  pub shl-whole : (xs : List ℕ) (n : ℕ) {p r : List ℕ} → p ≡ shl-stages g 0 (take (clog2 n) ys) xs → r ≡ bounded g size ys p → length xs ≡ n → r ≡ shl g size xs ys
+  pub shl-whole : (xs : List ℕ) (n : ℕ) {p r : List ℕ} → p ≡ shl-stages g 0 (take (clog2 n) ys) xs → r ≡ bounded g (g .false-gate) size ys p → length xs ≡ n → r ≡ shl g size xs ys
   unfolding shl
   shl-whole xs n a b e = b ∙ rw (a, e)
 
-  pub lshr-whole : (xs : List ℕ) (n : ℕ) {p r : List ℕ} → p ≡ shr-stages g (g .false-gate) 0 (take (clog2 n) ys) xs → r ≡ bounded g size ys p → length xs ≡ n → r ≡ lshr g size xs ys
+  pub lshr-whole : (xs : List ℕ) (n : ℕ) {p r : List ℕ} → p ≡ shr-stages g (g .false-gate) 0 (take (clog2 n) ys) xs → r ≡ bounded g (g .false-gate) size ys p → length xs ≡ n → r ≡ lshr g size xs ys
   unfolding lshr
   lshr-whole xs n a b e = b ∙ rw (a, e)
 
-  pub ashr-whole : (xs : List ℕ) (n : ℕ) {f : ℕ} {p r : List ℕ} → f ≡ last (g .false-gate) xs → p ≡ shr-stages g f 0 (take (clog2 n) ys) xs → r ≡ bounded g size ys p
-      → length xs ≡ n → r ≡ ashr g size xs ys
+  pub ashr-whole : (standard : Bool) (xs : List ℕ) (n : ℕ) {t : Bool} {f : ℕ} {p r : List ℕ} → standard ≡ t → f ≡ last (g .false-gate) xs
+      → p ≡ shr-stages g f 0 (take (clog2 n) ys) xs → r ≡ bounded g (cond t f (g .false-gate)) size ys p → length xs ≡ n → r ≡ ashr g standard size xs ys
   unfolding ashr
-  ashr-whole xs n z a b e = b ∙ rw (a, e, z)
+  ashr-whole standard xs n s z a b e = b ∙ rw (a, e, z, s)

@@ -1,4 +1,5 @@
-// Division, bit by bit.
+// Division, bit by bit; `standard` is false for the circuit as Rust has it, and true for the standard's division.
+use circuits::adder::carry_bit;
 use circuits::adder::ripple_carry_adder;
 use circuits::bits::MAX_BITS;
 use circuits::bits::eqs;
@@ -11,11 +12,12 @@ use store::gates::eq2;
 use store::gates::ite3;
 use store::gates::not1;
 ghost use mathlib.Core.Path.{_≡_};
+ghost use mathlib.Core.Bool.{cond};
 ghost use mathlib.Core.List.{_∷_, [], _++_};
 ghost use Prim.Native.Nat.{_≤_};
 ghost use lib.ListN.{take, drop, getD};
 ghost use Rattle.theory.specs.Limit.{max-width};
-ghost use Rattle.theory.specs.Circuit.{drop-top, all-false, next-remainder, no-carry, divide-step, bitblast-udiv-urem-rec, is-zero, udiv, urem};
+ghost use Rattle.theory.specs.Circuit.{drop-top, next-carry, all-false, next-remainder, no-carry, reduced, divide-step, bitblast-udiv-urem-rec, is-zero, udiv, urem};
 ghost use Rattle.rows.specs.Rows.{kept};
 ghost use Rattle.table.specs.Slots.{Table};
 ghost use Rattle.store.specs.Numbers.{numbers, false-number, is-false-number};
@@ -84,7 +86,20 @@ fn next_remainder(
     sum.bits
 }
 
-// bitblast_udiv_urem_rec: whether x is below y, which Rust takes from the carry into the top bit of x - y: there is none.
+// The last carry, as Rust takes it, or by the standard the carry out of the bits x and y that it goes into.
+fn used_carry(job: &[u8], work: &[u8], n: usize, x: u32, y: u32, last: u32, standard: bool) -> u32
+    requires { ⌜ Table (now job) (now work) n ⌝ }
+    ensures { λ r. ⌜ r ≡ cond standard (next-carry (numbers (kept (now (job .entry)) (now (work .entry)) n)) x y last) last ⌝ }
+{
+    if standard {
+        carry_bit(job, work, n, x, y, last)
+    } else {
+        last
+    }
+}
+
+// bitblast_udiv_urem_rec: whether x is below y, which Rust takes from the carry into the top bit of x - y, and the standard from the
+// one out of it: there is none.
 fn no_carry(
     job: &[u8],
     work: &[u8],
@@ -92,14 +107,38 @@ fn no_carry(
     x: [u32; MAX_BITS],
     y: [u32; MAX_BITS],
     w: usize,
+    standard: bool,
 ) -> u32
     requires { ⌜ Table (now job) (now work) n ⌝ }
     requires { ⌜ (1 ≤ w) × (w ≤ max-width) ⌝ }
-    ensures { λ r. ⌜ r ≡ no-carry (numbers (kept (now (job .entry)) (now (work .entry)) n)) (take w x) (take w y) ⌝ }
+    ensures { λ r. ⌜ r ≡ no-carry (numbers (kept (now (job .entry)) (now (work .entry)) n)) standard (take w x) (take w y) ⌝ }
 {
     let not_y = nots(job, work, n, y, w);
     let sum = ripple_carry_adder(job, work, n, x, not_y, w, TRUE);
-    not1(job, work, n, sum.carry)
+    let carry = used_carry(job, work, n, x[w - 1], not_y[w - 1], sum.carry, standard);
+    not1(job, work, n, carry)
+}
+
+// bitblast_udiv_urem_rec: the remainder r where it is not below y. Rust does not subtract y: it makes every bit `true`.
+fn reduced(
+    job: &[u8],
+    work: &[u8],
+    n: usize,
+    r: [u32; MAX_BITS],
+    y: [u32; MAX_BITS],
+    w: usize,
+    standard: bool,
+) -> [u32; MAX_BITS]
+    requires { ⌜ Table (now job) (now work) n ⌝ }
+    requires { ⌜ (1 ≤ w) × (w ≤ max-width) ⌝ }
+    ensures { λ s. ⌜ take w s ≡ reduced (numbers (kept (now (job .entry)) (now (work .entry)) n)) standard (take w r) (take w y) ⌝ }
+{
+    if standard {
+        let not_y = nots(job, work, n, y, w);
+        let sum = ripple_carry_adder(job, work, n, r, not_y, w, TRUE);
+        return sum.bits;
+    }
+    [TRUE; MAX_BITS]
 }
 
 // A quotient and a remainder.
@@ -108,8 +147,7 @@ pub struct Division {
     pub rem: [u32; MAX_BITS],
 }
 
-// bitblast_udiv_urem_rec, one step: from the quotient q and the remainder r of x shifted right. Where the remainder, shifted and with
-// bit 0 of x, is not below y, Rust does not subtract y: it makes every bit `true`.
+// bitblast_udiv_urem_rec, one step: from the quotient q and the remainder r of x shifted right.
 fn divide_step(
     job: &[u8],
     work: &[u8],
@@ -119,18 +157,19 @@ fn divide_step(
     q: [u32; MAX_BITS],
     r: [u32; MAX_BITS],
     w: usize,
+    standard: bool,
 ) -> Division
     requires { ⌜ Table (now job) (now work) n ⌝ }
     requires { ⌜ (1 ≤ w) × (w ≤ max-width) ⌝ }
-    ensures { λ d. ⌜ (take w (d .quot), take w (d .rem)) ≡ divide-step (numbers (kept (now (job .entry)) (now (work .entry)) n)) (getD x 0 0) (drop 1 (take w x)) (take w y) (take w q, take w r) ⌝ }
+    ensures { λ d. ⌜ (take w (d .quot), take w (d .rem)) ≡ divide-step (numbers (kept (now (job .entry)) (now (work .entry)) n)) standard (getD x 0 0) (drop 1 (take w x)) (take w y) (take w q, take w r) ⌝ }
 {
     let r1 = next_remainder(job, work, n, x[0], r, w);
-    let sign = no_carry(job, work, n, r1, y, w);
+    let sign = no_carry(job, work, n, r1, y, w, standard);
     let low = ite3(job, work, n, sign, FALSE, TRUE);
     let q1 = shift_left(q, w, low);
-    let trues = [TRUE; MAX_BITS];
-    let r2 = ites(job, work, n, sign, r1, trues, w);
-    let below = no_carry(job, work, n, x, y, w);
+    let less = reduced(job, work, n, r1, y, w, standard);
+    let r2 = ites(job, work, n, sign, r1, less, w);
+    let below = no_carry(job, work, n, x, y, w, standard);
     let falses = [FALSE; MAX_BITS];
     let quot = ites(job, work, n, below, falses, q1, w);
     let rem = ites(job, work, n, below, x, r2, w);
@@ -146,10 +185,11 @@ pub fn bitblast_udiv_urem_rec(
     y: [u32; MAX_BITS],
     w: usize,
     left: usize,
+    standard: bool,
 ) -> Division
     requires { ⌜ Table (now job) (now work) n ⌝ }
     requires { ⌜ (1 ≤ w) × (w ≤ max-width) ⌝ }
-    ensures { λ d. ⌜ (take w (d .quot), take w (d .rem)) ≡ bitblast-udiv-urem-rec (numbers (kept (now (job .entry)) (now (work .entry)) n)) is-false-number left (take w x) (take w y) ⌝ }
+    ensures { λ d. ⌜ (take w (d .quot), take w (d .rem)) ≡ bitblast-udiv-urem-rec (numbers (kept (now (job .entry)) (now (work .entry)) n)) standard is-false-number left (take w x) (take w y) ⌝ }
 {
     if left == 0 {
         let zero = [FALSE; MAX_BITS];
@@ -166,10 +206,10 @@ pub fn bitblast_udiv_urem_rec(
         };
     }
     let half = shift_right(x, w);
-    let d = bitblast_udiv_urem_rec(job, work, n, half, y, w, left - 1);
+    let d = bitblast_udiv_urem_rec(job, work, n, half, y, w, left - 1, standard);
     let q = d.quot;
     let r = d.rem;
-    divide_step(job, work, n, x, y, q, r, w)
+    divide_step(job, work, n, x, y, q, r, w, standard)
 }
 
 // bitblast_udiv_urem: that every bit of y is false, an And of any number, one too.
@@ -191,12 +231,13 @@ pub fn udiv(
     x: [u32; MAX_BITS],
     y: [u32; MAX_BITS],
     w: usize,
+    standard: bool,
 ) -> [u32; MAX_BITS]
     requires { ⌜ Table (now job) (now work) n ⌝ }
     requires { ⌜ (1 ≤ w) × (w ≤ max-width) ⌝ }
-    ensures { λ r. ⌜ take w r ≡ udiv (numbers (kept (now (job .entry)) (now (work .entry)) n)) is-false-number (take w x) (take w y) ⌝ }
+    ensures { λ r. ⌜ take w r ≡ udiv (numbers (kept (now (job .entry)) (now (work .entry)) n)) standard is-false-number (take w x) (take w y) ⌝ }
 {
-    let d = bitblast_udiv_urem_rec(job, work, n, x, y, w, w);
+    let d = bitblast_udiv_urem_rec(job, work, n, x, y, w, w, standard);
     let zero = is_zero(job, work, n, y, w);
     let quot = d.quot;
     let trues = [TRUE; MAX_BITS];
@@ -211,12 +252,13 @@ pub fn urem(
     x: [u32; MAX_BITS],
     y: [u32; MAX_BITS],
     w: usize,
+    standard: bool,
 ) -> [u32; MAX_BITS]
     requires { ⌜ Table (now job) (now work) n ⌝ }
     requires { ⌜ (1 ≤ w) × (w ≤ max-width) ⌝ }
-    ensures { λ r. ⌜ take w r ≡ urem (numbers (kept (now (job .entry)) (now (work .entry)) n)) is-false-number (take w x) (take w y) ⌝ }
+    ensures { λ r. ⌜ take w r ≡ urem (numbers (kept (now (job .entry)) (now (work .entry)) n)) standard is-false-number (take w x) (take w y) ⌝ }
 {
-    let d = bitblast_udiv_urem_rec(job, work, n, x, y, w, w);
+    let d = bitblast_udiv_urem_rec(job, work, n, x, y, w, w, standard);
     let zero = is_zero(job, work, n, y, w);
     let rem = d.rem;
     ites(job, work, n, zero, x, rem, w)

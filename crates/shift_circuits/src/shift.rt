@@ -120,11 +120,12 @@ fn shr_stages(
     res
 }
 
-// bitblast_shift_op, at last: every bit is `false` unless y is below the width. `size` are the bits of the width as a constant.
+// bitblast_shift_op, at last: every bit is `beyond` unless y is below the width. `size` are the bits of the width as a constant.
 fn bounded(
     job: &[u8],
     work: &[u8],
     n: usize,
+    beyond: u32,
     size: [u32; MAX_BITS],
     y: [u32; MAX_BITS],
     p: [u32; MAX_BITS],
@@ -132,11 +133,11 @@ fn bounded(
 ) -> [u32; MAX_BITS]
     requires { ⌜ Table (now job) (now work) n ⌝ }
     requires { ⌜ (1 ≤ w) × (w ≤ max-width) ⌝ }
-    ensures { λ r. ⌜ take w r ≡ bounded (numbers (kept (now (job .entry)) (now (work .entry)) n)) (take w size) (take w y) (take w p) ⌝ }
+    ensures { λ r. ⌜ take w r ≡ bounded (numbers (kept (now (job .entry)) (now (work .entry)) n)) beyond (take w size) (take w y) (take w p) ⌝ }
 {
     let below = bitblast_ult(job, work, n, y, size, w);
-    let falses = [FALSE; MAX_BITS];
-    ites(job, work, n, below, p, falses, w)
+    let others = [beyond; MAX_BITS];
+    ites(job, work, n, below, p, others, w)
 }
 
 // shl: x shifted left by y. `size` are the bits of the width as a constant of that width.
@@ -154,7 +155,7 @@ pub fn shl(
     ensures { λ r. ⌜ take w r ≡ shl (numbers (kept (now (job .entry)) (now (work .entry)) n)) (take w size) (take w x) (take w y) ⌝ }
 {
     let shifted = shl_stages(job, work, n, x, y, w);
-    bounded(job, work, n, size, y, shifted, w)
+    bounded(job, work, n, FALSE, size, y, shifted, w)
 }
 
 // lshr: x shifted right by y, `false` coming in.
@@ -172,11 +173,11 @@ pub fn lshr(
     ensures { λ r. ⌜ take w r ≡ lshr (numbers (kept (now (job .entry)) (now (work .entry)) n)) (take w size) (take w x) (take w y) ⌝ }
 {
     let shifted = shr_stages(job, work, n, FALSE, x, y, w);
-    bounded(job, work, n, size, y, shifted, w)
+    bounded(job, work, n, FALSE, size, y, shifted, w)
 }
 
-// ashr: x shifted right by y, its top bit coming in. Where y is not below the width the answer is all `false`, as in Rust, which is
-// not what the standard says.
+// ashr: x shifted right by y, its top bit coming in. Where y is not below the width the answer is all `false`, as in Rust, or, by the
+// standard, the top bit at every place.
 pub fn ashr(
     job: &[u8],
     work: &[u8],
@@ -185,12 +186,17 @@ pub fn ashr(
     x: [u32; MAX_BITS],
     y: [u32; MAX_BITS],
     w: usize,
+    standard: bool,
 ) -> [u32; MAX_BITS]
     requires { ⌜ Table (now job) (now work) n ⌝ }
     requires { ⌜ (1 ≤ w) × (w ≤ max-width) ⌝ }
-    ensures { λ r. ⌜ take w r ≡ ashr (numbers (kept (now (job .entry)) (now (work .entry)) n)) (take w size) (take w x) (take w y) ⌝ }
+    ensures { λ r. ⌜ take w r ≡ ashr (numbers (kept (now (job .entry)) (now (work .entry)) n)) standard (take w size) (take w x) (take w y) ⌝ }
 {
     let sign = x[w - 1];
     let shifted = shr_stages(job, work, n, sign, x, y, w);
-    bounded(job, work, n, size, y, shifted, w)
+    if standard {
+        bounded(job, work, n, sign, size, y, shifted, w)
+    } else {
+        bounded(job, work, n, FALSE, size, y, shifted, w)
+    }
 }

@@ -1,16 +1,18 @@
-// The rules udiv and urem, held to their form only.
+// The rules udiv and urem, held to their form only; and the two by the standard, which are held.
 ghost use mathlib.Core.Path.{_≡_};
+ghost use mathlib.Core.Bool.{cond};
 ghost use Rattle.theory.specs.Bits.{divided};
-ghost use Rattle.theory.specs.Verdict.{form-only};
+ghost use Rattle.theory.specs.Verdict.{held, form-only};
 ghost use Prim.Native.Nat.{_+_, _<_};
 ghost use Rattle.theory.specs.Limit.{first-terms};
 ghost use Rattle.theory.specs.Gates.{term-gates};
 ghost use Rattle.theory.specs.Circuit.{udiv, urem};
-ghost use Rattle.theory.specs.RuleTable.{by-udiv, by-urem};
+ghost use Rattle.theory.specs.RuleTable.{by-udiv, by-urem, by-udiv-standard, by-urem-standard};
 ghost use Rattle.theory.specs.Rule.{compare, verdict};
 ghost use Rattle.store.specs.Store.{Store};
 ghost use Rattle.operand_rules.specs.Rules.{Two, tree, verdict-of};
 use operand_rules::Verdict;
+use operand_rules::bits::compare_bits;
 use operand_rules::bits::compare_bits_form;
 use operand_rules::bits::get_term_bits;
 use operand_rules::bits::width_at;
@@ -18,15 +20,27 @@ use store::terms_at::term_at;
 use terms::Term;
 
 // The claim is the term of the quotient's circuit.
-fn udiv_check(job: &[u8], work: &[u8], n: usize, x: u32, y: u32, claim: u32) -> Verdict
+fn udiv_check(
+    job: &[u8],
+    work: &[u8],
+    n: usize,
+    x: u32,
+    y: u32,
+    claim: u32,
+    standard: bool,
+) -> Verdict
     requires { ⌜ Two (now job) (now work) n x y claim ⌝ }
-    ensures { λ v. ⌜ verdict-of v ≡ compare form-only (divided (udiv term-gates) (tree (now (job .entry)) (now (work .entry)) n x) (tree (now (job .entry)) (now (work .entry)) n y)) (tree (now (job .entry)) (now (work .entry)) n claim) ⌝ }
+    ensures { λ v. ⌜ verdict-of v ≡ compare (cond standard held form-only) (divided (udiv term-gates standard) (tree (now (job .entry)) (now (work .entry)) n x) (tree (now (job .entry)) (now (work .entry)) n y)) (tree (now (job .entry)) (now (work .entry)) n claim) ⌝ }
 {
     let w = width_at(job, work, n, x);
     let xs = get_term_bits(job, work, n, x, w);
     let ys = get_term_bits(job, work, n, y, w);
-    let bits = shift_circuits::divider::udiv(job, work, n, xs, ys, w);
-    compare_bits_form(job, work, n, bits, w, claim)
+    let bits = shift_circuits::divider::udiv(job, work, n, xs, ys, w, standard);
+    if standard {
+        compare_bits(job, work, n, bits, w, claim)
+    } else {
+        compare_bits_form(job, work, n, bits, w, claim)
+    }
 }
 
 // udiv: (= (bvudiv x y) claim).
@@ -40,19 +54,45 @@ pub fn udiv(job: &[u8], work: &[u8], n: usize, literal: u32) -> Verdict
     let Term::BvUDiv(x, y) = term_at(job, work, n, l) else {
         return Verdict::WrongForm;
     };
-    udiv_check(job, work, n, x, y, r)
+    udiv_check(job, work, n, x, y, r, false)
+}
+
+// The same by the standard.
+pub fn udiv_standard(job: &[u8], work: &[u8], n: usize, literal: u32) -> Verdict
+    requires { ⌜ Store (now job) (now work) n × (literal < first-terms + n) ⌝ }
+    ensures { λ v. ⌜ verdict-of v ≡ verdict by-udiv-standard (tree (now (job .entry)) (now (work .entry)) n literal) ⌝ }
+{
+    let Term::Equals(l, r) = term_at(job, work, n, literal) else {
+        return Verdict::WrongForm;
+    };
+    let Term::BvUDiv(x, y) = term_at(job, work, n, l) else {
+        return Verdict::WrongForm;
+    };
+    udiv_check(job, work, n, x, y, r, true)
 }
 
 // The claim is the term of the remainder's circuit.
-fn urem_check(job: &[u8], work: &[u8], n: usize, x: u32, y: u32, claim: u32) -> Verdict
+fn urem_check(
+    job: &[u8],
+    work: &[u8],
+    n: usize,
+    x: u32,
+    y: u32,
+    claim: u32,
+    standard: bool,
+) -> Verdict
     requires { ⌜ Two (now job) (now work) n x y claim ⌝ }
-    ensures { λ v. ⌜ verdict-of v ≡ compare form-only (divided (urem term-gates) (tree (now (job .entry)) (now (work .entry)) n x) (tree (now (job .entry)) (now (work .entry)) n y)) (tree (now (job .entry)) (now (work .entry)) n claim) ⌝ }
+    ensures { λ v. ⌜ verdict-of v ≡ compare (cond standard held form-only) (divided (urem term-gates standard) (tree (now (job .entry)) (now (work .entry)) n x) (tree (now (job .entry)) (now (work .entry)) n y)) (tree (now (job .entry)) (now (work .entry)) n claim) ⌝ }
 {
     let w = width_at(job, work, n, x);
     let xs = get_term_bits(job, work, n, x, w);
     let ys = get_term_bits(job, work, n, y, w);
-    let bits = shift_circuits::divider::urem(job, work, n, xs, ys, w);
-    compare_bits_form(job, work, n, bits, w, claim)
+    let bits = shift_circuits::divider::urem(job, work, n, xs, ys, w, standard);
+    if standard {
+        compare_bits(job, work, n, bits, w, claim)
+    } else {
+        compare_bits_form(job, work, n, bits, w, claim)
+    }
 }
 
 // urem: (= (bvurem x y) claim).
@@ -66,5 +106,19 @@ pub fn urem(job: &[u8], work: &[u8], n: usize, literal: u32) -> Verdict
     let Term::BvURem(x, y) = term_at(job, work, n, l) else {
         return Verdict::WrongForm;
     };
-    urem_check(job, work, n, x, y, r)
+    urem_check(job, work, n, x, y, r, false)
+}
+
+// The same by the standard.
+pub fn urem_standard(job: &[u8], work: &[u8], n: usize, literal: u32) -> Verdict
+    requires { ⌜ Store (now job) (now work) n × (literal < first-terms + n) ⌝ }
+    ensures { λ v. ⌜ verdict-of v ≡ verdict by-urem-standard (tree (now (job .entry)) (now (work .entry)) n literal) ⌝ }
+{
+    let Term::Equals(l, r) = term_at(job, work, n, literal) else {
+        return Verdict::WrongForm;
+    };
+    let Term::BvURem(x, y) = term_at(job, work, n, l) else {
+        return Verdict::WrongForm;
+    };
+    urem_check(job, work, n, x, y, r, true)
 }

@@ -1,8 +1,8 @@
-// The rules shl, lshr and ashr; ashr is accepted for its form only, unless the shifted term ends in `false`.
+// The rules shl, lshr and ashr; ashr is accepted for its form only, unless the shifted term ends in `false`; by the standard it is held.
 ghost use mathlib.Core.Path.{_≡_};
 ghost use Rattle.theory.specs.Bits.{shifted};
 ghost use Rattle.theory.specs.Verdict.{held, form-only};
-ghost use mathlib.Core.Bool.{cond};
+ghost use mathlib.Core.Bool.{true, false, cond};
 ghost use mathlib.Core.List.{map};
 ghost use Prim.Native.Nat.{_≤_};
 ghost use lib.ListN.{take};
@@ -10,7 +10,7 @@ ghost use Prim.Native.Nat.{_+_, _<_};
 ghost use Rattle.theory.specs.Limit.{first-terms, max-width};
 ghost use Rattle.theory.specs.Gates.{term-gates};
 ghost use Rattle.theory.specs.Circuit.{shl, lshr, ashr};
-ghost use Rattle.theory.specs.RuleTable.{by-shl, by-lshr, by-ashr};
+ghost use Rattle.theory.specs.RuleTable.{by-shl, by-lshr, by-ashr, by-ashr-standard};
 ghost use Rattle.theory.specs.Rule.{compare, ends-in-false, verdict};
 ghost use Rattle.store.specs.Store.{Store};
 ghost use Rattle.operand_rules.specs.Rules.{Two, number-in, width-bits, tree, verdict-of};
@@ -94,14 +94,14 @@ pub fn lshr(job: &[u8], work: &[u8], n: usize, literal: u32) -> Verdict
 fn ashr_check(job: &[u8], work: &[u8], n: usize, x: u32, y: u32, claim: u32) -> Verdict
     requires { ⌜ Two (now job) (now work) n x y claim ⌝ }
     ensures { λ v. ⌜ verdict-of v ≡ compare (cond (ends-in-false (tree (now (job .entry)) (now (work .entry)) n x)) held form-only)
-        (shifted (ashr term-gates) (tree (now (job .entry)) (now (work .entry)) n x) (tree (now (job .entry)) (now (work .entry)) n y))
+        (shifted (ashr term-gates false) (tree (now (job .entry)) (now (work .entry)) n x) (tree (now (job .entry)) (now (work .entry)) n y))
         (tree (now (job .entry)) (now (work .entry)) n claim) ⌝ }
 {
     let w = width_at(job, work, n, x);
     let xs = get_term_bits(job, work, n, x, w);
     let ys = get_term_bits(job, work, n, y, w);
     let size = width_bits(job, work, n, w);
-    let bits = shift_circuits::shift::ashr(job, work, n, size, xs, ys, w);
+    let bits = shift_circuits::shift::ashr(job, work, n, size, xs, ys, w, false);
     if xs[w - 1] == FALSE {
         compare_bits(job, work, n, bits, w, claim)
     } else {
@@ -121,4 +121,31 @@ pub fn ashr(job: &[u8], work: &[u8], n: usize, literal: u32) -> Verdict
         return Verdict::WrongForm;
     };
     ashr_check(job, work, n, x, y, r)
+}
+
+// The claim is the term of the circuit of x shifted right, the top bit coming in, also beyond the width.
+fn ashr_standard_check(job: &[u8], work: &[u8], n: usize, x: u32, y: u32, claim: u32) -> Verdict
+    requires { ⌜ Two (now job) (now work) n x y claim ⌝ }
+    ensures { λ v. ⌜ verdict-of v ≡ compare held (shifted (ashr term-gates true) (tree (now (job .entry)) (now (work .entry)) n x) (tree (now (job .entry)) (now (work .entry)) n y)) (tree (now (job .entry)) (now (work .entry)) n claim) ⌝ }
+{
+    let w = width_at(job, work, n, x);
+    let xs = get_term_bits(job, work, n, x, w);
+    let ys = get_term_bits(job, work, n, y, w);
+    let size = width_bits(job, work, n, w);
+    let bits = shift_circuits::shift::ashr(job, work, n, size, xs, ys, w, true);
+    compare_bits(job, work, n, bits, w, claim)
+}
+
+// ashr by the standard: (= (bvashr x y) claim).
+pub fn ashr_standard(job: &[u8], work: &[u8], n: usize, literal: u32) -> Verdict
+    requires { ⌜ Store (now job) (now work) n × (literal < first-terms + n) ⌝ }
+    ensures { λ v. ⌜ verdict-of v ≡ verdict by-ashr-standard (tree (now (job .entry)) (now (work .entry)) n literal) ⌝ }
+{
+    let Term::Equals(l, r) = term_at(job, work, n, literal) else {
+        return Verdict::WrongForm;
+    };
+    let Term::BvAShr(x, y) = term_at(job, work, n, l) else {
+        return Verdict::WrongForm;
+    };
+    ashr_standard_check(job, work, n, x, y, r)
 }

@@ -5,7 +5,7 @@ use Prim.Native.Nat.{ℕ}
 use Rattle.theory.specs.Term.{fold, same-op, same-term}
 use Rattle.theory.specs.Sort.{guard}
 use Rattle.theory.specs.Depth.{depth}
-use Rattle.theory.specs.Circuit.{zip-with, last, clog2, ripple-carry-adder, last-carry, ult-from, bitblast-ult, slt-from, slt, gather, add-rows, shift-add-multiplier, shl-bits, shl-stages, shr-bits, shr-stages, shl, lshr, ashr, divide-step, bitblast-udiv-urem-rec, udiv, urem}
+use Rattle.theory.specs.Circuit.{zip-with, last, clog2, ripple-carry-adder, last-carry, carry-out, ult-from, bitblast-ult, slt-from, slt, gather, add-rows, shift-add-multiplier, shl-bits, shl-stages, shr-bits, shr-stages, shl, lshr, ashr, divide-step, bitblast-udiv-urem-rec, udiv, urem}
 use Rattle.theory.specs.Bits.{select, get-term-bits, fold-terms, add-bits, concat-bits}
 use Rattle.theory.specs.Rule.{args-of, literal-bits, slices-verdict, on-sides, verdict}
 use Rattle.theory.specs.Record.{Bytes, cut, shape-of, read}
@@ -51,8 +51,8 @@ cases =
     ∷ case (6 ∷ 0 ∷ 11 ∷ 0 ∷ 65 ∷ 0 ∷ 0 ∷ 0 ∷ []) 64 64 7 0 ([]) 2
     -- document 01, code 8: work of 7 bytes
     ∷ case (6 ∷ 0 ∷ 11 ∷ 0 ∷ 1 ∷ 0 ∷ 0 ∷ 0 ∷ []) 7 64 8 0 ([]) 2
-    -- document 01, code 9: rule 24
-    ∷ case (4 ∷ 0 ∷ 100 ∷ 0 ∷ 24 ∷ 0 ∷ []) 64 64 9 0 ([]) 2
+    -- document 01, code 9: rule 99
+    ∷ case (4 ∷ 0 ∷ 100 ∷ 0 ∷ 99 ∷ 0 ∷ []) 64 64 9 0 ([]) 2
     -- document 01, code 10: no literal
     ∷ case (4 ∷ 0 ∷ 100 ∷ 0 ∷ 1 ∷ 0 ∷ []) 64 64 0 1 (answer 1 10 0 ∷ []) 2
     -- document 01, code 11: rule 1 on true
@@ -86,5 +86,5 @@ cases =
     ∷ []
 
 pub computed : Computed cases
-unfolding fold same-op same-term guard depth zip-with last clog2 ripple-carry-adder last-carry ult-from bitblast-ult slt-from slt gather add-rows shift-add-multiplier shl-bits shl-stages shr-bits shr-stages shl lshr ashr divide-step bitblast-udiv-urem-rec udiv urem select get-term-bits fold-terms add-bits concat-bits args-of literal-bits slices-verdict on-sides verdict cut shape-of read feed fault answers-to run-from run
+unfolding fold same-op same-term guard depth zip-with last clog2 ripple-carry-adder last-carry carry-out ult-from bitblast-ult slt-from slt gather add-rows shift-add-multiplier shl-bits shl-stages shr-bits shr-stages shl lshr ashr divide-step bitblast-udiv-urem-rec udiv urem select get-term-bits fold-terms add-bits concat-bits args-of literal-bits slices-verdict on-sides verdict cut shape-of read feed fault answers-to run-from run
 computed = (refl, (refl, (refl, (refl, (refl, (refl, (refl, (refl, (refl, (refl, (refl, (refl, (refl, (refl, (refl, (refl, (refl, (refl, (refl, (refl, (refl, (refl, tt))))))))))))))))))))))

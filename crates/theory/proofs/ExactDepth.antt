@@ -7,7 +7,7 @@ use native.Mathlib.Omega.{arith}
 use lib.Dec.{T, leb, ltb, eqb, leb→le, lt→ltb}
 use lib.Ieee.Fits.{and-l}
 use Rattle.theory.specs.Kind.{Op, True, False, Not, And, Or, Xor, Equals, BvBitOf, BvNeg, BvAdd, BvULt, BvSLt, kind}
-use Rattle.theory.specs.Term.{fold, Term, Terms, node, nil, cons, from-list, two}
+use Rattle.theory.specs.Term.{fold, Term, node, nil, cons, from-list, two}
 use Rattle.theory.specs.Sort.{guard, Sort, bool, bv, sort-of}
 use Rattle.theory.specs.Depth.{depth, deepest}
 use Rattle.theory.specs.Gates.{term-gates}

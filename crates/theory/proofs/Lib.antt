@@ -12,6 +12,7 @@ pub mod Indexed
 pub mod Loops
 pub mod Alethe
 pub mod Divider
+pub mod Division
 pub mod Shift
 pub mod NonNegative
 pub mod Form

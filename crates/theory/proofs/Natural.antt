@@ -2,7 +2,7 @@
 use mathlib.Core.Path.{_≡_, refl, ap, ap₂, _∙_}
 use mathlib.Core.List.{List, [], _∷_, map}
 use Rattle.theory.specs.Gates.{Gates}
-use Rattle.theory.specs.Circuit.{ripple-carry-adder, last-carry, negate, ult-from, bitblast-ult, slt-from, slt, zip-with, gather, equality, sum-bit, next-carry, less-step, sign-step}
+use Rattle.theory.specs.Circuit.{ripple-carry-adder, last-carry, carry-out, negate, ult-from, bitblast-ult, slt-from, slt, zip-with, gather, equality, sum-bit, next-carry, less-step, sign-step}
 
 pub record Hom {A B : Type 0} (G : Gates A) (H : Gates B) (h : A → B) : Type 0 where
   pub true-hom : h (G .true-gate) ≡ H .true-gate
@@ -41,6 +41,12 @@ module _ {A B : Type 0} {G : Gates A} {H : Gates B} {h : A → B} (M : Hom G H h
   last-carry-hom c (x ∷ []) ys = refl
   last-carry-hom c (x ∷ x′ ∷ xs) [] = refl
   last-carry-hom c (x ∷ x′ ∷ xs) (y ∷ ys) = rw (← carry-hom x y c) (last-carry-hom (next-carry G x y c) (x′ ∷ xs) ys)
+
+  pub carry-out-hom : (c : A) (xs ys : List A) → h (carry-out G c xs ys) ≡ carry-out H (h c) (map h xs) (map h ys)
+  unfolding carry-out
+  carry-out-hom c [] ys = refl
+  carry-out-hom c (x ∷ xs) [] = refl
+  carry-out-hom c (x ∷ xs) (y ∷ ys) = rw (← carry-hom x y c) (carry-out-hom (next-carry G x y c) xs ys)
 
   pub ult-from-hom : (r : A) (xs ys : List A) → h (ult-from G r xs ys) ≡ ult-from H (h r) (map h xs) (map h ys)
   unfolding ult-from

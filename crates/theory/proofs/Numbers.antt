@@ -14,7 +14,7 @@ use lib.ListN.{length, length-map}
 use lib.Signed.{ltZ}
 use Rattle.theory.specs.Value.{bit, to-number, bit-at, xor, all-true, signed}
 use Rattle.theory.specs.Gates.{Gates, bool-gates}
-use Rattle.theory.specs.Circuit.{ripple-carry-adder, negate, ult-from, bitblast-ult, slt-from, slt, zip-with, gather, equality, sum-bit, next-carry, less-step, sign-step}
+use Rattle.theory.specs.Circuit.{ripple-carry-adder, carry-out, negate, ult-from, bitblast-ult, slt-from, slt, zip-with, gather, equality, sum-bit, next-carry, less-step, sign-step}
 use Rattle.theory.proofs.Sound.{to-number-lt}
 use Rattle.theory.proofs.Basics.{T-same}
 
@@ -35,12 +35,6 @@ ltb-same a b c d f g =
     T-same (ltb a b) (ltb c d) (λ t. lt→ltb c d (f (ltb→lt a b t))) (λ t. lt→ltb a b (g (ltb→lt c d t)))
 
 -- ---- the adder
--- the carry out of the top bit
-unfoldable pub carry-out : {A : Type 0} → Gates A → A → List A → List A → A
-carry-out G c [] ys = c
-carry-out G c (x ∷ xs) [] = c
-carry-out G c (x ∷ xs) (y ∷ ys) = carry-out G (next-carry G x y c) xs ys
-
 full : (x y c : Bool) → bit (sum-bit bool-gates x y c) + 2 * bit (next-carry bool-gates x y c) ≡ bit x + bit y + bit c
 full true true true = refl
 full true true false = refl
@@ -73,12 +67,12 @@ adder-mod c {xs} {ys} p =
     (rw (adder-length bool-gates c p) at (to-number-lt (ripple-carry-adder bool-gates c xs ys))) (adder-sum c p)
 
 -- ---- negate
-not-sum : (xs : List Bool) → to-number (map not xs) + to-number xs + 1 ≡ 2 ^ length xs
+pub not-sum : (xs : List Bool) → to-number (map not xs) + to-number xs + 1 ≡ 2 ^ length xs
 not-sum [] = refl
 not-sum (true ∷ xs) = rw pow-succ' (omega (arith, not-sum xs))
 not-sum (false ∷ xs) = rw pow-succ' (omega (arith, not-sum xs))
 
-false-zero : (xs : List Bool) → to-number (map (λ (x : Bool). false) xs) ≡ 0
+pub false-zero : (xs : List Bool) → to-number (map (λ (x : Bool). false) xs) ≡ 0
 false-zero [] = refl
 false-zero (x ∷ xs) = omega (arith, false-zero xs)
 

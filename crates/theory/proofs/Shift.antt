@@ -1,25 +1,26 @@
--- The shifter: it respects the gates, and at Bool it is SMT-LIB's bvshl and bvlshr; rules 18 and 19 hold.
+-- The shifter: it respects the gates, and at Bool it is SMT-LIB's bvshl, bvlshr and, by the standard, bvashr; rules 18, 19 and 26 hold.
 use mathlib.Core.Path.{_≡_, refl, sym, ap, ap₂, _∙_, subst}
 use mathlib.Core.Bool.{Bool, true, false, cond}
 use mathlib.Core.List.{List, [], _∷_, _++_, map, append-assoc}
-use Prim.Native.Nat.{ℕ, zero, suc, _+_, _*_, _^_, _/_, _%_, _≤_, _<_}
+use Prim.Native.Nat.{ℕ, zero, suc, _+_, _-_, _*_, _^_, _/_, _%_, _≤_, _<_}
 use native.Mathlib.Omega.{arith}
-use native.Mathlib.Nat.{pow-suc, mul-assoc, mul-comm, mul-add, mul-one, mul-zero, add-zero, zero-add, one-mul, mod-eq-of-lt}
+use native.Mathlib.Nat.{sub-add-cancel, sub-self, add-mul-div-right, pow-suc, mul-assoc, mul-comm, mul-add, mul-one, mul-zero, add-zero, zero-add, one-mul, mod-eq-of-lt}
 use lib.ListN.{length, take, drop, replicate, getD, length-map, length-replicate, length-append, length-take, length-drop, replicate-append-replicate}
 use lib.Seq.{take-take, take-all, getD-drop, ext-getD}
 use lib.Dec.{T, ltb, leb, lt→ltb, ltb→lt}
+use lib.Pow.{pow-pos, pow-add}
 use borrow.Author.Tests.{leb-true}
-use Rattle.theory.specs.Kind.{BvShl, BvLShr, Const}
+use Rattle.theory.specs.Kind.{BvShl, BvLShr, BvAShr, Const}
 use Rattle.theory.specs.Term.{fold, Term, node, nil, two}
 use Rattle.theory.specs.Sort.{guard, Sort, bv, sort-width, width, sort-of}
-use Rattle.theory.specs.Value.{Assign, truth, number, bit, to-number, num2, shl-n, lshr-n, meaning, value}
+use Rattle.theory.specs.Value.{Assign, truth, number, bit, to-number, num2, shl-n, lshr-n, top-copies, ashr-n, meaning, value}
 use Rattle.theory.specs.Gates.{Gates, bool-gates, term-gates}
-use Rattle.theory.specs.Circuit.{bitblast-ult, clog2, clog2-from, shl-bits, shl-stage, shl-stages, shr-bits, shr-stage, shr-stages, bounded, stage-bits, shl, lshr}
+use Rattle.theory.specs.Circuit.{last, bitblast-ult, clog2, clog2-from, shl-bits, shl-stage, shl-stages, shr-bits, shr-stage, shr-stages, bounded, stage-bits, shl, lshr, ashr}
 use Rattle.theory.specs.Bits.{get-term-bits, size-bits, shifted}
 use Rattle.theory.proofs.Natural.{Hom, ult-hom}
 use Rattle.theory.proofs.Numbers.{pair, ult-lt}
 use Rattle.theory.proofs.Blast.{truth-hom, fold-hom, bits-of, bb-value}
-use Rattle.theory.proofs.Slices.{to-number-append, to-number-take, to-number-drop, map-append, map-take, map-drop, map-replicate}
+use Rattle.theory.proofs.Slices.{to-number-append, to-number-take, to-number-drop, map-append, map-take, map-drop, map-replicate, last-map, last-top, top-at, copies}
 use Rattle.theory.proofs.Basics.{T-true}
 
 -- ---- the gates
@@ -56,12 +57,12 @@ module _ {A B : Type 0} {G : Gates A} {H : Gates B} {h : A → B} (M : Hom G H h
       ∙ ap (λ (l : List B). shr-stages H (h fill) (suc s) (map h ys) l)
       (shr-bits-hom fill y ps (drop (2 ^ s) ps) ∙ ap (shr-bits H (h fill) (h y) (map h ps)) (map-drop h (2 ^ s) ps))
 
-  pub bounded-hom : (size ys ps : List A) → map h (bounded G size ys ps) ≡ bounded H (map h size) (map h ys) (map h ps)
-  bounded-hom size ys [] = refl
-  bounded-hom size ys (p ∷ ps) =
+  pub bounded-hom : (beyond : A) (size ys ps : List A) → map h (bounded G beyond size ys ps) ≡ bounded H (h beyond) (map h size) (map h ys) (map h ps)
+  bounded-hom beyond size ys [] = refl
+  bounded-hom beyond size ys (p ∷ ps) =
       ap₂ (λ (s : B) (t : List B). s ∷ t)
-      (M .ite-hom (bitblast-ult G ys size) p (G .false-gate) ∙ ap₂ (λ (c d : B). H .ite-gate c (h p) d) (ult-hom M ys size) (M .false-hom))
-      (bounded-hom size ys ps)
+      (M .ite-hom (bitblast-ult G ys size) p beyond ∙ ap (λ (c : B). H .ite-gate c (h p) (h beyond)) (ult-hom M ys size))
+      (bounded-hom beyond size ys ps)
 
   pub stage-bits-hom : (xs ys : List A) → map h (stage-bits G xs ys) ≡ stage-bits H (map h xs) (map h ys)
   stage-bits-hom xs ys = map-take h (clog2 (length xs)) ys ∙ ap (λ (k : ℕ). take (clog2 k) (map h ys)) (sym (length-map xs h))
@@ -69,16 +70,32 @@ module _ {A B : Type 0} {G : Gates A} {H : Gates B} {h : A → B} (M : Hom G H h
   pub shl-hom : (size xs ys : List A) → map h (shl G size xs ys) ≡ shl H (map h size) (map h xs) (map h ys)
   unfolding shl
   shl-hom size xs ys =
-      bounded-hom size ys (shl-stages G 0 (stage-bits G xs ys) xs)
-      ∙ ap (bounded H (map h size) (map h ys)) (shl-stages-hom 0 (stage-bits G xs ys) xs ∙ ap (λ (l : List B). shl-stages H 0 l (map h xs)) (stage-bits-hom xs ys))
+      bounded-hom (G .false-gate) size ys (shl-stages G 0 (stage-bits G xs ys) xs)
+      ∙ ap₂ (λ (b : B) (l : List B). bounded H b (map h size) (map h ys) l) (M .false-hom)
+      (shl-stages-hom 0 (stage-bits G xs ys) xs ∙ ap (λ (l : List B). shl-stages H 0 l (map h xs)) (stage-bits-hom xs ys))
 
   pub lshr-hom : (size xs ys : List A) → map h (lshr G size xs ys) ≡ lshr H (map h size) (map h xs) (map h ys)
   unfolding lshr
   lshr-hom size xs ys =
-      bounded-hom size ys (shr-stages G (G .false-gate) 0 (stage-bits G xs ys) xs)
-      ∙ ap (bounded H (map h size) (map h ys))
+      bounded-hom (G .false-gate) size ys (shr-stages G (G .false-gate) 0 (stage-bits G xs ys) xs)
+      ∙ ap₂ (λ (b : B) (l : List B). bounded H b (map h size) (map h ys) l) (M .false-hom)
       (shr-stages-hom (G .false-gate) 0 (stage-bits G xs ys) xs
       ∙ ap₂ (λ (f : B) (l : List B). shr-stages H f 0 l (map h xs)) (M .false-hom) (stage-bits-hom xs ys))
+
+  top-hom : (xs : List A) → h (last (G .false-gate) xs) ≡ last (H .false-gate) (map h xs)
+  top-hom xs = last-map h (G .false-gate) xs ∙ ap (λ (d : B). last d (map h xs)) (M .false-hom)
+
+  pub cond-hom : (b : Bool) {x y : A} {u v : B} → h x ≡ u → h y ≡ v → h (cond b x y) ≡ cond b u v
+  cond-hom true p q = p
+  cond-hom false p q = q
+
+  pub ashr-hom : (standard : Bool) (size xs ys : List A) → map h (ashr G standard size xs ys) ≡ ashr H standard (map h size) (map h xs) (map h ys)
+  unfolding ashr
+  ashr-hom standard size xs ys =
+      bounded-hom (cond standard (last (G .false-gate) xs) (G .false-gate)) size ys (shr-stages G (last (G .false-gate) xs) 0 (stage-bits G xs ys) xs)
+      ∙ ap₂ (λ (b : B) (l : List B). bounded H b (map h size) (map h ys) l) (cond-hom standard (top-hom xs) (M .false-hom))
+      (shr-stages-hom (last (G .false-gate) xs) 0 (stage-bits G xs ys) xs
+      ∙ ap₂ (λ (f : B) (l : List B). shr-stages H f 0 l (map h xs)) (top-hom xs) (stage-bits-hom xs ys))
 
 -- ---- lengths
 module _ {A : Type 0} (G : Gates A) where
@@ -115,6 +132,11 @@ module _ {A : Type 0} (G : Gates A) where
   unfolding lshr
   length-lshr size xs ys =
       length-map (shr-stages G (G .false-gate) 0 (stage-bits G xs ys) xs) _ ∙ length-shr-stages (G .false-gate) 0 (stage-bits G xs ys) xs
+
+  pub length-ashr : (standard : Bool) (size xs ys : List A) → length (ashr G standard size xs ys) ≡ length xs
+  unfolding ashr
+  length-ashr standard size xs ys =
+      length-map (shr-stages G (last (G .false-gate) xs) 0 (stage-bits G xs ys) xs) _ ∙ length-shr-stages (last (G .false-gate) xs) 0 (stage-bits G xs ys) xs
 
 -- ---- the logarithm
 clog2-from-above : (fuel k n : ℕ) → n ≤ 2 ^ (fuel + k) → n ≤ 2 ^ clog2-from fuel k n
@@ -235,14 +257,48 @@ shr-stages-value fill s ys l =
 down-zeros : (k : ℕ) (l : List Bool) → to-number (down false k l) ≡ to-number l / 2 ^ k
 down-zeros k l = rw (to-number-drop, to-number-append, to-number-zeros, mul-zero, add-zero)
 
--- ---- the whole circuits
-ite-on : (l : List Bool) → map (λ (p : Bool). cond true p false) l ≡ l
-ite-on [] = refl
-ite-on (x ∷ l) = ap (λ (m : List Bool). x ∷ m) (ite-on l)
+-- copies of the top bit, above and alone
+ones-up : (a b : ℕ) → 0 < b → a * b * (b - 1) ≡ (a * b - a) * b
+ones-up a zero h = absurd (omega arith)
+ones-up a (suc c) h =
+    let e : a * suc c - a ≡ a * c = omega arith in
+    let f : suc c - 1 ≡ c = omega arith in
+    rw (e, f) (mul-assoc a (suc c) c ∙ ap (λ (z : ℕ). a * z) (mul-comm (suc c) c) ∙ sym (mul-assoc a c (suc c)))
 
-ite-off : (l : List Bool) → to-number (map (λ (p : Bool). cond false p false) l) ≡ 0
-ite-off [] = refl
-ite-off (x ∷ l) = omega (arith, ite-off l)
+tops : (n k x : ℕ) (b : Bool) → k ≤ n → (x + 2 ^ n * cond b (2 ^ k - 1) 0) / 2 ^ k ≡ x / 2 ^ k + cond b (2 ^ n - 2 ^ (n - k)) 0
+tops n k x false h = ap (λ (z : ℕ). z / 2 ^ k) (no-more (2 ^ n)) ∙ sym (add-zero (x / 2 ^ k))
+  where
+    no-more : (z : ℕ) → x + z * 0 ≡ x
+    no-more z = omega arith
+tops n k x true h =
+    let m : 2 ^ n ≡ 2 ^ (n - k) * 2 ^ k = ap (λ (e : ℕ). 2 ^ e) (sym (sub-add-cancel h)) ∙ pow-add 2 (n - k) k in
+    let e : 2 ^ n * (2 ^ k - 1) ≡ (2 ^ n - 2 ^ (n - k)) * 2 ^ k
+    = ap (λ (z : ℕ). z * (2 ^ k - 1)) m ∙ ones-up (2 ^ (n - k)) (2 ^ k) (pow-pos k) ∙ ap (λ (z : ℕ). (z - 2 ^ (n - k)) * 2 ^ k) (sym m) in
+    ap (λ (z : ℕ). (x + z) / 2 ^ k) e ∙ add-mul-div-right x (2 ^ n - 2 ^ (n - k)) (pow-pos k)
+
+down-tops : (k : ℕ) (l : List Bool) → k ≤ length l → to-number (down (last false l) k l) ≡ to-number l / 2 ^ k + top-copies (length l) k (to-number l)
+unfolding top-copies
+down-tops k l h =
+    to-number-drop k (l ++ replicate k (last false l))
+    ∙ ap (λ (z : ℕ). z / 2 ^ k) (to-number-append l (replicate k (last false l)) ∙ ap (λ (z : ℕ). to-number l + 2 ^ length l * z) (copies k (last false l)))
+    ∙ tops (length l) k (to-number l) (last false l) h
+    ∙ ap (λ (b : Bool). to-number l / 2 ^ k + cond b (2 ^ length l - 2 ^ (length l - k)) 0) (last-top l ∙ sym (top-at l))
+
+all-tops : (l : List Bool) → to-number (replicate (length l) (last false l)) ≡ top-copies (length l) (length l) (to-number l)
+unfolding top-copies
+all-tops l =
+    copies (length l) (last false l)
+    ∙ ap (λ (z : ℕ). cond (last false l) (2 ^ length l - 2 ^ z) 0) (sym (sub-self (length l)))
+    ∙ ap (λ (b : Bool). cond b (2 ^ length l - 2 ^ (length l - length l)) 0) (last-top l ∙ sym (top-at l))
+
+-- ---- the whole circuits
+ite-on : (d : Bool) (l : List Bool) → map (λ (p : Bool). cond true p d) l ≡ l
+ite-on d [] = refl
+ite-on d (x ∷ l) = ap (λ (m : List Bool). x ∷ m) (ite-on d l)
+
+ite-off : (d : Bool) (l : List Bool) → map (λ (p : Bool). cond false p d) l ≡ replicate (length l) d
+ite-off d [] = refl
+ite-off d (x ∷ l) = ap (λ (m : List Bool). d ∷ m) (ite-off d l)
 
 -- the bits of y that the stages read make up y, where y is below the length
 low-bits : (n : ℕ) (ys : List Bool) → to-number ys < n → to-number (take (clog2 n) ys) ≡ to-number ys
@@ -260,12 +316,12 @@ module _ (size xs ys : List Bool) (ey : length ys ≡ length xs) (es : length si
           → to-number (map (λ (p : Bool). cond b p false) (shl-stages bool-gates 0 (stage-bits bool-gates xs ys) xs)) ≡ cond b (to-number xs * 2 ^ to-number ys % 2 ^ length xs) 0
       go true e =
           let h : to-number ys < length xs = ltb→lt (to-number ys) (length xs) (subst T (sym e) tt) in
-          ap to-number (ite-on (shl-stages bool-gates 0 (stage-bits bool-gates xs ys) xs)
+          ap to-number (ite-on false (shl-stages bool-gates 0 (stage-bits bool-gates xs ys) xs)
           ∙ shl-stages-value (length xs) 0 (stage-bits bool-gates xs ys) xs refl
           ∙ ap (λ (k : ℕ). up (length xs) k xs) (one-mul (to-number (stage-bits bool-gates xs ys)) ∙ low-bits (length xs) ys h))
           ∙ to-number-take (length xs) (replicate (to-number ys) false ++ xs)
           ∙ ap (λ (z : ℕ). z % 2 ^ length xs) (to-number-shifted (to-number ys) xs)
-      go false e = ite-off (shl-stages bool-gates 0 (stage-bits bool-gates xs ys) xs)
+      go false e = ap to-number (ite-off false (shl-stages bool-gates 0 (stage-bits bool-gates xs ys) xs)) ∙ to-number-zeros (length (shl-stages bool-gates 0 (stage-bits bool-gates xs ys) xs))
 
   pub lshr-value : to-number (lshr bool-gates size xs ys) ≡ lshr-n (length xs) (to-number xs) (to-number ys)
   unfolding lshr lshr-n
@@ -275,11 +331,30 @@ module _ (size xs ys : List Bool) (ey : length ys ≡ length xs) (es : length si
           → to-number (map (λ (p : Bool). cond b p false) (shr-stages bool-gates false 0 (stage-bits bool-gates xs ys) xs)) ≡ cond b (to-number xs / 2 ^ to-number ys) 0
       go true e =
           let h : to-number ys < length xs = ltb→lt (to-number ys) (length xs) (subst T (sym e) tt) in
-          ap to-number (ite-on (shr-stages bool-gates false 0 (stage-bits bool-gates xs ys) xs)
+          ap to-number (ite-on false (shr-stages bool-gates false 0 (stage-bits bool-gates xs ys) xs)
           ∙ shr-stages-value false 0 (stage-bits bool-gates xs ys) xs
           ∙ ap (λ (k : ℕ). down false k xs) (one-mul (to-number (stage-bits bool-gates xs ys)) ∙ low-bits (length xs) ys h))
           ∙ down-zeros (to-number ys) xs
-      go false e = ite-off (shr-stages bool-gates false 0 (stage-bits bool-gates xs ys) xs)
+      go false e = ap to-number (ite-off false (shr-stages bool-gates false 0 (stage-bits bool-gates xs ys) xs)) ∙ to-number-zeros (length (shr-stages bool-gates false 0 (stage-bits bool-gates xs ys) xs))
+
+  -- the standard's: the top bit comes in, and is every bit beyond the width
+  pub ashr-value : to-number (ashr bool-gates true size xs ys) ≡ ashr-n (length xs) (to-number xs) (to-number ys)
+  unfolding ashr ashr-n
+  ashr-value = rw test (go (ltb (to-number ys) (length xs)) refl)
+    where
+      go : (b : Bool) → ltb (to-number ys) (length xs) ≡ b
+          → to-number (map (λ (p : Bool). cond b p (last false xs)) (shr-stages bool-gates (last false xs) 0 (stage-bits bool-gates xs ys) xs))
+          ≡ cond b (to-number xs / 2 ^ to-number ys + top-copies (length xs) (to-number ys) (to-number xs)) (top-copies (length xs) (length xs) (to-number xs))
+      go true e =
+          let h : to-number ys < length xs = ltb→lt (to-number ys) (length xs) (subst T (sym e) tt) in
+          ap to-number (ite-on (last false xs) (shr-stages bool-gates (last false xs) 0 (stage-bits bool-gates xs ys) xs)
+          ∙ shr-stages-value (last false xs) 0 (stage-bits bool-gates xs ys) xs
+          ∙ ap (λ (k : ℕ). down (last false xs) k xs) (one-mul (to-number (stage-bits bool-gates xs ys)) ∙ low-bits (length xs) ys h))
+          ∙ down-tops (to-number ys) xs (omega arith)
+      go false e =
+          ap to-number (ite-off (last false xs) (shr-stages bool-gates (last false xs) 0 (stage-bits bool-gates xs ys) xs)
+          ∙ ap (λ (k : ℕ). replicate k (last false xs)) (length-shr-stages bool-gates (last false xs) 0 (stage-bits bool-gates xs ys) xs))
+          ∙ all-tops xs
 
 -- ---- rules 18 and 19
 const-value : (ρ : Assign) (n x : ℕ) → value ρ (node (Const n x) nil) ≡ number n x
@@ -339,3 +414,13 @@ pub lshr-holds : (ρ : Assign) (x y : Term) (n : ℕ) → sort-of x ≡ bv n →
     → value ρ (shifted (lshr term-gates) x y) ≡ value ρ (two BvLShr x y)
 unfolding fold meaning
 lshr-holds ρ x y n sx sy w = shifted-holds ρ x y n sx sy w (lshr term-gates) (lshr bool-gates) (lshr-reads ρ) (length-lshr bool-gates) lshr-n lshr-value
+
+ashr-reads : (ρ : Assign) (size xs ys : List Term) (ss cs bs : List Bool) → map (value ρ) size ≡ map truth ss → map (value ρ) xs ≡ map truth cs → map (value ρ) ys ≡ map truth bs
+    → map (value ρ) (ashr term-gates true size xs ys) ≡ map truth (ashr bool-gates true ss cs bs)
+ashr-reads ρ size xs ys ss cs bs o p q =
+    ashr-hom (fold-hom (meaning ρ)) true size xs ys ∙ rw (o, p, q) (sym (ashr-hom (truth-hom ρ) true ss cs bs))
+
+pub ashr-standard-holds : (ρ : Assign) (x y : Term) (n : ℕ) → sort-of x ≡ bv n → sort-of y ≡ bv n → T (width n)
+    → value ρ (shifted (ashr term-gates true) x y) ≡ value ρ (two BvAShr x y)
+unfolding fold meaning
+ashr-standard-holds ρ x y n sx sy w = shifted-holds ρ x y n sx sy w (ashr term-gates true) (ashr bool-gates true) (ashr-reads ρ) (length-ashr bool-gates true) ashr-n ashr-value

@@ -168,7 +168,7 @@ pub map-replicate : {A B : Type 0} (f : A → B) (k : ℕ) (x : A) → map f (re
 map-replicate f zero x = refl
 map-replicate {B = B} f (suc k) x = ap (λ (ys : List B). f x ∷ ys) (map-replicate f k x)
 
-copies : (k : ℕ) (b : Bool) → to-number (replicate k b) ≡ cond b (2 ^ k - 1) 0
+pub copies : (k : ℕ) (b : Bool) → to-number (replicate k b) ≡ cond b (2 ^ k - 1) 0
 copies zero true = refl
 copies zero false = refl
 copies (suc k) true = rw pow-succ' (omega (arith, copies k true, pow-pos k))

@@ -8,7 +8,7 @@ use native.Mathlib.Omega.{arith}
 use lib.Dec.{T, leb, ltb, eqb, eqb→eq, leb→le, ltb→lt}
 use lib.Ieee.Fits.{and-l, and-r}
 use lib.ListN.{length, length-map}
-use Rattle.theory.specs.Kind.{Op, And, Or, Xor, Equals, Const, BvNot, BvNeg, BvAnd, BvOr, BvXor, BvAdd, BvMul, BvXNor, BvComp, BvULt, BvSLt, BvShl, BvLShr, BvAShr, BvConcat, BvExtract, SignExtend, many, exactly, takes}
+use Rattle.theory.specs.Kind.{Op, And, Or, Xor, Equals, Const, BvNot, BvNeg, BvAnd, BvOr, BvXor, BvAdd, BvMul, BvXNor, BvComp, BvULt, BvSLt, BvShl, BvLShr, BvAShr, BvUDiv, BvURem, BvConcat, BvExtract, SignExtend, many, exactly, takes}
 use Rattle.theory.specs.Term.{fold, Term, Terms, node, nil, cons, to-list, from-list, same-term, two}
 use Rattle.theory.specs.Sort.{guard, Sort, bool, bv, same-sort, is-bv-sort, good, sort-width, sum-widths, first, width, alike, sort-op, sort-of, sorts-of}
 use Rattle.theory.specs.Value.{Assign, to-number, value}
@@ -16,7 +16,7 @@ use Rattle.theory.specs.Gates.{term-gates}
 use Rattle.theory.specs.Circuit.{negate, bitblast-ult, slt, equality, shl, lshr, ashr, udiv, urem}
 use Rattle.theory.specs.Bits.{get-term-bits, bb, fold-terms, zipped, add-bits, product, extract-bits, concat-bits, extend-bits, shifted, divided}
 use Rattle.theory.specs.Verdict.{Verdict, held, form-only, not-bit-vector, other-value, terms-differ, not-constant, bit-not-literal}
-use Rattle.theory.specs.RuleTable.{Rule, by-value, by-var, by-and, by-or, by-xor, by-xnor, by-not, by-ult, by-slt, by-add, by-mult, by-neg, by-equality, by-comp, by-extract, by-concat, by-sign-extend, by-shl, by-lshr, by-ashr, by-udiv, by-urem, by-bitwise-slicing}
+use Rattle.theory.specs.RuleTable.{Rule, by-value, by-var, by-and, by-or, by-xor, by-xnor, by-not, by-ult, by-slt, by-add, by-mult, by-neg, by-equality, by-comp, by-extract, by-concat, by-sign-extend, by-shl, by-lshr, by-ashr, by-udiv, by-urem, by-bitwise-slicing, by-udiv-standard, by-urem-standard, by-ashr-standard}
 use Rattle.theory.specs.Rule.{nth, args-of, index-of, form, unary, binary, compare, on-one, on-two, on-many, literal-bits, value-bits, constant, value-rule, of-bits, ends-in-false, ashr-rule, slices-verdict, slicing-rule, on-sides, verdict}
 use Rattle.theory.proofs.Sound.{same-sort-eq}
 use Rattle.theory.proofs.Blast.{guard-yes, to-from-list, folds-from-list}
@@ -25,7 +25,8 @@ use Rattle.theory.proofs.Sorts.{is-bv, sorts-sized, sized}
 use Rattle.theory.proofs.Slices.{var-holds, literal, value-holds, extract-holds, concat-holds, extend-holds, extend-zero}
 use Rattle.theory.proofs.Same.{decode, same-eq}
 use Rattle.theory.proofs.Multiplier.{mult-holds}
-use Rattle.theory.proofs.Shift.{shl-holds, lshr-holds}
+use Rattle.theory.proofs.Shift.{shl-holds, lshr-holds, ashr-standard-holds}
+use Rattle.theory.proofs.Division.{udiv-holds, urem-holds}
 use Rattle.theory.proofs.NonNegative.{ashr-holds}
 use Rattle.theory.proofs.Form.{not-held, then-held, form-held, same-of, args-held, unary-held, binary-held, many-held, literal-bits-are}
 use Rattle.theory.proofs.Slicing.{slicing-holds}
@@ -143,6 +144,18 @@ lshr-wide : (x y : Term) → T (good (sort-of (two BvLShr x y))) → (sort-of x 
 unfolding fold
 lshr-wide x y h = two-wide x y _ h
 
+ashr-wide : (x y : Term) → T (good (sort-of (two BvAShr x y))) → (sort-of x ≡ bv (sort-width (sort-of x))) × (sort-of y ≡ bv (sort-width (sort-of x)))
+unfolding fold
+ashr-wide x y h = two-wide x y _ h
+
+udiv-wide : (x y : Term) → T (good (sort-of (two BvUDiv x y))) → (sort-of x ≡ bv (sort-width (sort-of x))) × (sort-of y ≡ bv (sort-width (sort-of x)))
+unfolding fold
+udiv-wide x y h = two-wide x y _ h
+
+urem-wide : (x y : Term) → T (good (sort-of (two BvURem x y))) → (sort-of x ≡ bv (sort-width (sort-of x))) × (sort-of y ≡ bv (sort-width (sort-of x)))
+unfolding fold
+urem-wide x y h = two-wide x y _ h
+
 not-wide : (x : Term) → T (good (sort-of (node BvNot (cons x nil)))) → sort-of x ≡ bv (sort-width (sort-of x))
 unfolding fold
 not-wide x h = one-wide x _ h
@@ -176,6 +189,9 @@ shl-right ρ x y n sx sy = shl-holds ρ x y n sx sy (width-of-sort x n sx)
 
 lshr-right : (ρ : Assign) (x y : Term) (n : ℕ) → sort-of x ≡ bv n → sort-of y ≡ bv n → value ρ (shifted (lshr term-gates) x y) ≡ value ρ (two BvLShr x y)
 lshr-right ρ x y n sx sy = lshr-holds ρ x y n sx sy (width-of-sort x n sx)
+
+ashr-right : (ρ : Assign) (x y : Term) (n : ℕ) → sort-of x ≡ bv n → sort-of y ≡ bv n → value ρ (shifted (ashr term-gates true) x y) ≡ value ρ (two BvAShr x y)
+ashr-right ρ x y n sx sy = ashr-standard-holds ρ x y n sx sy (width-of-sort x n sx)
 
 pub and-pair : (a c : Term) → T (good (sort-of (two BvAnd a c)))
     → (sort-of a ≡ bv (sort-width (sort-of a))) × (sort-of c ≡ bv (sort-width (sort-of a))) × (sort-of (two BvAnd a c) ≡ bv (sort-width (sort-of a)))
@@ -311,20 +327,16 @@ extend-held l r g e ρ =
     ∙ ap (value ρ) (same-of (cond (eqb (index-of 0 l) 0) x (bb (extend-bits (index-of 0 l) (get-term-bits x)))) r (u .after))
 
 -- ---- rule 20
-ashr-wide : (x y : Term) → T (good (sort-of (two BvAShr x y))) → (sort-of x ≡ bv (sort-width (sort-of x))) × (sort-of y ≡ bv (sort-width (sort-of x)))
-unfolding fold
-ashr-wide x y h = two-wide x y _ h
-
 ashr-held : (l r : Term) → T (good (sort-of l)) → ashr-rule l r ≡ held → Holds l r
 ashr-held l r g e ρ =
-    let u = binary-held 53 l (λ x y. compare (cond (ends-in-false x) held form-only) (shifted (ashr term-gates) x y) r) e in
+    let u = binary-held 53 l (λ x y. compare (cond (ends-in-false x) held form-only) (shifted (ashr term-gates false) x y) r) e in
     let x = u .left in
     let y = u .right in
-    let c = then-held (same-term (shifted (ashr term-gates) x y) r) terms-differ (cond (ends-in-false x) held form-only) tt (u .after) in
+    let c = then-held (same-term (shifted (ashr term-gates false) x y) r) terms-differ (cond (ends-in-false x) held form-only) tt (u .after) in
     let f = then-held (ends-in-false x) form-only held tt (c .1) .0 in
     let w = ashr-wide x y (subst (λ (t : Term). T (good (sort-of t))) (u .is) g) in
     ap (value ρ) (u .is) ∙ sym (ashr-holds ρ x y (sort-width (sort-of x)) (w .0) (w .1) (width-of-sort x _ (w .0)) f)
-    ∙ ap (value ρ) (same-eq (shifted (ashr term-gates) x y) r (c .0))
+    ∙ ap (value ρ) (same-eq (shifted (ashr term-gates false) x y) r (c .0))
 
 -- ---- rule 23
 slicing-held : (l r : Term) → T (good (sort-of l)) → sort-of l ≡ sort-of r → slicing-rule l r ≡ held → Holds l r
@@ -365,9 +377,12 @@ sides-hold by-sign-extend l r s e = extend-held l r (equal-sorts l r s .0) e
 sides-hold by-shl l r s e = two-rule 51 BvShl (λ is. refl) (shifted (shl term-gates)) shl-wide shl-right l r (equal-sorts l r s .0) e
 sides-hold by-lshr l r s e = two-rule 52 BvLShr (λ is. refl) (shifted (lshr term-gates)) lshr-wide lshr-right l r (equal-sorts l r s .0) e
 sides-hold by-ashr l r s e = ashr-held l r (equal-sorts l r s .0) e
-sides-hold by-udiv l r s e = absurd (never 54 (divided (udiv term-gates)) l r e)
-sides-hold by-urem l r s e = absurd (never 55 (divided (urem term-gates)) l r e)
+sides-hold by-udiv l r s e = absurd (never 54 (divided (udiv term-gates false)) l r e)
+sides-hold by-urem l r s e = absurd (never 55 (divided (urem term-gates false)) l r e)
 sides-hold by-bitwise-slicing l r s e = slicing-held l r (equal-sorts l r s .0) (equal-sorts l r s .1) e
+sides-hold by-udiv-standard l r s e = two-rule 54 BvUDiv (λ is. refl) (divided (udiv term-gates true)) udiv-wide udiv-holds l r (equal-sorts l r s .0) e
+sides-hold by-urem-standard l r s e = two-rule 55 BvURem (λ is. refl) (divided (urem term-gates true)) urem-wide urem-holds l r (equal-sorts l r s .0) e
+sides-hold by-ashr-standard l r s e = two-rule 53 BvAShr (λ is. refl) (shifted (ashr term-gates true)) ashr-wide ashr-right l r (equal-sorts l r s .0) e
 
 pub verdict-holds : (rule : Rule) (t : Term) → T (good (sort-of t)) → verdict rule t ≡ held
     → (l : Term) × (r : Term) × (t ≡ two Equals l r) × ((ρ : Assign) → value ρ l ≡ value ρ r)

@@ -68,7 +68,7 @@ bytes-length (a ∷ rest) = omega (arith, bytes-length rest)
 -- ---- the numbers of an answer are small
 rule-small : (n : ℕ) (rule : Rule) → rule-at n ≡ some rule → n < 65536
 rule-small zero rule e = absurd (none-some rule e)
-rule-small (suc k) rule e = let l : k < 23 = getElem-lt rules k rule e in omega arith
+rule-small (suc k) rule e = let l : k < length rules = getElem-lt rules k rule e in omega arith
 
 element-below : (b : ℕ) (ks : List ℕ) → T (all-below b ks) → (c : ℕ) → T (element c ks) → c < b
 element-below b [] h c t = absurd t

@@ -1,5 +1,5 @@
 -- The circuits of bitvectors.rs, each once, over any gates. A bit-vector is a list of wires, bit 0 first; the lists of one circuit have one length.
-use mathlib.Core.Bool.{Bool, true, false, _&&_}
+use mathlib.Core.Bool.{Bool, true, false, _&&_, cond}
 use mathlib.Core.List.{List, [], _∷_, _++_, map}
 use Prim.Native.Nat.{ℕ, zero, suc, _^_}
 use lib.ListN.{length, take, drop, replicate}
@@ -55,6 +55,12 @@ module _ {A : Type 0} (G : Gates A) where
   last-carry c (x ∷ []) ys = c
   last-carry c (x ∷ x′ ∷ xs) [] = c
   last-carry c (x ∷ x′ ∷ xs) (y ∷ ys) = last-carry (next-carry x y c) (x′ ∷ xs) ys
+
+  -- the carry out of the top bit
+  unfoldable pub carry-out : A → List A → List A → A
+  carry-out c [] ys = c
+  carry-out c (x ∷ xs) [] = c
+  carry-out c (x ∷ xs) (y ∷ ys) = carry-out (next-carry x y c) xs ys
 
   -- neg: the sum of the bits inverted and of `false`, with a carry in
   abbrev pub negate : List A → List A
@@ -154,9 +160,9 @@ module _ {A : Type 0} (G : Gates A) where
   shr-stages fill s [] ps = ps
   shr-stages fill s (y ∷ ys) ps = shr-stages fill (suc s) ys (shr-stage fill s y ps)
 
-  -- last: every bit is false unless y is below the width; `size` are the bits of the width as a constant of that width
-  abbrev pub bounded : List A → List A → List A → List A
-  bounded size ys = map (λ p. G .ite-gate (bitblast-ult ys size) p (G .false-gate))
+  -- last: every bit is `beyond` unless y is below the width; `size` are the bits of the width as a constant of that width
+  abbrev pub bounded : A → List A → List A → List A → List A
+  bounded beyond size ys = map (λ p. G .ite-gate (bitblast-ult ys size) p beyond)
 
   -- the bits of y that the stages read
   abbrev pub stage-bits : List A → List A → List A
@@ -164,17 +170,19 @@ module _ {A : Type 0} (G : Gates A) where
 
   -- shift left
   unfoldable pub shl : List A → List A → List A → List A
-  shl size xs ys = bounded size ys (shl-stages 0 (stage-bits xs ys) xs)
+  shl size xs ys = bounded (G .false-gate) size ys (shl-stages 0 (stage-bits xs ys) xs)
 
   -- shift right, with false coming in
   unfoldable pub lshr : List A → List A → List A → List A
-  lshr size xs ys = bounded size ys (shr-stages (G .false-gate) 0 (stage-bits xs ys) xs)
+  lshr size xs ys = bounded (G .false-gate) size ys (shr-stages (G .false-gate) 0 (stage-bits xs ys) xs)
 
-  -- shift right, with the top bit coming in; all false where y is not below the width, which is not the standard's
-  unfoldable pub ashr : List A → List A → List A → List A
-  ashr size xs ys = bounded size ys (shr-stages (last (G .false-gate) xs) 0 (stage-bits xs ys) xs)
+  -- shift right, with the top bit coming in. Where y is not below the width Rust has all false; the standard has copies of the top bit there too
+  unfoldable pub ashr : Bool → List A → List A → List A → List A
+  ashr standard size xs ys =
+      let top = last (G .false-gate) xs in
+      bounded (cond standard top (G .false-gate)) size ys (shr-stages top 0 (stage-bits xs ys) xs)
 
-  -- ---- bitblast_udiv_urem_rec, as Rust has it
+  -- ---- bitblast_udiv_urem_rec, as Rust has it; and with two changes, where `standard`, by which it is the standard's division
   -- as many bits, all false
   abbrev pub falses : List A → List A
   falses = map (λ (x : A). G .false-gate)
@@ -188,20 +196,24 @@ module _ {A : Type 0} (G : Gates A) where
   next-remainder x0 r =
       ripple-carry-adder (G .ite-gate (G .eq-gate x0 (G .true-gate)) (G .true-gate) (G .false-gate)) (G .false-gate ∷ drop-top r) (falses (x0 ∷ drop-top r))
 
-  -- no carry into the top bit of x - y
-  abbrev pub no-carry : List A → List A → A
-  no-carry xs ys = G .not-gate (last-carry (G .true-gate) xs (map (G .not-gate) ys))
+  module _ (standard : Bool) where
+    -- x - y has no carry, by which x is below y: Rust takes the carry into the top bit, the standard's is the one out of it
+    abbrev pub no-carry : List A → List A → A
+    no-carry xs ys =
+        G .not-gate (cond standard (carry-out (G .true-gate) xs (map (G .not-gate) ys)) (last-carry (G .true-gate) xs (map (G .not-gate) ys)))
 
-  -- one step: from the quotient q and the remainder r of x shifted right
-  unfoldable pub divide-step : A → List A → List A → List A × List A → List A × List A
-  divide-step x0 xs ys qr =
-      let r = next-remainder x0 (qr .1) in
-      let sign = no-carry r ys in
-      let below = no-carry (x0 ∷ xs) ys in
-      let q = G .ite-gate sign (G .false-gate) (G .true-gate) ∷ drop-top (qr .0) in (
-        map (λ b. G .ite-gate below (G .false-gate) b) q,
-        choose below (x0 ∷ xs) (map (λ b. G .ite-gate sign b (G .true-gate)) r),
-      )
+    -- the remainder where it is not below y: Rust has every bit true, the standard has the bits of the difference
+    abbrev pub reduced : List A → List A → List A
+    reduced r ys = cond standard (ripple-carry-adder (G .true-gate) r (map (G .not-gate) ys)) (map (λ (b : A). G .true-gate) r)
+
+    -- one step: from the quotient q and the remainder r of x shifted right
+    unfoldable pub divide-step : A → List A → List A → List A × List A → List A × List A
+    divide-step x0 xs ys qr =
+        let r = next-remainder x0 (qr .1) in
+        let sign = no-carry r ys in
+        let below = no-carry (x0 ∷ xs) ys in
+        let q = G .ite-gate sign (G .false-gate) (G .true-gate) ∷ drop-top (qr .0) in
+        (map (λ b. G .ite-gate below (G .false-gate) b) q, choose below (x0 ∷ xs) (choose sign r (reduced r ys)))
 
   -- every bit of y is false
   abbrev pub is-zero : List A → A
@@ -214,12 +226,13 @@ module _ {A : Type 0} (G : Gates A) where
     all-false [] = true
     all-false (x ∷ xs) = literally-false x && all-false xs
 
+  module _ (standard : Bool) (literally-false : A → Bool) where
     -- the quotient and the remainder; n bits are left
     unfoldable pub bitblast-udiv-urem-rec : ℕ → List A → List A → List A × List A
     bitblast-udiv-urem-rec zero xs ys = (falses xs, falses xs)
     bitblast-udiv-urem-rec (suc n) [] ys = ([], [])
     bitblast-udiv-urem-rec (suc n) (x ∷ xs) ys =
-        elim (all-false (x ∷ xs)) [ true ↦ (falses (x ∷ xs), falses (x ∷ xs)) | false ↦ divide-step x xs ys (bitblast-udiv-urem-rec n (xs ++ (G .false-gate ∷ [])) ys) ]
+        elim (all-false literally-false (x ∷ xs)) [ true ↦ (falses (x ∷ xs), falses (x ∷ xs)) | false ↦ divide-step standard x xs ys (bitblast-udiv-urem-rec n (xs ++ (G .false-gate ∷ [])) ys) ]
 
     -- bitblast_udiv_urem: all true, and x, where y is zero
     unfoldable pub udiv : List A → List A → List A

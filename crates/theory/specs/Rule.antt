@@ -1,4 +1,4 @@
--- The 23 rules of bitvectors.rs: from the literal's tree to the verdict.
+-- The 23 rules of bitvectors.rs, and three by the standard: from the literal's tree to the verdict.
 use mathlib.Core.Bool.{Bool, true, false, _&&_, not, cond}
 use mathlib.Core.List.{List, [], _∷_, map}
 use mathlib.Core.Option.{Option, none, some}
@@ -14,7 +14,7 @@ use Rattle.theory.specs.Gates.{term-gates}
 use Rattle.theory.specs.Circuit.{last, negate, bitblast-ult, slt, equality, shl, lshr, ashr, udiv, urem}
 use Rattle.theory.specs.Bits.{get-term-bits, bb, fold-terms, zipped, add-bits, product, extract-bits, concat-bits, extend-bits, shifted, literally-false, divided}
 use Rattle.theory.specs.Verdict.{Verdict, held, form-only, wrong-form, not-bit-vector, not-constant, bit-not-literal, other-value, terms-differ, index-not-next}
-use Rattle.theory.specs.RuleTable.{Rule, by-value, by-var, by-and, by-or, by-xor, by-xnor, by-not, by-ult, by-slt, by-add, by-mult, by-neg, by-equality, by-comp, by-extract, by-concat, by-sign-extend, by-shl, by-lshr, by-ashr, by-udiv, by-urem, by-bitwise-slicing}
+use Rattle.theory.specs.RuleTable.{Rule, by-value, by-var, by-and, by-or, by-xor, by-xnor, by-not, by-ult, by-slt, by-add, by-mult, by-neg, by-equality, by-comp, by-extract, by-concat, by-sign-extend, by-shl, by-lshr, by-ashr, by-udiv, by-urem, by-bitwise-slicing, by-udiv-standard, by-urem-standard, by-ashr-standard}
 
 -- the kinds with numbers in them: constants
 abbrev pub constant-kind : ℕ
@@ -119,7 +119,7 @@ ends-in-false (node o ts) = eqb (kind o) (kind BvBbTerm) && literally-false (las
 
 -- held for such an x, form only for any other
 abbrev pub ashr-rule : Term → Term → Verdict
-ashr-rule l r = binary (kind BvAShr) l (λ x y. compare (cond (ends-in-false x) held form-only) (shifted (ashr term-gates) x y) r)
+ashr-rule l r = binary (kind BvAShr) l (λ x y. compare (cond (ends-in-false x) held form-only) (shifted (ashr term-gates false) x y) r)
 
 -- ---- rule 23: (= (bvand a c) (concat ..)), slice by slice
 -- the two parts of a slice: ((_ extract i j) a) and ((_ extract i j) c), with i the next index from the top
@@ -171,9 +171,12 @@ on-sides by-sign-extend l r =
 on-sides by-shl l r = on-two held (kind BvShl) (shifted (shl term-gates)) l r
 on-sides by-lshr l r = on-two held (kind BvLShr) (shifted (lshr term-gates)) l r
 on-sides by-ashr l r = ashr-rule l r
-on-sides by-udiv l r = on-two form-only (kind BvUDiv) (divided (udiv term-gates)) l r
-on-sides by-urem l r = on-two form-only (kind BvURem) (divided (urem term-gates)) l r
+on-sides by-udiv l r = on-two form-only (kind BvUDiv) (divided (udiv term-gates false)) l r
+on-sides by-urem l r = on-two form-only (kind BvURem) (divided (urem term-gates false)) l r
 on-sides by-bitwise-slicing l r = slicing-rule l r
+on-sides by-udiv-standard l r = on-two held (kind BvUDiv) (divided (udiv term-gates true)) l r
+on-sides by-urem-standard l r = on-two held (kind BvURem) (divided (urem term-gates true)) l r
+on-sides by-ashr-standard l r = on-two held (kind BvAShr) (shifted (ashr term-gates true)) l r
 
 -- the verdict on a clause of one literal
 unfoldable pub verdict : Rule → Term → Verdict

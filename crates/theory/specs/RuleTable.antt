@@ -1,19 +1,21 @@
--- Document 01, "The job": the 23 rules and their numbers.
+-- Document 01, "The job": the 23 rules and their numbers; and the three after them, by the standard.
 use mathlib.Core.List.{List, [], _∷_}
 use mathlib.Core.Option.{Option, none}
 use Prim.Native.Nat.{ℕ, zero, suc}
 use lib.ListN.{getElem?}
 
--- document 01 names them value, var, and, or, ..
+-- document 01 names them value, var, and, or, ..; `standard`: the circuit whose value is the standard's
 pub data Rule : Type 0 where
   by-value by-var by-and by-or by-xor by-xnor by-not by-ult by-slt by-add by-mult by-neg : Rule
   by-equality by-comp by-extract by-concat by-sign-extend by-shl by-lshr by-ashr by-udiv by-urem by-bitwise-slicing : Rule
+  by-udiv-standard by-urem-standard by-ashr-standard : Rule
 
--- rules 1 to 23, in this order
+-- rules 1 to 26, in this order
 abbrev pub rules : List Rule
 rules =
     by-value ∷ by-var ∷ by-and ∷ by-or ∷ by-xor ∷ by-xnor ∷ by-not ∷ by-ult ∷ by-slt ∷ by-add ∷ by-mult ∷ by-neg
-    ∷ by-equality ∷ by-comp ∷ by-extract ∷ by-concat ∷ by-sign-extend ∷ by-shl ∷ by-lshr ∷ by-ashr ∷ by-udiv ∷ by-urem ∷ by-bitwise-slicing ∷ []
+    ∷ by-equality ∷ by-comp ∷ by-extract ∷ by-concat ∷ by-sign-extend ∷ by-shl ∷ by-lshr ∷ by-ashr ∷ by-udiv ∷ by-urem ∷ by-bitwise-slicing
+    ∷ by-udiv-standard ∷ by-urem-standard ∷ by-ashr-standard ∷ []
 
 -- the rule of a number, counted from 1
 abbrev pub rule-at : ℕ → Option Rule

@@ -1,4 +1,4 @@
--- Values by document 01's Meaning, worked by hand, of the operations that no held step speaks of: bvashr, bvudiv and bvurem. x and y are variables.
+-- Values by document 01's Meaning, worked by hand: bvashr, bvudiv and bvurem. x and y are variables.
 use mathlib.Core.Bool.{Bool}
 use mathlib.Core.List.{List, [], _∷_}
 use Prim.Native.Nat.{ℕ}

@@ -1,6 +1,9 @@
 //! `bbhost bench`: how long jobs take.
 use super::{Failure, Status, about, grouped, number, progress::Progress, unknown, value};
-use bitblast_host::{Answers, jobs, run_job};
+use bitblast_host::{
+    Answers, jobs, run_job,
+    words::{self, ORIGINAL_RULES, RULES},
+};
 use std::{
     env,
     ffi::OsString,
@@ -14,8 +17,8 @@ use std::{
 
 /// How the command is used.
 pub const USAGE: &str = "  bbhost bench [--work BYTES] [--against COMMAND] [--write DIR]
-      Measures a list of jobs. --against also runs `COMMAND FILE RUNS` on each, as with `oracle bench`, and prints the ratio.
-      --write only writes the jobs as files.";
+      Measures a list of jobs. --against also runs `COMMAND FILE RUNS` on each that has only rules of the original, as with
+      `oracle bench`, and prints the ratio. --write only writes the jobs as files.";
 
 /// The memory lent: work unless an option says otherwise, and answers.
 const WORK: usize = 1 << 20;
@@ -26,18 +29,32 @@ const TIME: Duration = Duration::from_millis(200);
 const LEAST_RUNS: u32 = 5;
 const MOST_RUNS: u32 = 20_000;
 
-/// The jobs that are measured, by name.
-fn jobs() -> Vec<(String, Vec<u8>)> {
-    let mut list = vec![("specimen".to_owned(), jobs::specimen())];
-    for (rule, name) in [(10, "add"), (8, "ult"), (18, "shl"), (11, "mult"), (21, "udiv")] {
+/// A job that is measured.
+struct Measured {
+    name: String,
+    job: Vec<u8>,
+    /// Whether the original has all of the job's rules.
+    original: bool,
+}
+
+fn jobs() -> Vec<Measured> {
+    let mut list = Vec::new();
+    let mut add = |name: &str, job: Vec<u8>, rule: usize| {
+        list.push(Measured { name: name.to_owned(), job, original: rule <= ORIGINAL_RULES });
+    };
+    add("specimen", jobs::specimen(), 9);
+    for rule in [10, 8, 18, 11, 21, 22, 24, 25] {
         for width in [8, 16, 32, 64] {
-            list.push((format!("{name}{width}"), jobs::right_claim(rule, width)));
+            add(&format!("{}{width}", words::rule_name(rule)), jobs::right_claim(rule, width), rule.into());
         }
     }
-    list.push(("udiv64x10".to_owned(), jobs::right_claims(21, 64, 10)));
-    list.push(("mixed".to_owned(), jobs::mixed(50_000)));
-    list.push(("terms60000".to_owned(), jobs::many_terms(60_000)));
-    list.push(("backs20000".to_owned(), jobs::many_backs(20_000)));
+    for rule in [21, 24] {
+        add(&format!("{}64x10", words::rule_name(rule)), jobs::right_claims(rule, 64, 10), rule.into());
+    }
+    add("mixed", jobs::mixed(50_000, ORIGINAL_RULES), ORIGINAL_RULES);
+    add("mixed_all", jobs::mixed(50_000, RULES.len()), RULES.len());
+    add("terms60000", jobs::many_terms(60_000), 0);
+    add("backs20000", jobs::many_backs(20_000), 0);
     list
 }
 
@@ -67,7 +84,7 @@ pub fn run(words: &[OsString], out: &mut impl Write) -> Result<Status, Failure> 
         grouped(work as u64),
         grouped(ANSWERS as u64)
     )?;
-    write!(out, "{:<12}{:>9}{:>9}{:>14}{:>12}", "job", "bytes", "records", "us per job", "ns/record")?;
+    write!(out, "{:<20}{:>9}{:>9}{:>14}{:>12}", "job", "bytes", "records", "us per job", "ns/record")?;
     if against.is_some() {
         write_jobs(&folder)?;
         write!(out, "{:>16}{:>10}", "original us", "ratio")?;
@@ -82,7 +99,7 @@ pub fn run(words: &[OsString], out: &mut impl Write) -> Result<Status, Failure> 
 
 fn write_jobs(folder: &Path) -> Result<(), Failure> {
     fs::create_dir_all(folder).map_err(|error| about(folder.display(), error))?;
-    for (name, job) in jobs() {
+    for Measured { name, job, .. } in jobs() {
         let file = folder.join(format!("{name}.job"));
         fs::write(&file, job).map_err(|error| about(file.display(), error))?;
     }
@@ -97,25 +114,25 @@ fn measure_all(
 ) -> Result<Status, Failure> {
     let mut status = Status::Fine;
     let mut progress = Progress::new();
-    for (name, job) in jobs() {
+    for Measured { name, job, original } in jobs() {
         progress.show(|| name.clone());
         let outcome = run_job(&job, &mut memory.0, &mut memory.1);
         let accepted = Answers::new(&memory.1, outcome.answers).all(|answer| answer.code <= 1);
         if outcome.stop != 0 || !accepted {
-            writeln!(out, "{name:<12} NOT MEASURED, the job is not accepted: {outcome:?}")?;
+            writeln!(out, "{name:<20} NOT MEASURED, the job is not accepted: {outcome:?}")?;
             status = Status::Failed;
             continue;
         }
         let (best, runs) = measure(&job, memory);
         write!(
             out,
-            "{name:<12}{:>9}{:>9}{:>14.2}{:>12.1}",
+            "{name:<20}{:>9}{:>9}{:>14.2}{:>12.1}",
             job.len(),
             outcome.records,
             best * 1e6,
             best * 1e9 / f64::from(outcome.records.max(1))
         )?;
-        if let Some(command) = against {
+        if let Some(command) = against.filter(|_| original) {
             match ask(command, &folder.join(format!("{name}.job")), runs.clamp(3, 300)) {
                 Ok(theirs) => write!(out, "{:>16.2}{:>9.2}x", theirs * 1e6, theirs / best)?,
                 Err(why) => {

@@ -230,6 +230,7 @@ impl Counts {
 /// Whether the original's function of a rule can end so.
 fn reachable(rule: u16, code: u16) -> bool {
     match code {
+        _ if usize::from(rule) > words::ORIGINAL_RULES => false,
         0 => !matches!(rule, 20..=22),
         1 => matches!(rule, 20..=22),
         10 | 11 => true,

@@ -37,6 +37,8 @@ fn large_jobs() -> Vec<Right> {
     vec![
         Right { job: jobs::right_claim(11, 32), codes: vec![0] },
         Right { job: jobs::right_claim(21, 20), codes: vec![1] },
+        Right { job: jobs::right_claim(24, 20), codes: vec![0] },
+        Right { job: jobs::right_claim(25, 20), codes: vec![0] },
         Right { job: jobs::many_terms(65_533), codes: vec![] },
         Right { job: jobs::many_backs(2_000), codes: vec![] },
     ]

@@ -1,9 +1,10 @@
 //! The rules: the form of their literals, the right side that they expect, their verdicts.
+use crate::divide::{RUST, STANDARD};
 use crate::kind::*;
 use crate::pool::{Id, NO, Pool, YES};
 use crate::sort::Sort;
 
-pub const RULES: [&str; 23] = [
+pub const RULES: [&str; 26] = [
     "value",
     "var",
     "and",
@@ -27,6 +28,9 @@ pub const RULES: [&str; 23] = [
     "udiv",
     "urem",
     "bitwise_slicing",
+    "udiv, standard",
+    "urem, standard",
+    "ashr, standard",
 ];
 
 /// The kind of the left side; rules 1 and 2 ask for none.
@@ -49,9 +53,9 @@ pub fn left_kind(rule: u16) -> Option<u16> {
         17 => SIGN_EXTEND,
         18 => BV_SHL,
         19 => BV_LSHR,
-        20 => BV_ASHR,
-        21 => BV_UDIV,
-        22 => BV_UREM,
+        20 | 26 => BV_ASHR,
+        21 | 24 => BV_UDIV,
+        22 | 25 => BV_UREM,
         _ => return None,
     })
 }
@@ -167,9 +171,16 @@ pub fn expected(pool: &mut Pool, rule: u16, left: Id) -> Id {
             x.resize(pool.width(left), *x.last().unwrap());
             x
         }
-        18..=20 => pool.shifted(term.kind, args[0], args[1]),
-        21 => pool.divided(args[0], args[1]).0,
-        22 => pool.divided(args[0], args[1]).1,
+        18..=20 => pool.shifted(term.kind, args[0], args[1], NO),
+        26 => {
+            let top = *pool.bits(args[0]).last().unwrap();
+            pool.shifted(term.kind, args[0], args[1], top)
+        }
+        21 | 22 | 24 | 25 => {
+            let divider = if rule < 23 { RUST } else { STANDARD };
+            let (quotient, remainder) = pool.divided(args[0], args[1], divider);
+            if term.kind == BV_UDIV { quotient } else { remainder }
+        }
         _ => unreachable!("rule {rule} expects no one term"),
     };
     pool.bb(&bits)

@@ -173,6 +173,23 @@ fn the_rows_of_values() {
     assert_eq!(both(9, BV_SLT, 64, 1 << 63, 0), (1, 1));
 }
 
+/// Rules 24 to 26 on every pair of values of the widths 1 to 5, by division and shift of whole numbers.
+#[test]
+fn the_standards_circuits() {
+    for width in 1..=5 {
+        let end = 1u64 << width;
+        for (x, y) in (0..end).flat_map(|x| (0..end).map(move |y| (x, y))) {
+            let quotient = if y == 0 { end - 1 } else { x / y };
+            assert_eq!(both(24, BV_UDIV, width, x, y), (quotient, quotient), "{x} by {y}, width {width}");
+            let rest = if y == 0 { x } else { x % y };
+            assert_eq!(both(25, BV_UREM, width, x, y), (rest, rest), "{x} by {y}, width {width}");
+            let below = if x >= end / 2 { end - 1 } else { 0 };
+            let shifted = (0..y).fold(x, |x, _| (x >> 1) | (below & (end / 2)));
+            assert_eq!(both(26, BV_ASHR, width, x, y), (shifted, shifted), "{x} by {y}, width {width}");
+        }
+    }
+}
+
 /// Rule 20 on a BvBbTerm of two bits: held exactly where its last bit is `false` itself.
 #[test]
 fn an_arithmetic_shift_is_held_below_a_literal_false() {

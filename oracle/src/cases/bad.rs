@@ -133,9 +133,10 @@ impl Maker {
         }
     }
 
+    /// Kinds that neither document 01 nor document 02 has.
     fn bad_kind(&mut self, which: usize) -> &'static str {
         let kind = [
-            0, 1, 2, 9, 13, 14, 19, 26, 29, 32, 39, 59, 60, 63, 64, 99, 102, 103, 104, 105, 200, 255, 256, 266, 276,
+            0, 1, 2, 9, 13, 14, 19, 26, 29, 32, 39, 59, 64, 65, 99, 102, 105, 106, 150, 199, 200, 255, 256, 266, 276,
             356, 2560, 65535,
         ][which % 28];
         let len = *self.rng.pick(&[0, 1, 2, 4, 10, 200]);
@@ -162,8 +163,9 @@ impl Maker {
         "back"
     }
 
+    /// Rules that neither document 01 nor document 02 has.
     fn bad_rule(&mut self, which: usize) -> &'static str {
-        let rule = [0, 24, 25, 256, 279, 65535][which % 6];
+        let rule = [0, 99, 100, 256, 279, 65535][which % 6];
         let n = *self.rng.pick(&[0, 1, 2, 64]);
         self.step(rule, &vec![0; n]);
         "rule"

@@ -3,7 +3,7 @@ use mathlib.Core.Path.{refl}
 use borrow.Author.Needs.{needs}
 use denote.Ref.{now}
 use Rattle.theory.specs.Term.{Term}
-use Rattle.theory.specs.RuleTable.{by-value, by-var, by-and, by-or, by-xor, by-xnor, by-not, by-ult, by-slt, by-add, by-mult, by-neg, by-equality, by-comp, by-extract, by-concat, by-sign-extend, by-shl, by-lshr, by-ashr, by-udiv, by-urem, by-bitwise-slicing}
+use Rattle.theory.specs.RuleTable.{by-value, by-var, by-and, by-or, by-xor, by-xnor, by-not, by-ult, by-slt, by-add, by-mult, by-neg, by-equality, by-comp, by-extract, by-concat, by-sign-extend, by-shl, by-lshr, by-ashr, by-udiv, by-urem, by-bitwise-slicing, by-udiv-standard, by-urem-standard, by-ashr-standard}
 use Rattle.operand_rules.specs.Rules.{tree}
 use Rattle.rules.proofs.Numbered.{by-number, by-none}
 use Rattle.rules.proofs.verdict.Statement.{statement}
@@ -83,12 +83,24 @@ returns-23 : tie.Need-returns-23
 returns-23 c = by-number (literal (c .before .before .before .before)) 23 by-bitwise-slicing (c .before .match .keys23) refl (c .bitwise-slicing .ensures)
 
 returns-24 : tie.Need-returns-24
-returns-24 c = let m = c .match .rest in by-none (literal (c .before .before .before)) (m .0 .0 .0 .0 .0 .0 .0 .0 .0 .0 .0 .0 .0 .0 .0 .0 .0 .0 .0 .0 .0 .0 .1, (m .0 .0 .0 .0 .0 .0 .0 .0 .0 .0 .0 .0 .0 .0 .0 .0 .0 .0 .0 .0 .0 .1, (m .0 .0 .0 .0 .0 .0 .0 .0 .0 .0 .0 .0 .0 .0 .0 .0 .0 .0 .0 .0 .1, (m .0 .0 .0 .0 .0 .0 .0 .0 .0 .0 .0 .0 .0 .0 .0 .0 .0 .0 .0 .1, (m .0 .0 .0 .0 .0 .0 .0 .0 .0 .0 .0 .0 .0 .0 .0 .0 .0 .0 .1, (m .0 .0 .0 .0 .0 .0 .0 .0 .0 .0 .0 .0 .0 .0 .0 .0 .0 .1, (m .0 .0 .0 .0 .0 .0 .0 .0 .0 .0 .0 .0 .0 .0 .0 .0 .1, (m .0 .0 .0 .0 .0 .0 .0 .0 .0 .0 .0 .0 .0 .0 .0 .1, (m .0 .0 .0 .0 .0 .0 .0 .0 .0 .0 .0 .0 .0 .0 .1, (m .0 .0 .0 .0 .0 .0 .0 .0 .0 .0 .0 .0 .0 .1, (m .0 .0 .0 .0 .0 .0 .0 .0 .0 .0 .0 .0 .1, (m .0 .0 .0 .0 .0 .0 .0 .0 .0 .0 .0 .1, (m .0 .0 .0 .0 .0 .0 .0 .0 .0 .0 .1, (m .0 .0 .0 .0 .0 .0 .0 .0 .0 .1, (m .0 .0 .0 .0 .0 .0 .0 .0 .1, (m .0 .0 .0 .0 .0 .0 .0 .1, (m .0 .0 .0 .0 .0 .0 .1, (m .0 .0 .0 .0 .0 .1, (m .0 .0 .0 .0 .1, (m .0 .0 .0 .1, (m .0 .0 .1, (m .0 .1, (m .1, tt))))))))))))))))))))))) refl
+returns-24 c = by-number (literal (c .before .before .before .before)) 24 by-udiv-standard (c .before .match .keys24) refl (c .udiv-standard .ensures)
+
+returns-25 : tie.Need-returns-25
+returns-25 c = by-number (literal (c .before .before .before .before)) 25 by-urem-standard (c .before .match .keys25) refl (c .urem-standard .ensures)
+
+returns-26 : tie.Need-returns-26
+returns-26 c = by-number (literal (c .before .before .before .before)) 26 by-ashr-standard (c .before .match .keys26) refl (c .ashr-standard .ensures)
+
+returns-27 : tie.Need-returns-27
+returns-27 c = let m = c .match .rest in by-none (literal (c .before .before .before)) (m .0 .0 .0 .0 .0 .0 .0 .0 .0 .0 .0 .0 .0 .0 .0 .0 .0 .0 .0 .0 .0 .0 .0 .0 .0 .1, (m .0 .0 .0 .0 .0 .0 .0 .0 .0 .0 .0 .0 .0 .0 .0 .0 .0 .0 .0 .0 .0 .0 .0 .0 .1, (m .0 .0 .0 .0 .0 .0 .0 .0 .0 .0 .0 .0 .0 .0 .0 .0 .0 .0 .0 .0 .0 .0 .0 .1, (m .0 .0 .0 .0 .0 .0 .0 .0 .0 .0 .0 .0 .0 .0 .0 .0 .0 .0 .0 .0 .0 .0 .1, (m .0 .0 .0 .0 .0 .0 .0 .0 .0 .0 .0 .0 .0 .0 .0 .0 .0 .0 .0 .0 .0 .1, (m .0 .0 .0 .0 .0 .0 .0 .0 .0 .0 .0 .0 .0 .0 .0 .0 .0 .0 .0 .0 .1, (m .0 .0 .0 .0 .0 .0 .0 .0 .0 .0 .0 .0 .0 .0 .0 .0 .0 .0 .0 .1, (m .0 .0 .0 .0 .0 .0 .0 .0 .0 .0 .0 .0 .0 .0 .0 .0 .0 .0 .1, (m .0 .0 .0 .0 .0 .0 .0 .0 .0 .0 .0 .0 .0 .0 .0 .0 .0 .1, (m .0 .0 .0 .0 .0 .0 .0 .0 .0 .0 .0 .0 .0 .0 .0 .0 .1, (m .0 .0 .0 .0 .0 .0 .0 .0 .0 .0 .0 .0 .0 .0 .0 .1, (m .0 .0 .0 .0 .0 .0 .0 .0 .0 .0 .0 .0 .0 .0 .1, (m .0 .0 .0 .0 .0 .0 .0 .0 .0 .0 .0 .0 .0 .1, (m .0 .0 .0 .0 .0 .0 .0 .0 .0 .0 .0 .0 .1, (m .0 .0 .0 .0 .0 .0 .0 .0 .0 .0 .0 .1, (m .0 .0 .0 .0 .0 .0 .0 .0 .0 .0 .1, (m .0 .0 .0 .0 .0 .0 .0 .0 .0 .1, (m .0 .0 .0 .0 .0 .0 .0 .0 .1, (m .0 .0 .0 .0 .0 .0 .0 .1, (m .0 .0 .0 .0 .0 .0 .1, (m .0 .0 .0 .0 .0 .1, (m .0 .0 .0 .0 .1, (m .0 .0 .0 .1, (m .0 .0 .1, (m .0 .1, (m .1, tt)))))))))))))))))))))))))) refl
 
 pub verdict-spec : {M : Type 1} → statement M
 verdict-spec =
     tie.close
     (tie.spec
+    (λ c κs. search needs)
+    (λ c κs. search needs)
+    (λ c κs. search needs)
     (λ c κs. search needs)
     (λ c κs. search needs)
     (λ c κs. search needs)
@@ -135,4 +147,7 @@ verdict-spec =
     returns-21
     returns-22
     returns-23
-    returns-24)
+    returns-24
+    returns-25
+    returns-26
+    returns-27)

@@ -6,7 +6,7 @@ use crate::rule::{expected, left_kind};
 
 /// The rules whose circuits grow with the square of the width.
 pub fn is_heavy(rule: u16) -> bool {
-    matches!(rule, 11 | 21 | 22)
+    matches!(rule, 11 | 21 | 22 | 24 | 25)
 }
 
 impl Maker {

@@ -6,7 +6,24 @@ use crate::pool::YES;
 use crate::rule::left_kind;
 
 /// Rules and widths of the large circuits.
-const CIRCUITS: [(u16, usize); 8] = [(11, 16), (11, 32), (11, 64), (20, 64), (21, 16), (22, 32), (21, 64), (22, 64)];
+const CIRCUITS: [(u16, usize); 16] = [
+    (11, 16),
+    (11, 32),
+    (11, 64),
+    (20, 64),
+    (21, 16),
+    (22, 32),
+    (21, 64),
+    (22, 64),
+    (24, 16),
+    (25, 16),
+    (24, 32),
+    (25, 32),
+    (24, 64),
+    (25, 64),
+    (26, 32),
+    (26, 64),
+];
 
 pub const COUNT: usize = 5 + CIRCUITS.len();
 

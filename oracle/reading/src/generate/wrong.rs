@@ -1,5 +1,6 @@
 //! Wrong claims: made from the right one by a small change.
 use super::Maker;
+use crate::divide::{RUST, STANDARD};
 use crate::kind::*;
 use crate::pool::{Id, NO, YES};
 use crate::rule::{expected, left_kind};
@@ -15,6 +16,11 @@ impl Maker {
         }
         let (_, right) = self.pool.sides(right_claim).expect("a claim is an Equals");
         let literal = match self.rng.below(12) {
+            0 if matches!(rule, 2 | 13) => {
+                let (a, b, c) = (self.boolean(1), self.boolean(1), self.boolean(1));
+                let same = self.equals(a, b);
+                self.equals(same, c)
+            }
             1..=8 if rule == 23 => {
                 let other = self.other_slices(right);
                 self.equals(left, other)
@@ -27,8 +33,8 @@ impl Maker {
                 self.equals(left, other)
             }
             5 | 6 => {
-                let other = self.other_circuit(rule, left).unwrap_or(right);
-                self.equals(left, other)
+                let other = self.look_alike(rule, left).or_else(|| self.other_circuit(rule, left));
+                self.equals(left, other.unwrap_or(right))
             }
             _ => {
                 let other = self.changed(right);
@@ -96,6 +102,33 @@ impl Maker {
                 self.pool.bb(&bits)
             }
         }
+    }
+
+    /// A circuit that is easily taken for the rule's own: dividers with one thing as the other rule has it or with the carries
+    /// exchanged, shifts with another last choice.
+    fn look_alike(&mut self, rule: u16, left: Id) -> Option<Id> {
+        let args = self.pool.args(left).to_vec();
+        let bits = match rule {
+            21 | 22 | 24 | 25 => {
+                let mut divider = if rule < 23 { RUST } else { STANDARD };
+                match self.rng.below(6) {
+                    k @ (0 | 1) => divider.carry_out[k] ^= true,
+                    2 => divider.carry_out = divider.carry_out.map(|out| !out),
+                    3 => divider.difference ^= true,
+                    4 => divider.quotient_by = 1,
+                    _ => divider = if rule < 23 { STANDARD } else { RUST },
+                }
+                let (quotient, remainder) = self.pool.divided(args[0], args[1], divider);
+                if matches!(rule, 21 | 24) { quotient } else { remainder }
+            }
+            20 | 26 => {
+                let x = self.pool.bits(args[0]);
+                let beyond = self.rng.pick(&[x[0], x[x.len() - 1], NO, YES]);
+                self.pool.shifted(BV_ASHR, args[0], args[1], beyond)
+            }
+            _ => return None,
+        };
+        Some(self.pool.bb(&bits))
     }
 
     /// The circuit of another rule over the same operands, or the rule's with its operands the other way round.

@@ -17,7 +17,7 @@ returns : tie.Need-returns
 returns c =
     let a = c .before .before .before .before .before .before .args in
     let d = c .before .before .before in
-    quotient _ _ (take (a .w) (a .y)) (take (a .w) (a .x)) (a .w) (d .bitblast-udiv-urem-rec .result .quot) (d .bitblast-udiv-urem-rec .ensures) refl (c .before .before .is-zero .ensures) (c .ites .ensures)
+    quotient _ _ _ (take (a .w) (a .y)) (take (a .w) (a .x)) (a .w) (d .bitblast-udiv-urem-rec .result .quot) (d .bitblast-udiv-urem-rec .ensures) refl (c .before .before .is-zero .ensures) (c .ites .ensures)
     (length-take-le (a .w) (a .x) (long (d .before .before .before))) (rw (long-q d) (search needs)) (search needs)
 
 pub udiv-spec : {M : Type 1} → statement M

@@ -14,7 +14,7 @@ returns : tie.Need-returns
 returns c =
     let a = c .before .before .before .before .before .before .args in
     let d = c .before .before .before in
-    remains _ _ (take (a .w) (a .y)) (take (a .w) (a .x)) (a .w) (d .bitblast-udiv-urem-rec .ensures) refl (c .before .before .is-zero .ensures) (c .ites .ensures)
+    remains _ _ _ (take (a .w) (a .y)) (take (a .w) (a .x)) (a .w) (d .bitblast-udiv-urem-rec .ensures) refl (c .before .before .is-zero .ensures) (c .ites .ensures)
     (length-take-le (a .w) (a .x) (long (d .before .before .before)))
 
 pub urem-spec : {M : Type 1} → statement M

@@ -19,7 +19,7 @@ use Rattle.theory.proofs.Slices.{last-map}
 use Rattle.store.specs.Numbers.{is-false-number}
 use Rattle.store.specs.Store.{Store}
 use Rattle.circuits.proofs.FillLaws.{top-bit}
-use Rattle.theory.proofs.Divider.{ashr-hom}
+use Rattle.theory.proofs.Shift.{ashr-hom}
 use Rattle.operand_rules.specs.Rules.{tree, number-in, width-in, width-bits}
 use Rattle.operand_rules.proofs.Numbers.{operand-as, store-hom, bits-end, false-test}
 use Rattle.operand_rules.proofs.Sorts.{three}
@@ -60,10 +60,10 @@ returns c =
     let ys = get-term-bits (tree (now (a .job)) (now (a .work)) (a .n) (a .y)) in
     let e = g .width-bits .ensures ∙ ap (λ (w : ℕ). map (number-in (now (a .job)) (now (a .work)) (a .n)) (width-bits w)) (b .before .before .width-at .ensures .0) in
     chosen st t (b .before .get-term-bits .result) (b .before .before .width-at .result) (b .before .before .width-at .ensures .1 .0) (long (b .before)) (b .before .get-term-bits .ensures) true
-    (bb (ashr term-gates size xs ys)) (tree (now (a .job)) (now (a .work)) (a .n) (a .claim))
+    (bb (ashr term-gates false size xs ys)) (tree (now (a .job)) (now (a .work)) (a .n) (a .claim))
     (eq-eqb _ _ (c .before .if1 .taken))
-    (bits-end held st (s .pre .claimed) (ashr term-gates size xs ys)
-    (c .before .before .ashr .ensures ∙ three (ashr _) e (b .before .get-term-bits .ensures) (b .get-term-bits2 .ensures) ∙ sym (ashr-hom (store-hom st) size xs ys))
+    (bits-end held st (s .pre .claimed) (ashr term-gates false size xs ys)
+    (c .before .before .ashr .ensures ∙ three (ashr _ false) e (b .before .get-term-bits .ensures) (b .get-term-bits2 .ensures) ∙ sym (ashr-hom (store-hom st) false size xs ys))
     (c .compare-bits .ensures))
 
 returns-2 : tie.Need-returns-2
@@ -79,10 +79,10 @@ returns-2 c =
     let ys = get-term-bits (tree (now (a .job)) (now (a .work)) (a .n) (a .y)) in
     let e = g .width-bits .ensures ∙ ap (λ (w : ℕ). map (number-in (now (a .job)) (now (a .work)) (a .n)) (width-bits w)) (b .before .before .width-at .ensures .0) in
     chosen st t (b .before .get-term-bits .result) (b .before .before .width-at .result) (b .before .before .width-at .ensures .1 .0) (long (b .before)) (b .before .get-term-bits .ensures) false
-    (bb (ashr term-gates size xs ys)) (tree (now (a .job)) (now (a .work)) (a .n) (a .claim))
+    (bb (ashr term-gates false size xs ys)) (tree (now (a .job)) (now (a .work)) (a .n) (a .claim))
     (ne-eqb _ _ (c .before .if1 .left))
-    (bits-end form-only st (s .pre .claimed) (ashr term-gates size xs ys)
-    (c .before .before .ashr .ensures ∙ three (ashr _) e (b .before .get-term-bits .ensures) (b .get-term-bits2 .ensures) ∙ sym (ashr-hom (store-hom st) size xs ys))
+    (bits-end form-only st (s .pre .claimed) (ashr term-gates false size xs ys)
+    (c .before .before .ashr .ensures ∙ three (ashr _ false) e (b .before .get-term-bits .ensures) (b .get-term-bits2 .ensures) ∙ sym (ashr-hom (store-hom st) false size xs ys))
     (c .compare-bits-form .ensures))
 
 pub ashr-check-spec : {M : Type 1} → statement M
