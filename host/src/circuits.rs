@@ -30,9 +30,29 @@ fn operation(rule: u16) -> Option<(Kind, bool)> {
     })
 }
 
+/// The kind on the left side of the rules that move bits.
+fn movement(rule: u16) -> Option<Kind> {
+    Some(match rule {
+        27 => Kind::ZeroExtend,
+        28 => Kind::RotateLeft,
+        29 => Kind::RotateRight,
+        30 => Kind::Repeat,
+        _ => return None,
+    })
+}
+
 /// Whether the rule's circuit has some multiple of n × n gates at width n.
 pub fn is_quadratic(rule: u16) -> bool {
     matches!(rule, 11 | 21 | 22 | 24 | 25)
+}
+
+/// The width of the operand of which a move makes `width` bits.
+fn width_before(kind: Kind, by: usize, width: usize) -> usize {
+    match kind {
+        Kind::ZeroExtend => width - by,
+        Kind::Repeat => width / by,
+        _ => width,
+    }
 }
 
 impl JobWriter {
@@ -42,6 +62,9 @@ impl JobWriter {
         if let Some((kind, _)) = operation(rule) {
             let y = self.bv_var(width, 1);
             return self.term(kind, &[x, y]);
+        }
+        if let Some(kind) = movement(rule) {
+            return self.moved_variable(kind, width);
         }
         match rule {
             1 => self.constant(width, 0x5A5A_5A5A_5A5A_5A5A),
@@ -64,12 +87,27 @@ impl JobWriter {
         }
     }
 
+    /// A move that makes `width` bits of a variable.
+    fn moved_variable(&mut self, kind: Kind, width: usize) -> Term {
+        let by = match kind {
+            Kind::ZeroExtend => width / 2,
+            Kind::Repeat if width.is_multiple_of(2) => 2,
+            Kind::Repeat => 1,
+            _ => 3,
+        };
+        let from = self.bv_var(width_before(kind, by, width), 0);
+        self.moved(kind, by, from)
+    }
+
     /// A left side of the rule over random operands, of the main width `width`.
     pub fn random_left_side(&mut self, rule: u16, width: usize, rng: &mut Rng) -> Term {
         if let Some((kind, any_number)) = operation(rule) {
             let count = if any_number { rng.range(1, 4) } else { 2 };
             let operands: Vec<Term> = (0..count).map(|_| self.operand(width, rng)).collect();
             return self.term(kind, &operands);
+        }
+        if let Some(kind) = movement(rule) {
+            return self.moved_operand(kind, width, rng);
         }
         match rule {
             1 => self.constant(width, rng.number()),
@@ -100,6 +138,18 @@ impl JobWriter {
             }
             _ => self.operand(width, rng),
         }
+    }
+
+    /// A move that makes `width` bits of a random operand.
+    fn moved_operand(&mut self, kind: Kind, width: usize, rng: &mut Rng) -> Term {
+        let by = match kind {
+            Kind::ZeroExtend => rng.range(0, width - 1),
+            Kind::Repeat => *rng.pick(&(1..=width).filter(|&by| width.is_multiple_of(by)).collect::<Vec<_>>()),
+            _ if rng.chance(50) => rng.range(0, 2 * width),
+            _ => rng.range(0, usize::from(u16::MAX)),
+        };
+        let from = self.operand(width_before(kind, by, width), rng);
+        self.moved(kind, by, from)
     }
 
     /// A variable, a constant, a BvBbTerm or an operation.
@@ -192,8 +242,22 @@ impl JobWriter {
             23 => self.slices(operands[0], operands[1]),
             24 | 25 => self.division(node.kind, operands[0], operands[1], true),
             26 => self.shift(node.kind, operands[0], operands[1], true),
+            27..=30 => self.moved_bits(node.kind, usize::from(node.numbers[0]), operands[0]),
             _ => panic!("there is no rule {rule}"),
         }
+    }
+
+    /// The operand's bits, low ones first: with zeros above, turned round, or one copy after the other.
+    fn moved_bits(&mut self, kind: Kind, by: usize, operand: Term) -> Term {
+        let mut bits = self.bits(operand);
+        let width = bits.len();
+        match kind {
+            Kind::ZeroExtend => bits.resize(width + by, FALSE),
+            Kind::RotateLeft => bits.rotate_right(by % width),
+            Kind::RotateRight => bits.rotate_left(by % width),
+            _ => bits = bits.repeat(by),
+        }
+        self.bb(&bits)
     }
 
     fn bb(&mut self, bits: &[Term]) -> Term {

@@ -43,6 +43,10 @@ pub enum Kind {
     BvConcat = 56,
     BvExtract = 57,
     SignExtend = 58,
+    ZeroExtend = 60,
+    RotateLeft = 61,
+    RotateRight = 62,
+    Repeat = 63,
 }
 
 const STEP: u16 = 100;
@@ -169,6 +173,16 @@ impl JobWriter {
     pub fn sign_extend(&mut self, more: usize, term: Term) -> Term {
         let width = self.width(term) + more;
         self.add(Kind::SignExtend, vec![more as u16], vec![term], width as u16)
+    }
+
+    /// A zero extension, a rotation or a repetition by the amount `by`.
+    pub fn moved(&mut self, kind: Kind, by: usize, term: Term) -> Term {
+        let width = match kind {
+            Kind::ZeroExtend => self.width(term) + by,
+            Kind::Repeat => self.width(term) * by,
+            _ => self.width(term),
+        };
+        self.add(kind, vec![by as u16], vec![term], width as u16)
     }
 
     // Records

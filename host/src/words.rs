@@ -1,7 +1,7 @@
 //! Rules and codes in words.
 
 /// The rules in the order of their numbers, from 1.
-pub const RULES: [&str; 26] = [
+pub const RULES: [&str; 30] = [
     "value",
     "var",
     "and",
@@ -28,6 +28,10 @@ pub const RULES: [&str; 26] = [
     "udiv_standard",
     "urem_standard",
     "ashr_standard",
+    "zero_extend",
+    "rotate_left",
+    "rotate_right",
+    "repeat",
 ];
 
 /// How many of the rules, the first ones, are those of the original.

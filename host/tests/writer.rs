@@ -68,6 +68,106 @@ fn the_standards_divisions_and_shift() {
     }
 }
 
+/// The four kinds that move bits, with their rules, and amounts that fit a term of n bits.
+fn moves(n: usize) -> Vec<(u16, Kind, usize)> {
+    let rotations = [0, 1, n - 1, n, n + 1, 3 * n, 65_535];
+    let fits = |by: &usize| n + by <= 64;
+    let mut moves: Vec<(u16, Kind, usize)> = Vec::new();
+    moves.extend([0, 1, n - 1, n, n + 1, 64 - n].into_iter().filter(fits).map(|by| (27, Kind::ZeroExtend, by)));
+    moves.extend(rotations.map(|by| (28, Kind::RotateLeft, by)));
+    moves.extend(rotations.map(|by| (29, Kind::RotateRight, by)));
+    moves.extend((1..=64 / n).map(|by| (30, Kind::Repeat, by)));
+    moves
+}
+
+/// Of a variable, and of a BvBbTerm, whose bits are its arguments; repeated to exactly 64 bits where n divides 64.
+#[test]
+fn moved_bits_of_every_width() {
+    let mut service = service();
+    for n in 1..=64 {
+        let mut job = JobWriter::new();
+        let x = job.bv_var(n, 0);
+        let bits: Vec<jobs::Term> = (0..n).map(|k| job.bool_var(k as u16)).collect();
+        let list = job.term(Kind::BvBbTerm, &bits);
+        for (rule, kind, by) in moves(n) {
+            for operand in [x, list] {
+                let left = job.moved(kind, by, operand);
+                let right = job.circuit(rule, left);
+                job.claim(rule, left, right);
+            }
+        }
+        let report = service.check(&job.finish());
+        assert_eq!(report.outcome().answers as usize, 2 * moves(n).len());
+        assert!(report.all_held(), "width {n}: {:?}", report.answers().find(|answer| answer.code != 0));
+    }
+}
+
+/// The move by which the circuit is made, and another move on the left side: code 16, and under another kind's rule 11.
+#[test]
+fn other_moves_are_refused() {
+    let codes = |rule: u16, kind: Kind, by: usize, right_kind: Kind, right_by: usize| -> Vec<u16> {
+        let mut job = JobWriter::new();
+        let x = job.bv_var(5, 0);
+        let (left, other) = (job.moved(kind, by, x), job.moved(right_kind, right_by, x));
+        let rules = [(Kind::ZeroExtend, 27), (Kind::RotateLeft, 28), (Kind::RotateRight, 29), (Kind::Repeat, 30)];
+        let right = job.circuit(rules.into_iter().find(|(k, _)| *k == right_kind).unwrap().1, other);
+        job.claim(rule, left, right);
+        service().check(&job.finish()).answers().map(|answer| answer.code).collect()
+    };
+    assert_eq!(codes(28, Kind::RotateLeft, 2, Kind::RotateRight, 3), [0]);
+    assert_eq!(codes(28, Kind::RotateLeft, 2, Kind::RotateLeft, 65_002), [0]);
+    assert_eq!(codes(28, Kind::RotateLeft, 2, Kind::RotateRight, 2), [16]);
+    assert_eq!(codes(29, Kind::RotateRight, 1, Kind::RotateRight, 2), [16]);
+    assert_eq!(codes(28, Kind::RotateRight, 2, Kind::RotateLeft, 3), [11]);
+    assert_eq!(codes(27, Kind::Repeat, 2, Kind::ZeroExtend, 5), [11]);
+    assert_eq!(codes(30, Kind::Repeat, 2, Kind::ZeroExtend, 5), [16]);
+    assert_eq!(codes(27, Kind::ZeroExtend, 0, Kind::Repeat, 1), [0]);
+}
+
+/// By 0 or 1 the circuit is the BvBbTerm of the operand's bits, and the operand itself only where it is one.
+#[test]
+fn moves_that_change_nothing() {
+    for (rule, kind, by) in
+        [(27, Kind::ZeroExtend, 0), (28, Kind::RotateLeft, 0), (29, Kind::RotateRight, 4), (30, Kind::Repeat, 1)]
+    {
+        let mut job = JobWriter::new();
+        let x = job.bv_var(4, 0);
+        let list = job.circuit(2, x);
+        for (operand, right) in [(x, list), (x, x), (list, list)] {
+            let left = job.moved(kind, by, operand);
+            job.claim(rule, left, right);
+        }
+        let codes: Vec<u16> = service().check(&job.finish()).answers().map(|answer| answer.code).collect();
+        assert_eq!(codes, [0, 16, 0], "rule {rule}");
+    }
+}
+
+/// A wrong amount, or more than 64 bits, stops the job with 7. The writer keeps to the record and leaves that to the library.
+#[test]
+fn amounts_that_do_not_fit() {
+    let stop = |kind: Kind, by: usize, width: usize| {
+        let mut job = JobWriter::new();
+        let x = job.bv_var(width, 0);
+        let left = job.moved(kind, by, x);
+        job.number(left);
+        service().check(&job.finish()).outcome().stop
+    };
+    for (kind, by, width) in [
+        (Kind::ZeroExtend, 64, 1),
+        (Kind::ZeroExtend, 1, 64),
+        (Kind::ZeroExtend, 65_535, 1),
+        (Kind::Repeat, 0, 1),
+        (Kind::Repeat, 65, 1),
+        (Kind::Repeat, 2, 33),
+        (Kind::Repeat, 65_535, 64),
+    ] {
+        assert_eq!(stop(kind, by, width), 7, "{kind:?} {by} {width}");
+    }
+    for (kind, by, width) in [(Kind::ZeroExtend, 63, 1), (Kind::Repeat, 64, 1), (Kind::RotateLeft, 65_535, 1)] {
+        assert_eq!(stop(kind, by, width), 0, "{kind:?} {by} {width}");
+    }
+}
+
 #[test]
 fn a_variable_for_the_circuit_is_refused() {
     let mut service = service();

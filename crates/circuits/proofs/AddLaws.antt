@@ -8,7 +8,8 @@ use native.Mathlib.Omega.{arith}
 use lib.ListN.{length, take, getD, set}
 use Rattle.theory.specs.Gates.{Gates}
 use Rattle.theory.specs.Circuit.{ripple-carry-adder, last-carry, sum-bit, next-carry}
-use Rattle.theory.specs.Alethe.{bits, bit-of, sum-at, carry-at}
+use Rattle.theory.specs.Move.{bits, bit-of}
+use Rattle.theory.specs.Alethe.{sum-at, carry-at}
 use Rattle.theory.proofs.Indexed.{adder-bits, last-carry-bits}
 use Rattle.circuits.proofs.FillLaws.{Filling, fill-start, fill-turn, fill-end, front}
 

@@ -7,7 +7,8 @@ use native.Mathlib.Omega.{arith}
 use lib.ListN.{length, take, getD}
 use Rattle.theory.specs.Gates.{Gates}
 use Rattle.theory.specs.Circuit.{less-step, sign-step, bitblast-ult, slt, gather}
-use Rattle.theory.specs.Alethe.{bit-of, less-at}
+use Rattle.theory.specs.Move.{bit-of}
+use Rattle.theory.specs.Alethe.{less-at}
 use Rattle.theory.proofs.Indexed.{ult-bits, slt-bits}
 use Rattle.circuits.proofs.FillLaws.{front}
 

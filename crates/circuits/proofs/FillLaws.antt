@@ -8,7 +8,7 @@ use native.Mathlib.Omega.{arith}
 use lib.ListN.{length, take, getD, set, length-set, replicate}
 use lib.Seq.{take-suc-set, length-take-le, getD-take}
 use Rattle.theory.specs.Circuit.{zip-with, last}
-use Rattle.theory.specs.Alethe.{bits, bit-of}
+use Rattle.theory.specs.Move.{bits, bit-of}
 use Rattle.theory.proofs.Indexed.{bits-by, list-bits, map-bits, zip-bits}
 
 -- ---- an array that is to have f 0 to f (n - 1): the first i are stored

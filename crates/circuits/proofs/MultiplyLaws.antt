@@ -8,7 +8,8 @@ use lib.ListN.{length, take, drop, getD, set, length-drop, length-append, drop-o
 use lib.Seq.{length-take-le, getD-take, getD-drop, drop-cons, take-suc, take-take, take-at, drop-at, append-snoc, getD-append-add}
 use Rattle.theory.specs.Gates.{Gates}
 use Rattle.theory.specs.Circuit.{sum-bit, next-carry, ripple-carry-adder, partial-products, add-rows, shift-add-multiplier}
-use Rattle.theory.specs.Alethe.{bits, bit-of, sum-at, carry-at}
+use Rattle.theory.specs.Move.{bits, bit-of}
+use Rattle.theory.specs.Alethe.{sum-at, carry-at}
 use Rattle.theory.proofs.Indexed.{bits-by, length-bits, getD-bits, map-bits, adder-bits}
 use Rattle.circuits.proofs.FillLaws.{Filling, fill-turn, front, reached}
 

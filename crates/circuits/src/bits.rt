@@ -12,7 +12,7 @@ ghost use mathlib.Core.List.{map};
 ghost use Prim.Native.Nat.{_≤_};
 ghost use lib.ListN.{take};
 ghost use Rattle.theory.specs.Limit.{max-width};
-ghost use Rattle.theory.specs.Alethe.{bits};
+ghost use Rattle.theory.specs.Move.{bits};
 ghost use Rattle.theory.specs.Circuit.{zip-with, choose};
 ghost use Rattle.rows.specs.Rows.{kept};
 ghost use Rattle.table.specs.Slots.{Table};

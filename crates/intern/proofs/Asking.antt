@@ -2,14 +2,14 @@
 use mathlib.Core.Path.{_≡_, refl, sym, ap, ap₂, _∙_}
 use mathlib.Core.Bool.{Bool, true, false, _&&_, cond}
 use mathlib.Core.List.{List, map, map-map}
-use Prim.Native.Nat.{ℕ, suc, _+_, _-_}
+use Prim.Native.Nat.{ℕ, suc, _+_, _-_, _*_}
 use native.Mathlib.Numerals.{add-one}
 use lib.Dec.{leb, ltb}
 use lib.ListN.{length, length-map}
 use Rattle.theory.specs.Limit.{max-width}
 use Rattle.theory.specs.Kind.{Op, arity, takes}
 use Rattle.theory.specs.Term.{fold, from-list}
-use Rattle.theory.specs.Sort.{Sort, bool, bv, guard, all-are, alike, same-sort, fitting, result-sort, sort-op, sort-of, sorts-of, first, is-bv-sort, sort-width}
+use Rattle.theory.specs.Sort.{Sort, bool, bv, guard, all-are, alike, same-sort, fitting, result-sort, sort-op, sort-of, sorts-of, first, is-bv-sort, sort-width, width}
 use Rattle.theory.specs.Depth.{depth, depth-op}
 use Rattle.theory.specs.Plain.{Plain}
 use Rattle.theory.proofs.Blast.{folds-from-list}
@@ -18,7 +18,7 @@ use Rattle.terms.specs.declared.Term.{Term as Decoded}
 use Rattle.terms.specs.declared.Term.the-variants as D
 use Rattle.terms.specs.Decoded.{op-of}
 use Rattle.intern.specs.declared.kinds.Asks.{Asks}
-use Rattle.intern.specs.declared.kinds.Asks.the-variants.{Bools, Same, Bit, Bits, Alike, Extract, Extend}
+use Rattle.intern.specs.declared.kinds.Asks.the-variants.{Bools, Same, Bit, Bits, Alike, Extract, Extend, Copies}
 use Rattle.store.specs.Sorts.{sorts-at, deepest-at}
 use Rattle.intern.specs.Kinds.{asks-of, asked-sort, asked-depth}
 
@@ -56,6 +56,10 @@ fits-asked (D.BvURem x y) ss = refl
 fits-asked (D.BvConcat a) ss = refl
 fits-asked (D.BvExtract i j x) ss = ap (λ (n : ℕ). guard (is-bv-sort (first ss) && (leb j i && ltb i (sort-width (first ss)))) (bv n)) (add-one (i - j))
 fits-asked (D.SignExtend k x) ss = refl
+fits-asked (D.ZeroExtend k x) ss = refl
+fits-asked (D.RotateLeft k x) ss = refl
+fits-asked (D.RotateRight k x) ss = refl
+fits-asked (D.Repeat k x) ss = refl
 
 depth-asked : (t : Decoded) (s : Sort) (d : ℕ) → asked-depth (asks-of t) s d ≡ depth-op (op-of t) s d
 depth-asked D.True s d = refl
@@ -90,6 +94,10 @@ depth-asked (D.BvURem x y) s d = refl
 depth-asked (D.BvConcat a) s d = refl
 depth-asked (D.BvExtract i j x) s d = refl
 depth-asked (D.SignExtend k x) s d = refl
+depth-asked (D.ZeroExtend k x) s d = refl
+depth-asked (D.RotateLeft k x) s d = refl
+depth-asked (D.RotateRight k x) s d = refl
+depth-asked (D.Repeat k x) s d = refl
 
 -- ---- once it is known what is asked
 module _ (ss : List Sort) {a : Asks} where
@@ -112,6 +120,10 @@ module _ (ss : List Sort) {a : Asks} where
   pub asked-extend : {k : ℕ} → a ≡ Extend k → {t : Sort} → t ≡ first ss
       → {s : Sort} → s ≡ guard (is-bv-sort t && leb (sort-width t + k) max-width) (bv (sort-width t + k)) → s ≡ asked-sort a ss
   asked-extend {k} e g f = asked e (f ∙ ap (λ (t : Sort). guard (is-bv-sort t && leb (sort-width t + k) max-width) (bv (sort-width t + k))) g)
+
+  pub asked-copies : {k : ℕ} → a ≡ Copies k → {t : Sort} → t ≡ first ss
+      → {s : Sort} → s ≡ guard (is-bv-sort t && width (k * sort-width t)) (bv (k * sort-width t)) → s ≡ asked-sort a ss
+  asked-copies {k} e g f = asked e (f ∙ ap (λ (t : Sort). guard (is-bv-sort t && width (k * sort-width t)) (bv (k * sort-width t))) g)
 
 module _ (s : Sort) (m : ℕ) {a : Asks} where
   pub depth-of : {b : Asks} → a ≡ b → {x : ℕ} → x ≡ asked-depth b s m → x ≡ asked-depth a s m

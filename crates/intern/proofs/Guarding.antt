@@ -1,8 +1,8 @@
 -- A sort behind a test: the tests on widths, values, bits and extensions.
 use mathlib.Core.Path.{_≡_, refl, sym, ap, _∙_}
 use mathlib.Core.Bool.{Bool, true, false, _&&_, and-false}
-use Prim.Native.Nat.{ℕ, _+_, _-_, _*_, _%_, _^_, _<_, _≤_}
-use native.Mathlib.Nat.{one-mul}
+use Prim.Native.Nat.{ℕ, zero, suc, _+_, _-_, _*_, _%_, _^_, _<_, _≤_}
+use native.Mathlib.Nat.{one-mul, mul-le-mul-left}
 use native.Mathlib.Omega.{arith}
 use lib.Dec.{T, leb, ltb, lit<, leb→le}
 use lib.Ieee.Fits.{and-l}
@@ -93,6 +93,34 @@ module _ {s : Sort} (k : ℕ) where
 
   pub extended : {n : ℕ} → s ≡ bv n → n + k ≤ max-width → bv (n + k) ≡ guard (is-bv-sort s && leb (sort-width s + k) max-width) (bv (sort-width s + k))
   extended {n} e h = ap (λ (t : Sort). bv (sort-width t + k)) (sym e) ∙ passes (is-bv-sort s && leb (sort-width s + k) max-width) (bv (sort-width s + k)) (extend-fits e h)
+
+-- k copies
+pub few-bits : (k n : ℕ) → k ≤ max-width → n ≤ max-width → k * n ≤ 4096
+few-bits k n h l = omega (arith, mul-le-mul-left k l)
+
+many-bits : (k n : ℕ) → max-width < k → width (k * n) ≡ false
+many-bits k zero h = width-low (k * 0) (omega arith)
+many-bits k (suc n) h = width-high (k * suc n) (omega arith)
+
+wide-bits : (k n : ℕ) → max-width < n → width (k * n) ≡ false
+wide-bits zero n h = width-low (0 * n) (omega arith)
+wide-bits (suc k) n h = width-high (suc k * n) (omega arith)
+
+module _ {s : Sort} (k : ℕ) where
+  pub copies-none : s ≡ bad → is-bv-sort s && width (k * sort-width s) ≡ false
+  copies-none e = rw e
+
+  pub copies-bool : s ≡ bool → is-bv-sort s && width (k * sort-width s) ≡ false
+  copies-bool e = rw e
+
+  pub copies-many : {n : ℕ} → s ≡ bv n → max-width < k → is-bv-sort s && width (k * sort-width s) ≡ false
+  copies-many {n} e h = rw e (many-bits k n h)
+
+  pub copies-wide : {n : ℕ} → s ≡ bv n → max-width < n → is-bv-sort s && width (k * sort-width s) ≡ false
+  copies-wide {n} e h = rw e (wide-bits k n h)
+
+  pub copied : {n : ℕ} {r : Sort} → s ≡ bv n → r ≡ guard (width (k * n)) (bv (k * n)) → r ≡ guard (is-bv-sort s && width (k * sort-width s)) (bv (k * sort-width s))
+  copied {n} e f = f ∙ rw e
 
 -- a sort of width 0 is no bit-vector's
 pub no-width : (s : Sort) → T (sized s) → sort-width s ≡ 0 → is-bv-sort s ≡ false

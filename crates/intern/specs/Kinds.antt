@@ -2,7 +2,7 @@
 use mathlib.Core.Path.{_≡_}
 use mathlib.Core.Bool.{true, _&&_, cond}
 use mathlib.Core.List.{List}
-use Prim.Native.Nat.{ℕ, suc, _+_, _-_, _^_}
+use Prim.Native.Nat.{ℕ, suc, _+_, _-_, _*_, _^_}
 use lib.Dec.{leb, ltb}
 use lib.ListN.{length}
 use Rattle.theory.specs.Limit.{max-width}
@@ -14,7 +14,7 @@ use Rattle.terms.specs.declared.Term.the-variants as D
 use Rattle.terms.specs.Decoded.{op-of, operands-of, arguments-of}
 use Rattle.store.specs.Sorts.{Arguments}
 use Rattle.intern.specs.declared.kinds.Asks.{Asks}
-use Rattle.intern.specs.declared.kinds.Asks.the-variants.{Nothing, Width, Value, Bools, Same, Bit, Bits, Alike, Order, Compare, Concat, Extract, Extend}
+use Rattle.intern.specs.declared.kinds.Asks.the-variants.{Nothing, Width, Value, Bools, Same, Bit, Bits, Alike, Order, Compare, Concat, Extract, Extend, Copies}
 
 -- what a term asks
 abbrev pub asks-of : Term → Asks
@@ -50,6 +50,10 @@ asks-of (D.BvURem x y) = Alike
 asks-of (D.BvConcat a) = Concat
 asks-of (D.BvExtract i j x) = Extract i j
 asks-of (D.SignExtend k x) = Extend k
+asks-of (D.ZeroExtend k x) = Extend k
+asks-of (D.RotateLeft k x) = Alike
+asks-of (D.RotateRight k x) = Alike
+asks-of (D.Repeat k x) = Copies k
 
 -- the sort of a term that asks this, from the sorts of its arguments
 abbrev pub asked-sort : Asks → List Sort → Sort
@@ -66,6 +70,7 @@ asked-sort Compare ss = guard (alike ss) (bv 1)
 asked-sort Concat ss = guard (all-bv ss && width (sum-widths ss)) (bv (sum-widths ss))
 asked-sort (Extract i j) ss = guard (is-bv-sort (first ss) && (leb j i && ltb i (sort-width (first ss)))) (bv (i - j + 1))
 asked-sort (Extend k) ss = guard (is-bv-sort (first ss) && leb (sort-width (first ss) + k) max-width) (bv (sort-width (first ss) + k))
+asked-sort (Copies k) ss = guard (is-bv-sort (first ss) && width (k * sort-width (first ss))) (bv (k * sort-width (first ss)))
 
 -- the depth of a term that asks this, from its first argument's sort and the depth of the deepest
 abbrev pub asked-depth : Asks → Sort → ℕ → ℕ
@@ -82,6 +87,7 @@ asked-depth Compare s d = 0
 asked-depth Concat s d = 0
 asked-depth (Extract i j) s d = 0
 asked-depth (Extend k) s d = 0
+asked-depth (Copies k) s d = 0
 
 -- a term that may be kept: its arguments are kept, and as many as its kind takes
 pub record Fitting (job work : Bytes) (n : ℕ) (t : Term) : Type 0 where

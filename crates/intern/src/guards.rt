@@ -1,7 +1,7 @@
 // What a test makes of a sort.
 ghost use mathlib.Core.Path.{_≡_};
 ghost use mathlib.Core.Bool.{_&&_};
-ghost use Prim.Native.Nat.{_+_, _-_, _^_};
+ghost use Prim.Native.Nat.{_+_, _-_, _*_, _^_};
 ghost use lib.Dec.{leb, ltb};
 ghost use Rattle.theory.specs.Limit.{max-width};
 ghost use Rattle.theory.specs.Sort.{bool, bv, same-sort, guard, width, is-bv-sort, sort-width};
@@ -113,6 +113,25 @@ pub fn of_extend(s: Sort, k: u32) -> Sort
                 return Sort::Bad;
             }
             Sort::Bv(n + k)
+        }
+    }
+}
+
+// k copies of a term of this sort.
+pub fn of_copies(s: Sort, k: u32) -> Sort
+    ensures { λ r. ⌜ sort-read r ≡ guard (is-bv-sort (sort-read s) && width (k * sort-width (sort-read s))) (bv (k * sort-width (sort-read s))) ⌝ }
+{
+    match s {
+        Sort::Bad => Sort::Bad,
+        Sort::Bool => Sort::Bad,
+        Sort::Bv(n) => {
+            if Term::MAX_WIDTH < k {
+                return Sort::Bad;
+            }
+            if Term::MAX_WIDTH < n {
+                return Sort::Bad;
+            }
+            of_width(k * n)
         }
     }
 }

@@ -15,6 +15,7 @@ use super::arguments::first_sort;
 use super::arguments::joined;
 use super::arguments::one_sort;
 use super::guards::of_bit;
+use super::guards::of_copies;
 use super::guards::of_extend;
 use super::guards::of_extract;
 use super::guards::of_value;
@@ -52,6 +53,8 @@ pub enum Asks {
     Extract(u32, u32),
     // a bit-vector; one of k bits more
     Extend(u32),
+    // a bit-vector; one of k times its bits
+    Copies(u32),
 }
 
 // What a term asks.
@@ -91,6 +94,10 @@ pub fn asked_by(term: Term) -> Asks
         Term::BvConcat(_) => Asks::Concat,
         Term::BvExtract(i, j, _) => Asks::Extract(i, j),
         Term::SignExtend(k, _) => Asks::Extend(k),
+        Term::ZeroExtend(k, _) => Asks::Extend(k),
+        Term::RotateLeft(_, _) => Asks::Alike,
+        Term::RotateRight(_, _) => Asks::Alike,
+        Term::Repeat(k, _) => Asks::Copies(k),
     }
 }
 
@@ -116,6 +123,7 @@ pub fn asked_sort(job: &[u8], work: &[u8], n: usize, ops: Operands, asks: Asks) 
         Asks::Concat => joined(job, work, n, ops),
         Asks::Extract(i, j) => of_extract(first_sort(job, work, n, ops), i, j),
         Asks::Extend(k) => of_extend(first_sort(job, work, n, ops), k),
+        Asks::Copies(k) => of_copies(first_sort(job, work, n, ops), k),
     }
 }
 
@@ -153,6 +161,7 @@ pub fn asked_depth(job: &[u8], work: &[u8], n: usize, ops: Operands, asks: Asks)
         Asks::Concat => 0,
         Asks::Extract(_, _) => 0,
         Asks::Extend(_) => 0,
+        Asks::Copies(_) => 0,
     }
 }
 

@@ -13,7 +13,7 @@ use Rattle.theory.specs.Term.{Term, Terms, node, nil, same-term, fold, folds, t
 use Rattle.theory.specs.Sort.{Sort, bad, bool, bv, guard, all-are, sort-width, sort-op, sort-of}
 use Rattle.theory.specs.Gates.{term-gates}
 use Rattle.theory.specs.Bits.{get-term-bits, select, bb, literally-false}
-use Rattle.theory.specs.Alethe.{bits}
+use Rattle.theory.specs.Move.{bits}
 use Rattle.theory.specs.Record.{Bytes}
 use Rattle.theory.specs.Codes.{all-below}
 use Rattle.theory.specs.Verdict.{Verdict, terms-differ}

@@ -13,7 +13,7 @@ use Rattle.theory.specs.Kind.{Const}
 use Rattle.theory.specs.Term.{Term, node, nil, fold}
 use Rattle.theory.specs.Sort.{bv, guard, is-bv-sort, sort-width, sort-of}
 use Rattle.theory.specs.Bits.{get-term-bits, select}
-use Rattle.theory.specs.Alethe.{bits}
+use Rattle.theory.specs.Move.{bits}
 use Rattle.theory.specs.Record.{Bytes}
 use Rattle.theory.specs.Verdict.{Verdict, not-bit-vector}
 use Rattle.theory.specs.Rule.{of-bits}

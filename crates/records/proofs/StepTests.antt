@@ -11,9 +11,9 @@ use Rattle.theory.specs.Optional.{is-some}
 use Rattle.theory.specs.RuleTable.{Rule, rules, rule-at}
 use Rattle.theory.specs.Codes.{first-fault, all-below, step-tests}
 
--- ---- a rule's number is 1 to 26
+-- ---- a rule's number is 1 to 30
 -- such a number has a rule
-pub rule-there : (n : ℕ) → 1 ≤ n → n ≤ 26 → is-some (rule-at n) ≡ true
+pub rule-there : (n : ℕ) → 1 ≤ n → n ≤ 30 → is-some (rule-at n) ≡ true
 rule-there zero h k = absurd (omega arith)
 rule-there (suc n) h k = go rules n (omega arith)
   where
@@ -28,7 +28,7 @@ rule-low zero h = refl
 rule-low (suc n) h = absurd (omega arith)
 
 -- a greater number has none
-pub rule-high : (n : ℕ) → 26 < n → is-some (rule-at n) ≡ false
+pub rule-high : (n : ℕ) → 30 < n → is-some (rule-at n) ≡ false
 rule-high zero h = absurd (omega arith)
 rule-high (suc n) h = go rules n (omega arith)
   where

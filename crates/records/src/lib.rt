@@ -24,7 +24,7 @@ use terms::Item;
 use terms::Term;
 
 // The number of the last rule; the first is 1.
-const LAST_RULE: u32 = 26;
+const LAST_RULE: u32 = 30;
 
 // What became of a record: the code that stops the job or 0, and then the answers written and the rows kept.
 pub struct Turn {

@@ -1,4 +1,4 @@
-// The 26 rules, by their numbers.
+// The 30 rules, by their numbers.
 ghost use mathlib.Core.Path.{_≡_};
 ghost use Prim.Native.Nat.{_+_, _<_};
 ghost use Rattle.theory.specs.Limit.{first-terms};
@@ -31,6 +31,10 @@ pub use shift_rules::shifts::ashr_standard;
 pub use shift_rules::shifts::lshr;
 pub use shift_rules::shifts::shl;
 pub use slice_rules::constants::value;
+pub use slice_rules::moves::repeat;
+pub use slice_rules::moves::rotate_left;
+pub use slice_rules::moves::rotate_right;
+pub use slice_rules::moves::zero_extend;
 pub use slice_rules::parts::concat;
 pub use slice_rules::parts::extract;
 pub use slice_rules::parts::sign_extend;
@@ -68,6 +72,10 @@ pub fn verdict(job: &[u8], work: &[u8], n: usize, rule: u32, literal: u32) -> Ve
         24 => udiv_standard(job, work, n, literal),
         25 => urem_standard(job, work, n, literal),
         26 => ashr_standard(job, work, n, literal),
+        27 => zero_extend(job, work, n, literal),
+        28 => rotate_left(job, work, n, literal),
+        29 => rotate_right(job, work, n, literal),
+        30 => repeat(job, work, n, literal),
         _ => Verdict::WrongForm,
     }
 }

@@ -8,7 +8,7 @@ use lib.ListN.{length, take, drop, getD, set, replicate, length-drop, length-app
 use lib.Seq.{length-take-le, getD-take, getD-drop, getD-at, drop-cons, take-take}
 use Rattle.theory.specs.Gates.{Gates}
 use Rattle.theory.specs.Circuit.{zip-with, drop-top, ripple-carry-adder, next-carry, last-carry, carry-out, all-false, falses, choose, next-remainder, no-carry, reduced, divide-step, bitblast-udiv-urem-rec, is-zero, udiv, urem}
-use Rattle.theory.specs.Alethe.{bits, bit-of}
+use Rattle.theory.specs.Move.{bits, bit-of}
 use Rattle.circuits.proofs.FillLaws.{Filling, fill-start, fill-turn, fill-end, front, reached, repeated, with-left, with-right}
 
 -- ---- up one place, `low` coming in

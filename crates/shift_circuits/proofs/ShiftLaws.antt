@@ -12,7 +12,7 @@ use lib.Dec.{leb}
 use lib.Pow.{pow-mono, shl-exact}
 use Rattle.theory.specs.Gates.{Gates}
 use Rattle.theory.specs.Circuit.{clog2-from, clog2, last, shl-stage, shl-stages, shr-stage, shr-stages, bitblast-ult, choose, bounded, shl, lshr, ashr}
-use Rattle.theory.specs.Alethe.{bit-of}
+use Rattle.theory.specs.Move.{bit-of}
 use Rattle.theory.proofs.Indexed.{shl-stage-below, shl-stage-above, shl-stages-take, shr-stage-in, shr-stage-out, shr-stages-take}
 use Rattle.circuits.proofs.FillLaws.{Filling, fill-start, fill-turn, reached, with-right}
 use Rattle.theory.proofs.Shift.{length-shl-bits, length-shr-bits}

@@ -3,7 +3,7 @@ use mathlib.Core.Path.{_≡_, sym, ap, subst, _∙_}
 use mathlib.Core.Bool.{Bool, _&&_, cond}
 use mathlib.Core.List.{List, _∷_, map}
 use mathlib.Core.Option.{none, some}
-use Prim.Native.Nat.{ℕ, _+_, _<_}
+use Prim.Native.Nat.{ℕ, _+_, _*_, _<_}
 use native.Mathlib.Omega.{arith}
 use lib.Dec.{T, eqb, eqb→eq, eqb-refl, leb, leb→le, ltb→lt}
 use lib.Ieee.Fits.{and-l, and-r}
@@ -11,7 +11,7 @@ use lib.ListN.{length, getD}
 use types.Run.{OneOf}
 use denote.Enum.Declared.{tagOf}
 use Rattle.theory.specs.Limit.{first-terms, max-width}
-use Rattle.theory.specs.Kind.{Op, BvConcat, BvExtract, SignExtend, kind, indices, arity, takes}
+use Rattle.theory.specs.Kind.{Op, BvConcat, BvExtract, SignExtend, ZeroExtend, Repeat, kind, indices, arity, takes}
 use Rattle.theory.specs.Term.{Term, node, same-term, fold, folds, to-list, from-list}
 use Rattle.theory.specs.Sort.{Sort, fitting, good, result-sort, is-bv-sort, all-bv, sum-widths, sort-op, sort-of}
 use Rattle.theory.specs.Record.{Bytes}
@@ -36,7 +36,7 @@ use Rattle.operand_rules.specs.Rules.{One, tree, number-in, width-in}
 use Rattle.operand_rules.proofs.Tests.{same-eqb, eqb-yes}
 use Rattle.operand_rules.proofs.Numbers.{few, there}
 use Rattle.operand_rules.proofs.Forms.{good-guard, others, not-kind, made-of, one-form, one-below, below-of, list-inside, fits}
-use Rattle.slice_rules.specs.Given.{Extract, Extend, Concat, sorts-in}
+use Rattle.slice_rules.specs.Given.{Extract, Extend, Concat, sorts-in, Copies}
 use Rattle.theory.proofs.Basics.{T-true, T-same}
 
 -- a term that fits: so do the sorts of its arguments
@@ -125,6 +125,24 @@ module _ {job work : Bytes} {n p : ℕ} {t : Decoded} (s : TermAt job work n p t
         record {
           one = one-asked x claim d (and-l (is-bv-sort (sort-of (tree job work n x))) _ h) c;
           fits = leb→le (width-in job work n x + k) max-width (and-r (is-bv-sort (sort-of (tree job work n x))) _ h);
+        }
+
+    -- of zero_extend
+    pub zeros-given : (k x claim : ℕ) → op-of t ≡ ZeroExtend k → operands-of t ≡ OneArg x → claim < first-terms + n → Extend job work n k x claim
+    zeros-given k x claim e d c =
+        let h = asked (ZeroExtend k) (OneArg x) e d in
+        record {
+          one = one-asked x claim d (and-l (is-bv-sort (sort-of (tree job work n x))) _ h) c;
+          fits = leb→le (width-in job work n x + k) max-width (and-r (is-bv-sort (sort-of (tree job work n x))) _ h);
+        }
+
+    -- of repeat
+    pub copies-given : (k x claim : ℕ) → op-of t ≡ Repeat k → operands-of t ≡ OneArg x → claim < first-terms + n → Copies job work n k x claim
+    copies-given k x claim e d c =
+        let h = asked (Repeat k) (OneArg x) e d in
+        record {
+          one = one-asked x claim d (and-l (is-bv-sort (sort-of (tree job work n x))) _ h) c;
+          fits = leb→le (k * width-in job work n x) max-width (and-r (leb 1 (k * width-in job work n x)) _ (and-r (is-bv-sort (sort-of (tree job work n x))) _ h));
         }
 
     -- a list of arguments

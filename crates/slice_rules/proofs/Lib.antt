@@ -2,3 +2,4 @@ pub mod Copying
 pub mod Fitting
 pub mod Literals
 pub mod SliceLaws
+pub mod Moving

@@ -2,10 +2,11 @@
 use mathlib.Core.Bool.{Bool, true, false, cond}
 use mathlib.Core.List.{List, map}
 use mathlib.Core.Option.{Option, none, some}
-use Prim.Native.Nat.{ℕ, _+_, _<_, _≤_}
+use Prim.Native.Nat.{ℕ, _+_, _*_, _<_, _≤_}
 use lib.Dec.{T, eqb}
 use Rattle.theory.specs.Limit.{first-terms, max-width}
 use Rattle.theory.specs.Sort.{Sort, all-bv, sum-widths, sort-of}
+use Rattle.theory.specs.Move.{Move}
 use Rattle.theory.specs.Record.{Bytes}
 use Rattle.terms.specs.declared.Args.{Args}
 use Rattle.terms.specs.declared.Operands.the-variants.{List as Listed}
@@ -20,10 +21,19 @@ pub record Extract (job work : Bytes) (n i j x claim : ℕ) : Type 0 where
   pub order : j ≤ i
   pub inside : i < width-in job work n x
 
--- x with k copies of its top bit, and the claim
+-- x with k more bits, and the claim
 pub record Extend (job work : Bytes) (n k x claim : ℕ) : Type 0 where
   pub one : One job work n x claim
   pub fits : width-in job work n x + k ≤ max-width
+
+-- k copies of x, and the claim
+pub record Copies (job work : Bytes) (n k x claim : ℕ) : Type 0 where
+  pub one : One job work n x claim
+  pub fits : k * width-in job work n x ≤ max-width
+
+-- a move by its parts
+abbrev pub a-move : ℕ → ℕ → ℕ → Move
+a-move size shift cycle = record { size = size; shift = shift; cycle = cycle }
 
 -- the sorts of the terms at these places
 abbrev pub sorts-in : Bytes → Bytes → ℕ → List ℕ → List Sort

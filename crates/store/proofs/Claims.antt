@@ -22,7 +22,7 @@ use Rattle.theory.proofs.Place.{tree-place}
 use Rattle.store.specs.Numbers.{number, bit-number}
 use Rattle.store.specs.Store.{records}
 use Rattle.store.proofs.Lookup.{number-of, bit-hom, number-exact}
-use Rattle.theory.specs.Alethe.{bits}
+use Rattle.theory.specs.Move.{bits}
 use native.Mathlib.Nat.{add-zero, zero-add}
 use Rattle.theory.proofs.Basics.{T-same}
 use Rattle.theory.proofs.Indexed.{bits-same}

@@ -17,7 +17,7 @@ use Rattle.terms.proofs.Term as E
 
 -- the kind of each case of the enum, in its order
 abbrev pub kinds : List ℕ
-kinds = 0 ∷ 1 ∷ 10 ∷ 11 ∷ 12 ∷ 20 ∷ 21 ∷ 22 ∷ 23 ∷ 24 ∷ 25 ∷ 30 ∷ 31 ∷ 40 ∷ 41 ∷ 42 ∷ 43 ∷ 44 ∷ 45 ∷ 46 ∷ 47 ∷ 48 ∷ 49 ∷ 50 ∷ 51 ∷ 52 ∷ 53 ∷ 54 ∷ 55 ∷ 56 ∷ 57 ∷ 58 ∷ []
+kinds = 0 ∷ 1 ∷ 10 ∷ 11 ∷ 12 ∷ 20 ∷ 21 ∷ 22 ∷ 23 ∷ 24 ∷ 25 ∷ 30 ∷ 31 ∷ 40 ∷ 41 ∷ 42 ∷ 43 ∷ 44 ∷ 45 ∷ 46 ∷ 47 ∷ 48 ∷ 49 ∷ 50 ∷ 51 ∷ 52 ∷ 53 ∷ 54 ∷ 55 ∷ 56 ∷ 57 ∷ 58 ∷ 60 ∷ 61 ∷ 62 ∷ 63 ∷ []
 
 pub kind-tag : (t : Term) → kind (op-of t) ≡ getD kinds (tagOf E.the-type t) 0
 kind-tag D.True = refl
@@ -52,6 +52,10 @@ kind-tag (D.BvURem x y) = refl
 kind-tag (D.BvConcat a) = refl
 kind-tag (D.BvExtract i j x) = refl
 kind-tag (D.SignExtend k x) = refl
+kind-tag (D.ZeroExtend k x) = refl
+kind-tag (D.RotateLeft k x) = refl
+kind-tag (D.RotateRight k x) = refl
+kind-tag (D.Repeat k x) = refl
 
 -- none of these cases has the kind k
 abbrev pub all-other : ℕ → List ℕ → Bool

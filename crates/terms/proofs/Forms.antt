@@ -100,9 +100,16 @@ none-middle {k} g h a b = go (decLt k 30)
     go (yes p) = gap 26 4 tt g p
     go (no p) = gap 32 8 tt (past (past (not-below k 30 p) a) b) h
 
-pub none-high : {k : ℕ} → 58 < k → shape-of k ≡ none
+none-high : {k : ℕ} → 63 < k → shape-of k ≡ none
 unfolding shape-of
-none-high h = above 59 shapes tt h
+none-high h = above 64 shapes tt h
+
+pub none-over : {k : ℕ} → 58 < k → (k ≡ 60 → ⊥) → (k ≡ 61 → ⊥) → (k ≡ 62 → ⊥) → (k ≡ 63 → ⊥) → shape-of k ≡ none
+none-over {k} h a b c d = go (decLt k 60)
+  where
+    go : Dec (k < 60) → shape-of k ≡ none
+    go (yes p) = gap 59 1 tt h p
+    go (no p) = none-high (past (past (past (past (not-below k 60 p) a) b) c) d)
 
 -- ---- k is none of n numbers from `low` on, as a `match` on them leaves it
 abbrev Rest : ℕ → ℕ → ℕ → Type 0 → Type 0
@@ -115,8 +122,8 @@ passed low (suc n) {k} before h r =
     let p = passed low n before h (r .0) in
     (p .0, rw add-suc (past (p .1) (r .1)))
 
-pub none-from-40 : {k : ℕ} → 40 ≤ k → Rest 40 19 k (Unit {0}) → shape-of k ≡ none
-none-from-40 h r = none-high (passed 40 19 (Unit {0}) h r .1)
+pub none-from-40 : {k : ℕ} → 40 ≤ k → Rest 60 4 k (Rest 40 19 k (Unit {0})) → shape-of k ≡ none
+none-from-40 {k} h r = none-over (passed 40 19 (Unit {0}) h (r .0 .0 .0 .0) .1) (r .0 .0 .0 .1) (r .0 .0 .1) (r .0 .1) (r .1)
 
 pub none-below-40 : {k : ℕ} → k < 40 → Rest 30 2 k (Rest 20 6 k (Rest 10 3 k (Unit {0}))) → shape-of k ≡ none
 none-below-40 {k} h r =

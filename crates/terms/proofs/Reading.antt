@@ -123,7 +123,7 @@ find-steady k (s ∷ ss) h = go (eqb _ k) (find-steady k ss (steady-split s ss h
 
 pub steady-of : (k : ℕ) → IfSome Steady (shape-of k)
 unfolding shape-of
-steady-of k = find-steady k shapes (λ b. refl, (λ b. refl, (λ b. refl, (λ b. refl, (λ b. refl, (λ b. refl, tt))))))
+steady-of k = find-steady k shapes (λ b. refl, (λ b. refl, (λ b. refl, (λ b. refl, (λ b. refl, (λ b. refl, (λ b. refl, (λ b. refl, (λ b. refl, (λ b. refl, tt))))))))))
 
 fits-of : (s : Shape) → Steady s → (b : Bytes) {size : ℕ} → length b ≡ size
     → sized size (front s) (least (arity (make s []))) (most (arity (make s []))) ≡ fits (front s) (takes (arity (make s b))) b

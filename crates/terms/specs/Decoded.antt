@@ -61,6 +61,10 @@ op-of (D.BvURem x y) = K.BvURem
 op-of (D.BvConcat a) = K.BvConcat
 op-of (D.BvExtract i j x) = K.BvExtract i j
 op-of (D.SignExtend k x) = K.SignExtend k
+op-of (D.ZeroExtend k x) = K.ZeroExtend k
+op-of (D.RotateLeft k x) = K.RotateLeft k
+op-of (D.RotateRight k x) = K.RotateRight k
+op-of (D.Repeat k x) = K.Repeat k
 
 -- its arguments
 abbrev pub operands-of : Term → Operands
@@ -96,6 +100,10 @@ operands-of (D.BvURem x y) = Two x y
 operands-of (D.BvConcat a) = Listed a
 operands-of (D.BvExtract i j x) = One x
 operands-of (D.SignExtend k x) = One x
+operands-of (D.ZeroExtend k x) = One x
+operands-of (D.RotateLeft k x) = One x
+operands-of (D.RotateRight k x) = One x
+operands-of (D.Repeat k x) = One x
 
 -- the numbers in these
 abbrev pub numbers-of : Bytes → Operands → List ℕ

@@ -68,6 +68,13 @@ pub enum Term {
     BvExtract(u32, u32, u32),
     // copies of the top bit, term
     SignExtend(u32, u32),
+    // zeros above, term
+    ZeroExtend(u32, u32),
+    // places, term
+    RotateLeft(u32, u32),
+    RotateRight(u32, u32),
+    // copies, term
+    Repeat(u32, u32),
 }
 
 // The arguments of a term: so many numbers, or a list in the job.
@@ -205,6 +212,10 @@ impl Term {
             56 => Form::Known(0, 1, Term::MAX_ARGUMENTS),
             57 => Form::Known(2 * Term::NUMBER_BYTES, 1, 1),
             58 => Form::Known(Term::NUMBER_BYTES, 1, 1),
+            60 => Form::Known(Term::NUMBER_BYTES, 1, 1),
+            61 => Form::Known(Term::NUMBER_BYTES, 1, 1),
+            62 => Form::Known(Term::NUMBER_BYTES, 1, 1),
+            63 => Form::Known(Term::NUMBER_BYTES, 1, 1),
             _ => Form::Unknown,
         }
     }
@@ -287,6 +298,10 @@ impl Term {
             56 => Item::Term(Term::BvConcat(list)),
             57 => Item::Term(Term::BvExtract(x, y, z)),
             58 => Item::Term(Term::SignExtend(x, y)),
+            60 => Item::Term(Term::ZeroExtend(x, y)),
+            61 => Item::Term(Term::RotateLeft(x, y)),
+            62 => Item::Term(Term::RotateRight(x, y)),
+            63 => Item::Term(Term::Repeat(x, y)),
             _ => Item::Unknown,
         }
     }
@@ -414,6 +429,10 @@ impl Term {
             Term::BvConcat(a) => Operands::List(a),
             Term::BvExtract(_, _, x) => Operands::One(x),
             Term::SignExtend(_, x) => Operands::One(x),
+            Term::ZeroExtend(_, x) => Operands::One(x),
+            Term::RotateLeft(_, x) => Operands::One(x),
+            Term::RotateRight(_, x) => Operands::One(x),
+            Term::Repeat(_, x) => Operands::One(x),
         }
     }
 

@@ -11,7 +11,8 @@ use Rattle.theory.specs.Kind.{False}
 use Rattle.theory.specs.Term.{Term, node, nil}
 use Rattle.theory.specs.Gates.{Gates}
 use Rattle.theory.specs.Circuit.{zip-with, last, ripple-carry-adder, last-carry, negate, bitblast-ult, slt, gather, equality, shift-add-multiplier}
-use Rattle.theory.specs.Alethe.{bits, bit-of, bitwise, bvnot, carry-at, sum-at, bvadd, bvneg, less-at, bvult, bvslt, bvmul, bvequal, bvcomp, extract, sign-extend, concat-width, concat-at, concat}
+use Rattle.theory.specs.Move.{bits, bit-of}
+use Rattle.theory.specs.Alethe.{bitwise, bvnot, carry-at, sum-at, bvadd, bvneg, less-at, bvult, bvslt, bvmul, bvequal, bvcomp, extract, sign-extend, concat-width, concat-at, concat}
 use Rattle.theory.specs.Bits.{get-term-bits, extract-bits, concat-bits, extend-bits}
 use Rattle.theory.proofs.Indexed.{bits-by, list-bits, map-bits, zip-bits, replicate-bits, append-bits, adder-bits, last-carry-bits, ult-bits, slt-bits}
 use Rattle.theory.proofs.Loops.{mult-bits}

@@ -14,7 +14,8 @@ use Rattle.theory.specs.Value.{Val, value, truth}
 use Rattle.theory.specs.Gates.{term-gates}
 use Rattle.theory.specs.Circuit.{zip-with, ripple-carry-adder, negate, bitblast-ult, slt, gather, equality, shift-add-multiplier}
 use Rattle.theory.specs.Bits.{select, get-term-bits, bb, fold-terms, add-bits, product, concat-bits, extract-bits, extend-bits}
-use Rattle.theory.specs.Alethe.{bits, bit-of, bitwise, bvnot, bvult, bvslt, bvadd, bvneg, bvmul, bvequal, bvcomp, extract, sign-extend}
+use Rattle.theory.specs.Move.{bits, bit-of}
+use Rattle.theory.specs.Alethe.{bitwise, bvnot, bvult, bvslt, bvadd, bvneg, bvmul, bvequal, bvcomp, extract, sign-extend}
 use Rattle.theory.specs.Verdict.{Verdict, held, not-bit-vector, terms-differ}
 use Rattle.theory.specs.RuleTable.{Rule, by-extract, by-concat}
 use Rattle.theory.specs.Rule.{args-of, compare, of-bits, on-sides, verdict}

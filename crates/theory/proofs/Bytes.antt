@@ -101,7 +101,7 @@ shapes-lawful = (
           (λ m n. refl, λ m n p q e. (cc, cc)),
           (
             (λ m. refl, λ m n e. cc),
-            tt,
+            ((λ m. refl, λ m n e. cc), ((λ m. refl, λ m n e. cc), ((λ m. refl, λ m n e. cc), ((λ m. refl, λ m n e. cc), tt)))),
           ),
         ),
       ),

@@ -12,7 +12,7 @@ use borrow.Author.Tests.{lt-ltb, le-ltb}
 use lib.Seq.{getD-append-add, getD-drop, take-suc, length-take-le, ext-getD}
 use Rattle.theory.specs.Gates.{Gates}
 use Rattle.theory.specs.Circuit.{zip-with, ripple-carry-adder, sum-bit, next-carry, last-carry, less-step, sign-step, ult-from, slt-from, shl-bits, shl-stage, shl-stages, shr-bits, shr-stage, shr-stages}
-use Rattle.theory.specs.Alethe.{bits, bit-of}
+use Rattle.theory.specs.Move.{bits, bit-of}
 
 -- a choice whose test is known
 pub cond-true : {A : Type 0} {b : Bool} (x y : A) → b ≡ true → cond b x y ≡ x

@@ -6,6 +6,7 @@ pub mod Blast
 pub mod Rules
 pub mod Sorts
 pub mod Slices
+pub mod Moving
 pub mod Same
 pub mod Multiplier
 pub mod Indexed

@@ -9,7 +9,8 @@ use lib.ListN.{length, getD}
 use borrow.Author.Tests.{le-leb, lt-leb}
 use Rattle.theory.specs.Gates.{Gates}
 use Rattle.theory.specs.Circuit.{ripple-carry-adder, next-carry, sum-bit, partial-products, add-rows, shift-add-multiplier}
-use Rattle.theory.specs.Alethe.{bits, bit-of, ripple, sh, res, carry}
+use Rattle.theory.specs.Move.{bits, bit-of}
+use Rattle.theory.specs.Alethe.{ripple, sh, res, carry}
 use Rattle.theory.proofs.Indexed.{cond-true, cond-false, getD-bits, list-bits, map-bits, adder-bits}
 
 -- ---- the three tables of bitvectors.rs, as its loops fill them: for n bits, at every row j < n and place i < n. A row's number is written `suc j` where it is not 0

@@ -5,7 +5,7 @@ use Prim.Native.Nat.{ℕ, _-_}
 use lib.Dec.{T, leb, eqb, eqb→eq, eqb-refl}
 use lib.ListN.{getD}
 use mathlib.Core.Bool.{cond}
-use Rattle.theory.specs.Kind.{Op, True, False, Not, And, Or, Xor, Equals, Ite, BoolVar, BvVar, Const, BvBitOf, BvBbTerm, BvNot, BvNeg, BvAnd, BvOr, BvXor, BvAdd, BvMul, BvXNor, BvComp, BvULt, BvSLt, BvShl, BvLShr, BvAShr, BvUDiv, BvURem, BvConcat, BvExtract, SignExtend, kind, indices}
+use Rattle.theory.specs.Kind.{Op, True, False, Not, And, Or, Xor, Equals, Ite, BoolVar, BvVar, Const, BvBitOf, BvBbTerm, BvNot, BvNeg, BvAnd, BvOr, BvXor, BvAdd, BvMul, BvXNor, BvComp, BvULt, BvSLt, BvShl, BvLShr, BvAShr, BvUDiv, BvURem, BvConcat, BvExtract, SignExtend, ZeroExtend, RotateLeft, RotateRight, Repeat, kind, indices}
 use Rattle.theory.specs.Term.{Term, Terms, node, nil, cons, same-numbers, same-op, same-term, same-terms}
 use Rattle.theory.specs.Rule.{nth}
 use lib.Ieee.Fits.{and-l, and-r, and-i}
@@ -20,7 +20,8 @@ decode k is =
     (cond (leb k 12) (pick (BoolVar (nth 0 is) ∷ BvVar (nth 0 is) (nth 1 is) ∷ Const (nth 0 is) (nth 1 is) ∷ []) 10 k)
     (cond (leb k 25) (pick (Not ∷ And ∷ Or ∷ Xor ∷ Equals ∷ Ite ∷ []) 20 k)
     (cond (leb k 31) (pick (BvBitOf (nth 0 is) ∷ BvBbTerm ∷ []) 30 k)
-    (pick (BvNot ∷ BvNeg ∷ BvAnd ∷ BvOr ∷ BvXor ∷ BvAdd ∷ BvMul ∷ BvXNor ∷ BvComp ∷ BvULt ∷ BvSLt ∷ BvShl ∷ BvLShr ∷ BvAShr ∷ BvUDiv ∷ BvURem ∷ BvConcat ∷ BvExtract (nth 0 is) (nth 1 is) ∷ SignExtend (nth 0 is) ∷ []) 40 k))))
+    (cond (leb k 58) (pick (BvNot ∷ BvNeg ∷ BvAnd ∷ BvOr ∷ BvXor ∷ BvAdd ∷ BvMul ∷ BvXNor ∷ BvComp ∷ BvULt ∷ BvSLt ∷ BvShl ∷ BvLShr ∷ BvAShr ∷ BvUDiv ∷ BvURem ∷ BvConcat ∷ BvExtract (nth 0 is) (nth 1 is) ∷ SignExtend (nth 0 is) ∷ []) 40 k)
+    (pick (ZeroExtend (nth 0 is) ∷ RotateLeft (nth 0 is) ∷ RotateRight (nth 0 is) ∷ Repeat (nth 0 is) ∷ []) 60 k)))))
 
 pub decode-kind : (o : Op) → decode (kind o) (indices o) ≡ o
 decode-kind True = refl
@@ -55,6 +56,10 @@ decode-kind BvURem = refl
 decode-kind BvConcat = refl
 decode-kind (BvExtract i j) = refl
 decode-kind (SignExtend k) = refl
+decode-kind (ZeroExtend k) = refl
+decode-kind (RotateLeft k) = refl
+decode-kind (RotateRight k) = refl
+decode-kind (Repeat k) = refl
 
 pub same-numbers-eq : (xs ys : List ℕ) → T (same-numbers xs ys) → xs ≡ ys
 same-numbers-eq [] [] h = refl

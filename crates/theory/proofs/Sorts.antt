@@ -2,12 +2,12 @@
 use mathlib.Core.Path.{_≡_, refl}
 use mathlib.Core.Bool.{Bool, true, false, _&&_}
 use mathlib.Core.List.{List, [], _∷_}
-use Prim.Native.Nat.{ℕ, suc, _+_, _-_, _^_, _≤_}
+use Prim.Native.Nat.{ℕ, suc, _+_, _-_, _*_, _^_, _≤_}
 use native.Mathlib.Omega.{arith}
 use lib.Dec.{T, leb, ltb, ltb→lt, leb→le, le→leb}
 use lib.Ieee.Fits.{and-l, and-r, and-i}
 use lib.ListN.{length}
-use Rattle.theory.specs.Kind.{Op, True, False, Not, And, Or, Xor, Equals, Ite, BoolVar, BvVar, Const, BvBitOf, BvBbTerm, BvNot, BvNeg, BvAnd, BvOr, BvXor, BvAdd, BvMul, BvXNor, BvComp, BvULt, BvSLt, BvShl, BvLShr, BvAShr, BvUDiv, BvURem, BvConcat, BvExtract, SignExtend, many, exactly, takes}
+use Rattle.theory.specs.Kind.{Op, True, False, Not, And, Or, Xor, Equals, Ite, BoolVar, BvVar, Const, BvBitOf, BvBbTerm, BvNot, BvNeg, BvAnd, BvOr, BvXor, BvAdd, BvMul, BvXNor, BvComp, BvULt, BvSLt, BvShl, BvLShr, BvAShr, BvUDiv, BvURem, BvConcat, BvExtract, SignExtend, ZeroExtend, RotateLeft, RotateRight, Repeat, many, exactly, takes}
 use Rattle.theory.specs.Term.{fold, Term, Terms, node, nil, cons}
 use Rattle.theory.specs.Sort.{Sort, bad, bool, bv, guard, all-are, is-bv-sort, all-bv, sort-width, sum-widths, first, width, sort-op, sort-of, sorts-of}
 
@@ -85,6 +85,16 @@ sized-op (SignExtend k) ss h =
     (λ t. let u = and-r (takes (exactly 1) (length ss)) _ t in
     let w = bv-width (first ss) (first-sized ss h) (and-l (is-bv-sort (first ss)) _ u) in
     le-width (sort-width (first ss) + k) (omega arith) (leb→le _ 64 (and-r (is-bv-sort (first ss)) _ u)))
+sized-op (ZeroExtend k) ss h =
+    sized-guard (takes (exactly 1) (length ss) && (is-bv-sort (first ss) && leb (sort-width (first ss) + k) 64)) (bv (sort-width (first ss) + k))
+    (λ t. let u = and-r (takes (exactly 1) (length ss)) _ t in
+    let w = bv-width (first ss) (first-sized ss h) (and-l (is-bv-sort (first ss)) _ u) in
+    le-width (sort-width (first ss) + k) (omega arith) (leb→le _ 64 (and-r (is-bv-sort (first ss)) _ u)))
+sized-op (RotateLeft k) ss h = sized-guard _ (first ss) (λ t. first-sized ss h)
+sized-op (RotateRight k) ss h = sized-guard _ (first ss) (λ t. first-sized ss h)
+sized-op (Repeat k) ss h =
+    sized-guard (takes (exactly 1) (length ss) && (is-bv-sort (first ss) && width (k * sort-width (first ss)))) (bv (k * sort-width (first ss)))
+    (λ t. and-r (is-bv-sort (first ss)) _ (and-r (takes (exactly 1) (length ss)) _ t))
 
 mutual
   unfolding fold

@@ -2,19 +2,20 @@
 use mathlib.Core.Path.{_≡_, refl, sym, ap, subst}
 use mathlib.Core.Bool.{Bool, true, false, _&&_, cond, not}
 use mathlib.Core.List.{List, [], _∷_, map, foldl}
-use Prim.Native.Nat.{ℕ, suc, _+_, _-_, _*_, _/_, _^_, _<_, _≤_}
+use Prim.Native.Nat.{ℕ, zero, suc, _+_, _-_, _*_, _/_, _^_, _<_, _≤_}
 use native.Mathlib.Nat.{mod-lt, pow-succ', lt-of-le-of-lt, div-le-self, mod-le, zero-add, add-zero, add-assoc, sub-add-cancel}
 use native.Mathlib.Omega.{arith}
 use lib.Bits.{and-lt, or-lt, xor-lt}
-use lib.Dec.{T, ltb, eqb, eqb→eq, ltb→lt}
+use lib.Dec.{T, leb, ltb, eqb, eqb→eq, leb→le, ltb→lt}
 use lib.Arith.{digits-lt}
 use lib.Ieee.Fits.{and-l, and-r}
-use lib.ListN.{length, length-map}
+use lib.ListN.{length, length-map, replicate}
 use lib.Pow.{pow-pos, pow-add, pow-mono, shr-lt}
-use Rattle.theory.specs.Kind.{Op, True, False, Not, And, Or, Xor, Equals, Ite, BoolVar, BvVar, Const, BvBitOf, BvBbTerm, BvNot, BvNeg, BvAnd, BvOr, BvXor, BvAdd, BvMul, BvXNor, BvComp, BvULt, BvSLt, BvShl, BvLShr, BvAShr, BvUDiv, BvURem, BvConcat, BvExtract, SignExtend, many, exactly, takes}
+use Rattle.theory.specs.Kind.{Op, True, False, Not, And, Or, Xor, Equals, Ite, BoolVar, BvVar, Const, BvBitOf, BvBbTerm, BvNot, BvNeg, BvAnd, BvOr, BvXor, BvAdd, BvMul, BvXNor, BvComp, BvULt, BvSLt, BvShl, BvLShr, BvAShr, BvUDiv, BvURem, BvConcat, BvExtract, SignExtend, ZeroExtend, RotateLeft, RotateRight, Repeat, many, exactly, takes}
 use Rattle.theory.specs.Term.{fold, Term, Terms, node, nil, cons}
+use Rattle.theory.specs.Move.{bits}
 use Rattle.theory.specs.Sort.{Sort, bad, bool, bv, same-sort, guard, all-are, is-bv-sort, all-bv, sort-width, sum-widths, first, width, alike, sort-op, sort-of, sorts-of}
-use Rattle.theory.specs.Value.{same, Assign, Val, truth, number, truth-of, value-width, number-of, arg, bit, to-number, bit-at, fold1, num1, num2, not-n, neg-n, and-n, or-n, xor-n, xnor-n, add-n, mul-n, shl-n, lshr-n, top-copies, ashr-n, udiv-n, urem-n, concat2, meaning, value, values}
+use Rattle.theory.specs.Value.{same, Assign, Val, truth, number, truth-of, value-width, number-of, arg, bit, to-number, bit-at, fold1, num1, num2, not-n, neg-n, and-n, or-n, xor-n, xnor-n, add-n, mul-n, shl-n, lshr-n, top-copies, ashr-n, udiv-n, urem-n, concat2, rotate-left-n, rotate-right-n, meaning, value, values}
 
 pub data Has : Val → Sort → Type 0 where
   any : {v : Val} → Has v bad
@@ -195,6 +196,41 @@ extend-has k (is-number {n} {x} h) t = is-number (go (bit-at (n - 1) x))
     go true = omega (arith, pow-mono {i = n} {j = n + k} (omega arith))
     go false = omega (arith, pow-mono {i = n} {j = n + k} (omega arith))
 
+-- ---- bits moved
+zeros-has : (k : ℕ) {v : Val} {s : Sort} → Has v s → T (is-bv-sort s) → Has (number (value-width v + k) (number-of v)) (bv (sort-width s + k))
+zeros-has k any t = absurd t
+zeros-has k is-truth t = absurd t
+zeros-has k (is-number {n} {x} h) t = let l : x < 2 ^ (n + k) = omega (arith, pow-mono {i = n} {j = n + k} (omega arith)) in is-number l
+
+moved-long : (m : ℕ) (f : ℕ → Bool) → length (bits m f) ≡ m
+moved-long zero f = refl
+moved-long (suc m) f = ap suc (moved-long m (λ i. f (suc i)))
+
+moved-lt : (m : ℕ) (f : ℕ → Bool) → to-number (bits m f) < 2 ^ m
+moved-lt m f = subst (λ (k : ℕ). to-number (bits m f) < 2 ^ k) (moved-long m f) (to-number-lt (bits m f))
+
+left-lt : (k : ℕ) → Below1 (rotate-left-n k)
+unfolding rotate-left-n
+left-lt k n x h = moved-lt n _
+
+right-lt : (k : ℕ) → Below1 (rotate-right-n k)
+unfolding rotate-right-n
+right-lt k n x h = moved-lt n _
+
+-- k copies of a number of width n, after a number of width m
+copies-has : (k m n : ℕ) {u v : Val} → Has u (bv m) → Has v (bv n) → Has (foldl concat2 u (replicate k v)) (bv (m + k * n))
+copies-has zero m n {u} h e = subst (λ (z : ℕ). Has u (bv z)) (let z : m ≡ m + 0 * n = omega arith in z) h
+copies-has (suc k) m n (is-number {x = x} h) (is-number {x = y} e) =
+    let w : m + n + k * n ≡ m + suc k * n = omega arith in
+    subst (λ (z : ℕ). Has (foldl concat2 (number (m + n) (x * 2 ^ n + y)) (replicate k (number n y))) (bv z)) w (copies-has k (m + n) n (is-number (concat-lt m n x y h e)) (is-number e))
+
+repeat-has : (k : ℕ) {v : Val} {s : Sort} → Has v s → T (is-bv-sort s) → T (width (k * sort-width s)) → Has (fold1 concat2 (replicate k v)) (bv (k * sort-width s))
+repeat-has k any t w = absurd t
+repeat-has k is-truth t w = absurd t
+repeat-has zero (is-number {n} h) t w = absurd (let z = leb→le 1 (0 * n) (and-l (leb 1 (0 * n)) _ w) in omega arith)
+repeat-has (suc k) (is-number {n} {x} h) t w =
+    subst (λ (z : ℕ). Has (foldl concat2 (number n x) (replicate k (number n x))) (bv z)) (let z : n + k * n ≡ suc k * n = omega arith in z) (copies-has k n n (is-number h) (is-number h))
+
 bit-lt : (b : Bool) → bit b < 2 ^ 1
 bit-lt true = omega arith
 bit-lt false = omega arith
@@ -260,6 +296,14 @@ meaning-has ρ BvConcat {ss = ss} r =
 meaning-has ρ (BvExtract i j) r = guarded _ (λ t. is-number (mod-lt _ (pow-pos (suc (i - j)))))
 meaning-has ρ (SignExtend k) {ss = ss} r =
     guarded _ (λ t. extend-has k (first-has r) (and-l (is-bv-sort (first ss)) _ (and-r (takes (exactly 1) (length ss)) _ t)))
+meaning-has ρ (ZeroExtend k) {ss = ss} r =
+    guarded _ (λ t. zeros-has k (first-has r) (and-l (is-bv-sort (first ss)) _ (and-r (takes (exactly 1) (length ss)) _ t)))
+meaning-has ρ (RotateLeft k) r = one-has (rotate-left-n k) (left-lt k) r
+meaning-has ρ (RotateRight k) r = one-has (rotate-right-n k) (right-lt k) r
+meaning-has ρ (Repeat k) {ss = ss} r =
+    guarded (takes (exactly 1) (length ss) && (is-bv-sort (first ss) && width (k * sort-width (first ss))))
+    (λ t. let u = and-r (takes (exactly 1) (length ss)) _ t in
+    repeat-has k (first-has r) (and-l (is-bv-sort (first ss)) _ u) (and-r (is-bv-sort (first ss)) _ u))
 
 mutual
   unfolding fold

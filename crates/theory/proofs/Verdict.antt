@@ -3,21 +3,22 @@ use mathlib.Core.Path.{_≡_, refl, sym, ap, ap₂, subst, _∙_}
 use mathlib.Core.Bool.{Bool, true, false, _&&_, cond}
 use mathlib.Core.List.{List, [], _∷_, map}
 use mathlib.Core.Option.{Option, none, some}
-use Prim.Native.Nat.{ℕ, zero, suc, _+_, _-_, _<_, _≤_}
+use Prim.Native.Nat.{ℕ, zero, suc, _+_, _-_, _*_, _<_, _≤_}
 use native.Mathlib.Omega.{arith}
 use lib.Dec.{T, leb, ltb, eqb, eqb→eq, leb→le, ltb→lt}
 use lib.Ieee.Fits.{and-l, and-r}
 use lib.ListN.{length, length-map}
-use Rattle.theory.specs.Kind.{Op, And, Or, Xor, Equals, Const, BvNot, BvNeg, BvAnd, BvOr, BvXor, BvAdd, BvMul, BvXNor, BvComp, BvULt, BvSLt, BvShl, BvLShr, BvAShr, BvUDiv, BvURem, BvConcat, BvExtract, SignExtend, many, exactly, takes}
+use Rattle.theory.specs.Kind.{Op, And, Or, Xor, Equals, Const, BvNot, BvNeg, BvAnd, BvOr, BvXor, BvAdd, BvMul, BvXNor, BvComp, BvULt, BvSLt, BvShl, BvLShr, BvAShr, BvUDiv, BvURem, BvConcat, BvExtract, SignExtend, ZeroExtend, RotateLeft, RotateRight, Repeat, many, exactly, takes, indices}
 use Rattle.theory.specs.Term.{fold, Term, Terms, node, nil, cons, to-list, from-list, same-term, two}
 use Rattle.theory.specs.Sort.{guard, Sort, bool, bv, same-sort, is-bv-sort, good, sort-width, sum-widths, first, width, alike, sort-op, sort-of, sorts-of}
 use Rattle.theory.specs.Value.{Assign, to-number, value}
+use Rattle.theory.specs.Move.{Move, zero-extension, left-rotation, right-rotation, repetition}
 use Rattle.theory.specs.Gates.{term-gates}
 use Rattle.theory.specs.Circuit.{negate, bitblast-ult, slt, equality, shl, lshr, ashr, udiv, urem}
-use Rattle.theory.specs.Bits.{get-term-bits, bb, fold-terms, zipped, add-bits, product, extract-bits, concat-bits, extend-bits, shifted, divided}
+use Rattle.theory.specs.Bits.{get-term-bits, bb, fold-terms, zipped, add-bits, product, extract-bits, concat-bits, extend-bits, moved-bits, shifted, divided}
 use Rattle.theory.specs.Verdict.{Verdict, held, form-only, not-bit-vector, other-value, terms-differ, not-constant, bit-not-literal}
-use Rattle.theory.specs.RuleTable.{Rule, by-value, by-var, by-and, by-or, by-xor, by-xnor, by-not, by-ult, by-slt, by-add, by-mult, by-neg, by-equality, by-comp, by-extract, by-concat, by-sign-extend, by-shl, by-lshr, by-ashr, by-udiv, by-urem, by-bitwise-slicing, by-udiv-standard, by-urem-standard, by-ashr-standard}
-use Rattle.theory.specs.Rule.{nth, args-of, index-of, form, unary, binary, compare, on-one, on-two, on-many, literal-bits, value-bits, constant, value-rule, of-bits, ends-in-false, ashr-rule, slices-verdict, slicing-rule, on-sides, verdict}
+use Rattle.theory.specs.RuleTable.{Rule, by-value, by-var, by-and, by-or, by-xor, by-xnor, by-not, by-ult, by-slt, by-add, by-mult, by-neg, by-equality, by-comp, by-extract, by-concat, by-sign-extend, by-shl, by-lshr, by-ashr, by-udiv, by-urem, by-bitwise-slicing, by-udiv-standard, by-urem-standard, by-ashr-standard, by-zero-extend, by-rotate-left, by-rotate-right, by-repeat}
+use Rattle.theory.specs.Rule.{nth, args-of, index-of, form, unary, binary, compare, on-one, on-two, on-many, literal-bits, value-bits, constant, value-rule, of-bits, ends-in-false, ashr-rule, moving-rule, slices-verdict, slicing-rule, on-sides, verdict}
 use Rattle.theory.proofs.Sound.{same-sort-eq}
 use Rattle.theory.proofs.Blast.{guard-yes, to-from-list, folds-from-list}
 use Rattle.theory.proofs.Rules.{ult-holds, slt-holds, equality-holds, comp-holds, neg-holds, not-holds, add-holds, and-holds, or-holds, xor-holds, xnor-holds}
@@ -30,6 +31,7 @@ use Rattle.theory.proofs.Division.{udiv-holds, urem-holds}
 use Rattle.theory.proofs.NonNegative.{ashr-holds}
 use Rattle.theory.proofs.Form.{not-held, then-held, form-held, same-of, args-held, unary-held, binary-held, many-held, literal-bits-are}
 use Rattle.theory.proofs.Slicing.{slicing-holds}
+use Rattle.theory.proofs.Moving.{zero-extend-holds, rotate-left-holds, rotate-right-holds, repeat-holds}
 
 -- ---- what a good sort says of the arguments
 pub guard-good : (b : Bool) (s : Sort) → T (good (guard b s)) → T b × (guard b s ≡ s)
@@ -354,6 +356,47 @@ slicing-held l r g s e ρ =
     let q : sort-of (node BvConcat us) ≡ bv n = ap sort-of (sym (v .is)) ∙ sym s ∙ ap sort-of (u .is) ∙ w .2 in
     ap (value ρ) (u .is) ∙ sym (slicing-holds ρ a c n (w .0) (w .1) us p q) ∙ ap (value ρ) (sym (v .is))
 
+-- ---- rules 27 to 30
+module _ (op : ℕ) (o : ℕ → Op) (known : (is : List ℕ) → decode op is ≡ o (nth 0 is)) (index : (k : ℕ) → nth 0 (indices (o k)) ≡ k) (move : ℕ → ℕ → Move)
+    (wide : (k : ℕ) (x : Term) → T (good (sort-of (node (o k) (cons x nil)))) → sort-of x ≡ bv (sort-width (sort-of x)))
+    (holds : (ρ : Assign) (k : ℕ) (x : Term) (n : ℕ) → sort-of x ≡ bv n → T (good (sort-of (node (o k) (cons x nil))))
+    → value ρ (bb (moved-bits (move k n) (get-term-bits x))) ≡ value ρ (node (o k) (cons x nil))) where
+  moving-held : (l r : Term) → T (good (sort-of l)) → moving-rule op move l r ≡ held → Holds l r
+  moving-held l r g e ρ =
+      let u = unary-held op l (λ x. compare held (bb (moved-bits (move (index-of 0 l) (sort-width (sort-of x))) (get-term-bits x))) r) e in
+      let x = u .one in
+      let k = nth 0 (u .numbers) in
+      let i : l ≡ node (o k) (cons x nil) = u .is ∙ ap (λ (p : Op). node p (cons x nil)) (known (u .numbers)) in
+      let f = subst (λ (t : Term). T (good (sort-of t))) i g in
+      ap (value ρ) i ∙ sym (holds ρ k x (sort-width (sort-of x)) (wide k x f) f)
+      ∙ ap (λ (j : ℕ). value ρ (bb (moved-bits (move j (sort-width (sort-of x))) (get-term-bits x)))) (sym (index k) ∙ ap (index-of 0) (sym i))
+      ∙ ap (value ρ) (same-of (bb (moved-bits (move (index-of 0 l) (sort-width (sort-of x))) (get-term-bits x))) r (u .after))
+
+zero-arg : (k : ℕ) (x : Term) → T (good (sort-of (node (ZeroExtend k) (cons x nil)))) → sort-of x ≡ bv (sort-width (sort-of x))
+unfolding fold
+zero-arg k x h =
+    let a : T (is-bv-sort (sort-of x) && leb (sort-width (sort-of x) + k) 64) = guard-good _ (bv (sort-width (sort-of x) + k)) h .0 in
+    is-bv (sort-of x) (and-l (is-bv-sort (sort-of x)) _ a)
+
+left-arg : (k : ℕ) (x : Term) → T (good (sort-of (node (RotateLeft k) (cons x nil)))) → sort-of x ≡ bv (sort-width (sort-of x))
+unfolding fold
+left-arg k x h = one-wide x _ h
+
+right-arg : (k : ℕ) (x : Term) → T (good (sort-of (node (RotateRight k) (cons x nil)))) → sort-of x ≡ bv (sort-width (sort-of x))
+unfolding fold
+right-arg k x h = one-wide x _ h
+
+repeat-arg : (k : ℕ) (x : Term) → T (good (sort-of (node (Repeat k) (cons x nil)))) → (sort-of x ≡ bv (sort-width (sort-of x))) × (1 ≤ k)
+unfolding fold
+repeat-arg k x h =
+    let a : T (is-bv-sort (sort-of x) && width (k * sort-width (sort-of x))) = guard-good _ (bv (k * sort-width (sort-of x))) h .0 in
+    let w = leb→le 1 (k * sort-width (sort-of x)) (and-l (leb 1 (k * sort-width (sort-of x))) _ (and-r (is-bv-sort (sort-of x)) _ a)) in
+    (is-bv (sort-of x) (and-l (is-bv-sort (sort-of x)) _ a), some-copies k w)
+  where
+    some-copies : (j : ℕ) → 1 ≤ j * sort-width (sort-of x) → 1 ≤ j
+    some-copies zero z = absurd (omega arith)
+    some-copies (suc j) z = omega arith
+
 -- ---- every rule
 pub sides-hold : (rule : Rule) (l r : Term) → sort-of (two Equals l r) ≡ bool → on-sides rule l r ≡ held → Holds l r
 unfolding on-sides
@@ -383,6 +426,10 @@ sides-hold by-bitwise-slicing l r s e = slicing-held l r (equal-sorts l r s .0) 
 sides-hold by-udiv-standard l r s e = two-rule 54 BvUDiv (λ is. refl) (divided (udiv term-gates true)) udiv-wide udiv-holds l r (equal-sorts l r s .0) e
 sides-hold by-urem-standard l r s e = two-rule 55 BvURem (λ is. refl) (divided (urem term-gates true)) urem-wide urem-holds l r (equal-sorts l r s .0) e
 sides-hold by-ashr-standard l r s e = two-rule 53 BvAShr (λ is. refl) (shifted (ashr term-gates true)) ashr-wide ashr-right l r (equal-sorts l r s .0) e
+sides-hold by-zero-extend l r s e = moving-held 60 ZeroExtend (λ is. refl) (λ k. refl) zero-extension zero-arg (λ ρ k x n w f. zero-extend-holds ρ k x n w) l r (equal-sorts l r s .0) e
+sides-hold by-rotate-left l r s e = moving-held 61 RotateLeft (λ is. refl) (λ k. refl) left-rotation left-arg (λ ρ k x n w f. rotate-left-holds ρ k x n w) l r (equal-sorts l r s .0) e
+sides-hold by-rotate-right l r s e = moving-held 62 RotateRight (λ is. refl) (λ k. refl) right-rotation right-arg (λ ρ k x n w f. rotate-right-holds ρ k x n w) l r (equal-sorts l r s .0) e
+sides-hold by-repeat l r s e = moving-held 63 Repeat (λ is. refl) (λ k. refl) repetition (λ k x f. repeat-arg k x f .0) (λ ρ k x n w f. repeat-holds ρ k x n w (repeat-arg k x f .1)) l r (equal-sorts l r s .0) e
 
 pub verdict-holds : (rule : Rule) (t : Term) → T (good (sort-of t)) → verdict rule t ≡ held
     → (l : Term) × (r : Term) × (t ≡ two Equals l r) × ((ρ : Assign) → value ρ l ≡ value ρ r)

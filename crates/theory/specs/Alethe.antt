@@ -4,20 +4,11 @@
 use mathlib.Core.Bool.{cond}
 use mathlib.Core.List.{List, [], _∷_}
 use Prim.Native.Nat.{ℕ, zero, suc, _+_, _-_}
-use lib.ListN.{getD}
 use lib.Dec.{leb, ltb}
+use Rattle.theory.specs.Move.{bits}
 use Rattle.theory.specs.Gates.{Gates}
 
 module _ {A : Type 0} where
-  -- the list f 0, f 1 .. f (n - 1)
-  abbrev pub bits : ℕ → (ℕ → A) → List A
-  bits zero f = []
-  bits (suc n) f = f 0 ∷ bits n (λ i. f (suc i))
-
-  -- bit i of a list, and d where the list has ended
-  abbrev pub bit-of : A → List A → ℕ → A
-  bit-of d xs i = getD xs i d
-
   -- bvand, bvor, bvxor, and bvxnor with the gate `=`: bit i is gate x_i y_i
   abbrev pub bitwise : (A → A → A) → ℕ → (ℕ → A) → (ℕ → A) → List A
   bitwise gate n x y = bits n (λ i. gate (x i) (y i))

@@ -10,7 +10,8 @@ use Rattle.theory.specs.Term.{Term, node, nil, cons, to-list, two}
 use Rattle.theory.specs.Sort.{bv, sort-of}
 use Rattle.theory.specs.Gates.{term-gates}
 use Rattle.theory.specs.Bits.{bb}
-use Rattle.theory.specs.Alethe.{bits, bitwise, bvnot, bvult, bvslt, bvadd, bvneg, bvmul, bvequal, bvcomp, extract, sign-extend}
+use Rattle.theory.specs.Move.{bits}
+use Rattle.theory.specs.Alethe.{bitwise, bvnot, bvult, bvslt, bvadd, bvneg, bvmul, bvequal, bvcomp, extract, sign-extend}
 use Rattle.theory.specs.Verdict.{held}
 use Rattle.theory.specs.RuleTable.{Rule, by-var, by-and, by-or, by-xor, by-xnor, by-not, by-ult, by-slt, by-add, by-mult, by-neg, by-equality, by-comp, by-extract, by-concat, by-sign-extend}
 use Rattle.theory.specs.Rule.{verdict}

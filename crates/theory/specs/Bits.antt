@@ -7,6 +7,7 @@ use lib.ListN.{take, drop, replicate}
 use Rattle.theory.specs.Kind.{False, BvBitOf, BvBbTerm, Const, kind}
 use Rattle.theory.specs.Term.{Term, node, nil, cons, to-list, from-list, same-term}
 use Rattle.theory.specs.Sort.{sort-width, sort-of}
+use Rattle.theory.specs.Move.{bit-of, Move, moved}
 use Rattle.theory.specs.Gates.{term-gates}
 use Rattle.theory.specs.Circuit.{zip-with, last, ripple-carry-adder, shift-add-multiplier}
 
@@ -53,6 +54,10 @@ concat-bits (t ∷ ts) = concat-bits ts ++ get-term-bits t
 -- sign_extend: k copies of the top bit above
 abbrev pub extend-bits : ℕ → List Term → List Term
 extend-bits k xs = xs ++ replicate k (last (node False nil) xs)
+
+-- zero_extend, rotate_left, rotate_right, repeat: the bits moved, `false` where there is none
+abbrev pub moved-bits : Move → List Term → List Term
+moved-bits v xs = moved v (bit-of (node False nil) xs)
 
 -- shl, lshr, ashr: the bits of the width, as a constant of that width
 abbrev pub size-bits : Term → List Term

@@ -11,7 +11,7 @@ use Rattle.theory.specs.Limit.{max-terms, first-terms, term-bytes, answe
 use Rattle.theory.specs.Kind.{Op, Equals, BvBbTerm, BvNeg, BvAdd, BvMul, BvULt, BvSLt}
 use Rattle.theory.specs.Term.{Term, Terms, node, nil, cons, two}
 use Rattle.theory.specs.Sort.{bv, sort-of}
-use Rattle.theory.specs.Value.{Assign, Val, number-of, value}
+use Rattle.theory.specs.Value.{Assign, Val, number-of, value, bit-at, rotate-left-n, rotate-right-n}
 use Rattle.theory.specs.RuleTable.{Rule, by-ult, by-slt, by-add, by-mult, by-neg, rule-at}
 use Rattle.theory.specs.Record.{Bytes, AllBytes, records-of, step, read, step-count}
 use Rattle.theory.specs.Plain.{Plain, plain-after, at-place}
@@ -127,6 +127,13 @@ LowBitsHeld =
     → Reached job work space m r → read r ≡ step number places → rule-at number ≡ some rule → Counts rule o
     → getElem? (run job work space .answers) (step-count (take m (records-of job))) ≡ some a → a .code ≡ 0
     → LowHeld o (plain-after m job) places
+
+-- ---- "rotate left brings bit i to place i + k and rotate right to i − k, both modulo the width"
+-- at every width n, for every amount k and number x
+abbrev pub Rotations : Type 0
+Rotations =
+    (n k x i : ℕ) → i < n
+    → (bit-at ((i + k) % n) (rotate-left-n k n x) ≡ bit-at i x) × (bit-at ((i + (n - k % n)) % n) (rotate-right-n k n x) ≡ bit-at i x)
 
 -- ---- "Until one holds, the last three sum to all answers written, since the tally was zero, by the jobs it was lent for"
 -- none of the three holds at its largest number

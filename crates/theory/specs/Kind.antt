@@ -16,6 +16,7 @@ pub data Op : Type 0 where
   BvConcat : Op
   BvExtract : ℕ → ℕ → Op
   SignExtend : ℕ → Op
+  ZeroExtend RotateLeft RotateRight Repeat : ℕ → Op
 
 -- how many arguments: so many, or 1 to 64
 pub data Arity : Type 0 where
@@ -37,7 +38,7 @@ pub record Row : Type 0 where
 abbrev pub row : ℕ → List ℕ → Arity → Row
 row k is a = record { number = k; indices = is; arity = a }
 
--- the table of document 01; `true` and `false` have no record, and no record has their numbers here
+-- the table of document 01, and kinds 60 to 63 after it; `true` and `false` have no record, and no record has their numbers here
 abbrev pub table : Op → Row
 table True = row 0 [] (exactly 0)
 table False = row 1 [] (exactly 0)
@@ -71,6 +72,10 @@ table BvURem = row 55 [] (exactly 2)
 table BvConcat = row 56 [] many
 table (BvExtract i j) = row 57 (i ∷ j ∷ []) (exactly 1)
 table (SignExtend k) = row 58 (k ∷ []) (exactly 1)
+table (ZeroExtend k) = row 60 (k ∷ []) (exactly 1)
+table (RotateLeft k) = row 61 (k ∷ []) (exactly 1)
+table (RotateRight k) = row 62 (k ∷ []) (exactly 1)
+table (Repeat k) = row 63 (k ∷ []) (exactly 1)
 
 -- a kind's number
 abbrev pub kind : Op → ℕ

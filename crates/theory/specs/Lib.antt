@@ -2,6 +2,7 @@ pub mod Limit
 pub mod Kind
 pub mod Term
 pub mod Sort
+pub mod Move
 pub mod Value
 pub mod Depth
 pub mod Optional

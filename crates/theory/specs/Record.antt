@@ -7,7 +7,7 @@ use Prim.Native.Nat.{ℕ, zero, suc, _+_, _-_, _*_, _/_, _%_, _<_}
 use lib.Dec.{leb, eqb}
 use lib.ListN.{length, take, drop}
 use Rattle.theory.specs.Limit.{max-arguments, number-bytes, value-bytes}
-use Rattle.theory.specs.Kind.{Op, Not, And, Or, Xor, Equals, Ite, BoolVar, BvVar, Const, BvBitOf, BvBbTerm, BvNot, BvNeg, BvAnd, BvOr, BvXor, BvAdd, BvMul, BvXNor, BvComp, BvULt, BvSLt, BvShl, BvLShr, BvAShr, BvUDiv, BvURem, BvConcat, BvExtract, SignExtend, kind, arity, takes}
+use Rattle.theory.specs.Kind.{Op, Not, And, Or, Xor, Equals, Ite, BoolVar, BvVar, Const, BvBitOf, BvBbTerm, BvNot, BvNeg, BvAnd, BvOr, BvXor, BvAdd, BvMul, BvXNor, BvComp, BvULt, BvSLt, BvShl, BvLShr, BvAShr, BvUDiv, BvURem, BvConcat, BvExtract, SignExtend, ZeroExtend, RotateLeft, RotateRight, Repeat, kind, arity, takes}
 
 -- bytes; a record too is its bytes
 abbrev pub Bytes : Type 0
@@ -116,7 +116,8 @@ shapes =
     ∷ indexed BvBitOf ∷ plain BvBbTerm
     ∷ plain BvNot ∷ plain BvNeg ∷ plain BvAnd ∷ plain BvOr ∷ plain BvXor ∷ plain BvAdd ∷ plain BvMul
     ∷ plain BvXNor ∷ plain BvComp ∷ plain BvULt ∷ plain BvSLt ∷ plain BvShl ∷ plain BvLShr ∷ plain BvAShr ∷ plain BvUDiv ∷ plain BvURem
-    ∷ plain BvConcat ∷ twice-indexed BvExtract ∷ indexed SignExtend ∷ []
+    ∷ plain BvConcat ∷ twice-indexed BvExtract ∷ indexed SignExtend
+    ∷ indexed ZeroExtend ∷ indexed RotateLeft ∷ indexed RotateRight ∷ indexed Repeat ∷ []
 
 -- the first of these with the number k
 abbrev pub find-shape : ℕ → List Shape → Option Shape

@@ -1,20 +1,21 @@
--- The 23 rules of bitvectors.rs, and three by the standard: from the literal's tree to the verdict.
+-- The 23 rules of bitvectors.rs, three by the standard, and four that move bits: from the literal's tree to the verdict.
 use mathlib.Core.Bool.{Bool, true, false, _&&_, not, cond}
 use mathlib.Core.List.{List, [], _∷_, map}
 use mathlib.Core.Option.{Option, none, some}
 use Prim.Native.Nat.{ℕ, suc}
 use lib.Dec.{eqb}
 use lib.ListN.{getD}
-use Rattle.theory.specs.Kind.{True, False, And, Or, Xor, Equals, Const, BvBbTerm, BvNot, BvNeg, BvAnd, BvOr, BvXor, BvAdd, BvMul, BvXNor, BvComp, BvULt, BvSLt, BvShl, BvLShr, BvAShr, BvUDiv, BvURem, BvConcat, BvExtract, SignExtend, kind, indices}
+use Rattle.theory.specs.Kind.{True, False, And, Or, Xor, Equals, Const, BvBbTerm, BvNot, BvNeg, BvAnd, BvOr, BvXor, BvAdd, BvMul, BvXNor, BvComp, BvULt, BvSLt, BvShl, BvLShr, BvAShr, BvUDiv, BvURem, BvConcat, BvExtract, SignExtend, ZeroExtend, RotateLeft, RotateRight, Repeat, kind, indices}
 use Rattle.theory.specs.Term.{Term, node, nil, to-list, same-term, two}
 use Rattle.theory.specs.Sort.{is-bv-sort, sort-width, sort-of}
 use Rattle.theory.specs.Value.{to-number}
+use Rattle.theory.specs.Move.{Move, zero-extension, left-rotation, right-rotation, repetition}
 use Rattle.theory.specs.Optional.{collect}
 use Rattle.theory.specs.Gates.{term-gates}
 use Rattle.theory.specs.Circuit.{last, negate, bitblast-ult, slt, equality, shl, lshr, ashr, udiv, urem}
-use Rattle.theory.specs.Bits.{get-term-bits, bb, fold-terms, zipped, add-bits, product, extract-bits, concat-bits, extend-bits, shifted, literally-false, divided}
+use Rattle.theory.specs.Bits.{get-term-bits, bb, fold-terms, zipped, add-bits, product, extract-bits, concat-bits, extend-bits, moved-bits, shifted, literally-false, divided}
 use Rattle.theory.specs.Verdict.{Verdict, held, form-only, wrong-form, not-bit-vector, not-constant, bit-not-literal, other-value, terms-differ, index-not-next}
-use Rattle.theory.specs.RuleTable.{Rule, by-value, by-var, by-and, by-or, by-xor, by-xnor, by-not, by-ult, by-slt, by-add, by-mult, by-neg, by-equality, by-comp, by-extract, by-concat, by-sign-extend, by-shl, by-lshr, by-ashr, by-udiv, by-urem, by-bitwise-slicing, by-udiv-standard, by-urem-standard, by-ashr-standard}
+use Rattle.theory.specs.RuleTable.{Rule, by-value, by-var, by-and, by-or, by-xor, by-xnor, by-not, by-ult, by-slt, by-add, by-mult, by-neg, by-equality, by-comp, by-extract, by-concat, by-sign-extend, by-shl, by-lshr, by-ashr, by-udiv, by-urem, by-bitwise-slicing, by-udiv-standard, by-urem-standard, by-ashr-standard, by-zero-extend, by-rotate-left, by-rotate-right, by-repeat}
 
 -- the kinds with numbers in them: constants
 abbrev pub constant-kind : ℕ
@@ -146,6 +147,11 @@ slicing-rule l r =
     binary (kind BvAnd) l (λ a c.
     form (args-of (kind BvConcat) r) (slices-verdict a c (sort-width (sort-of c))))
 
+-- ---- rules 27 to 30: (= ((_ op k) x) res), by how the operation of kind `op` moves the bits by k, at a width
+-- the claim is the term of the bits moved
+abbrev pub moving-rule : ℕ → (ℕ → ℕ → Move) → Term → Term → Verdict
+moving-rule op move l r = unary op l (λ x. compare held (bb (moved-bits (move (index-of 0 l) (sort-width (sort-of x))) (get-term-bits x))) r)
+
 -- ---- every rule, on (= l r). In rule 16 Rust also compares the number of bits: both sides have one width, so they agree
 -- the rule's verdict
 unfoldable pub on-sides : Rule → Term → Term → Verdict
@@ -177,6 +183,10 @@ on-sides by-bitwise-slicing l r = slicing-rule l r
 on-sides by-udiv-standard l r = on-two held (kind BvUDiv) (divided (udiv term-gates true)) l r
 on-sides by-urem-standard l r = on-two held (kind BvURem) (divided (urem term-gates true)) l r
 on-sides by-ashr-standard l r = on-two held (kind BvAShr) (shifted (ashr term-gates true)) l r
+on-sides by-zero-extend l r = moving-rule (kind (ZeroExtend 0)) zero-extension l r
+on-sides by-rotate-left l r = moving-rule (kind (RotateLeft 0)) left-rotation l r
+on-sides by-rotate-right l r = moving-rule (kind (RotateRight 0)) right-rotation l r
+on-sides by-repeat l r = moving-rule (kind (Repeat 0)) repetition l r
 
 -- the verdict on a clause of one literal
 unfoldable pub verdict : Rule → Term → Verdict

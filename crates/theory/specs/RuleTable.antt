@@ -1,4 +1,4 @@
--- Document 01, "The job": the 23 rules and their numbers; and the three after them, by the standard.
+-- Document 01, "The job": the 23 rules and their numbers; and those after them: three by the standard, four that move bits.
 use mathlib.Core.List.{List, [], _∷_}
 use mathlib.Core.Option.{Option, none}
 use Prim.Native.Nat.{ℕ, zero, suc}
@@ -9,13 +9,15 @@ pub data Rule : Type 0 where
   by-value by-var by-and by-or by-xor by-xnor by-not by-ult by-slt by-add by-mult by-neg : Rule
   by-equality by-comp by-extract by-concat by-sign-extend by-shl by-lshr by-ashr by-udiv by-urem by-bitwise-slicing : Rule
   by-udiv-standard by-urem-standard by-ashr-standard : Rule
+  by-zero-extend by-rotate-left by-rotate-right by-repeat : Rule
 
--- rules 1 to 26, in this order
+-- rules 1 to 30, in this order
 abbrev pub rules : List Rule
 rules =
     by-value ∷ by-var ∷ by-and ∷ by-or ∷ by-xor ∷ by-xnor ∷ by-not ∷ by-ult ∷ by-slt ∷ by-add ∷ by-mult ∷ by-neg
     ∷ by-equality ∷ by-comp ∷ by-extract ∷ by-concat ∷ by-sign-extend ∷ by-shl ∷ by-lshr ∷ by-ashr ∷ by-udiv ∷ by-urem ∷ by-bitwise-slicing
-    ∷ by-udiv-standard ∷ by-urem-standard ∷ by-ashr-standard ∷ []
+    ∷ by-udiv-standard ∷ by-urem-standard ∷ by-ashr-standard
+    ∷ by-zero-extend ∷ by-rotate-left ∷ by-rotate-right ∷ by-repeat ∷ []
 
 -- the rule of a number, counted from 1
 abbrev pub rule-at : ℕ → Option Rule

@@ -1,11 +1,11 @@
 -- Document 01, "The job" and code 7: the sort of a term, Bool or a bit-vector of width 1 to 64.
 use mathlib.Core.Bool.{Bool, true, false, _&&_}
 use mathlib.Core.List.{List, [], _∷_}
-use Prim.Native.Nat.{ℕ, suc, _+_, _-_, _^_}
+use Prim.Native.Nat.{ℕ, suc, _+_, _-_, _*_, _^_}
 use lib.Dec.{leb, ltb, eqb}
 use lib.ListN.{length}
 use Rattle.theory.specs.Limit.{max-width}
-use Rattle.theory.specs.Kind.{Op, True, False, Not, And, Or, Xor, Equals, Ite, BoolVar, BvVar, Const, BvBitOf, BvBbTerm, BvNot, BvNeg, BvAnd, BvOr, BvXor, BvAdd, BvMul, BvXNor, BvComp, BvULt, BvSLt, BvShl, BvLShr, BvAShr, BvUDiv, BvURem, BvConcat, BvExtract, SignExtend, arity, takes}
+use Rattle.theory.specs.Kind.{Op, True, False, Not, And, Or, Xor, Equals, Ite, BoolVar, BvVar, Const, BvBitOf, BvBbTerm, BvNot, BvNeg, BvAnd, BvOr, BvXor, BvAdd, BvMul, BvXNor, BvComp, BvULt, BvSLt, BvShl, BvLShr, BvAShr, BvUDiv, BvURem, BvConcat, BvExtract, SignExtend, ZeroExtend, RotateLeft, RotateRight, Repeat, arity, takes}
 use Rattle.theory.specs.Term.{Term, Terms, fold, folds}
 
 -- `bad` is the sort of a term that does not fit
@@ -110,6 +110,10 @@ fitting BvURem ss = alike ss
 fitting BvConcat ss = all-bv ss && width (sum-widths ss)
 fitting (BvExtract i j) ss = is-bv-sort (first ss) && (leb j i && ltb i (sort-width (first ss)))
 fitting (SignExtend k) ss = is-bv-sort (first ss) && leb (sort-width (first ss) + k) max-width
+fitting (ZeroExtend k) ss = is-bv-sort (first ss) && leb (sort-width (first ss) + k) max-width
+fitting (RotateLeft k) ss = alike ss
+fitting (RotateRight k) ss = alike ss
+fitting (Repeat k) ss = is-bv-sort (first ss) && width (k * sort-width (first ss))
 
 -- the sort of the result, where they fit
 abbrev pub result-sort : Op → List Sort → Sort
@@ -145,6 +149,10 @@ result-sort BvURem ss = first ss
 result-sort BvConcat ss = bv (sum-widths ss)
 result-sort (BvExtract i j) ss = bv (suc (i - j))
 result-sort (SignExtend k) ss = bv (sort-width (first ss) + k)
+result-sort (ZeroExtend k) ss = bv (sort-width (first ss) + k)
+result-sort (RotateLeft k) ss = first ss
+result-sort (RotateRight k) ss = first ss
+result-sort (Repeat k) ss = bv (k * sort-width (first ss))
 
 -- the sort of a term, from the sorts of its arguments
 abbrev pub sort-op : Op → List Sort → Sort

@@ -5,10 +5,11 @@ use Prim.Native.Nat.{ℕ, suc, _+_, _-_, _*_, _/_, _%_, _^_, _<_}
 use lib.Bits.{bitAnd, bitOr, bitXor}
 use lib.Dec.{ltb, eqb}
 use lib.IntN.{ℤ, subℕ}
-use lib.ListN.{length, getD}
+use lib.ListN.{length, getD, replicate}
 use lib.Signed.{ltZ}
-use Rattle.theory.specs.Kind.{Op, True, False, Not, And, Or, Xor, Equals, Ite, BoolVar, BvVar, Const, BvBitOf, BvBbTerm, BvNot, BvNeg, BvAnd, BvOr, BvXor, BvAdd, BvMul, BvXNor, BvComp, BvULt, BvSLt, BvShl, BvLShr, BvAShr, BvUDiv, BvURem, BvConcat, BvExtract, SignExtend}
+use Rattle.theory.specs.Kind.{Op, True, False, Not, And, Or, Xor, Equals, Ite, BoolVar, BvVar, Const, BvBitOf, BvBbTerm, BvNot, BvNeg, BvAnd, BvOr, BvXor, BvAdd, BvMul, BvXNor, BvComp, BvULt, BvSLt, BvShl, BvLShr, BvAShr, BvUDiv, BvURem, BvConcat, BvExtract, SignExtend, ZeroExtend, RotateLeft, RotateRight, Repeat}
 use Rattle.theory.specs.Term.{Term, Terms, fold, folds}
+use Rattle.theory.specs.Move.{Move, moved, left-rotation, right-rotation}
 
 -- what each variable stands for: told apart by sort and name
 pub record Assign : Type 0 where
@@ -154,6 +155,18 @@ signed n x = subℕ (x % 2 ^ (n - 1)) (bit (bit-at (n - 1) x) * 2 ^ (n - 1))
 abbrev pub concat2 : Val → Val → Val
 concat2 u v = number (value-width u + value-width v) (number-of u * 2 ^ value-width v + number-of v)
 
+-- the bits of x moved
+abbrev pub moved-n : Move → ℕ → ℕ
+moved-n v x = to-number (moved v (λ i. bit-at i x))
+
+-- bit i to place i + k, modulo the width
+unfoldable pub rotate-left-n : ℕ → ℕ → ℕ → ℕ
+rotate-left-n k n x = moved-n (left-rotation k n) x
+
+-- bit i to place i - k, modulo the width
+unfoldable pub rotate-right-n : ℕ → ℕ → ℕ → ℕ
+rotate-right-n k n x = moved-n (right-rotation k n) x
+
 -- the value of a term, from the values of its arguments
 unfoldable pub meaning : Assign → Op → List Val → Val
 meaning ρ True vs = truth true
@@ -191,6 +204,10 @@ meaning ρ (BvExtract i j) vs = number (suc (i - j)) (number-of (arg 0 vs) / 2 ^
 meaning ρ (SignExtend k) vs =
     let x = arg 0 vs in
     number (value-width x + k) (number-of x + cond (bit-at (value-width x - 1) (number-of x)) (2 ^ (value-width x + k) - 2 ^ value-width x) 0)
+meaning ρ (ZeroExtend k) vs = number (value-width (arg 0 vs) + k) (number-of (arg 0 vs))
+meaning ρ (RotateLeft k) vs = num1 (rotate-left-n k) (arg 0 vs)
+meaning ρ (RotateRight k) vs = num1 (rotate-right-n k) (arg 0 vs)
+meaning ρ (Repeat k) vs = fold1 concat2 (replicate k (arg 0 vs))
 
 -- the value of a term under an assignment
 abbrev pub value : Assign → Term → Val

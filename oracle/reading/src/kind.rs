@@ -33,6 +33,10 @@ pub const BV_UREM: u16 = 55;
 pub const CONCAT: u16 = 56;
 pub const EXTRACT: u16 = 57;
 pub const SIGN_EXTEND: u16 = 58;
+pub const ZERO_EXTEND: u16 = 60;
+pub const ROTATE_LEFT: u16 = 61;
+pub const ROTATE_RIGHT: u16 = 62;
+pub const REPEAT: u16 = 63;
 pub const STEP: u16 = 100;
 pub const BACK: u16 = 101;
 
@@ -53,7 +57,7 @@ pub fn shape(kind: u16) -> Option<Shape> {
         XOR | EQUALS | BV_XNOR..=BV_UREM => (0, 2, 2),
         ITE => (0, 3, 3),
         AND | OR | BB_TERM | BV_AND..=BV_MUL | CONCAT => (0, 1, 64),
-        BIT_OF | SIGN_EXTEND => (2, 1, 1),
+        BIT_OF | SIGN_EXTEND | ZERO_EXTEND..=REPEAT => (2, 1, 1),
         EXTRACT => (4, 1, 1),
         _ => return None,
     };

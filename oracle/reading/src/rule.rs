@@ -4,7 +4,7 @@ use crate::kind::*;
 use crate::pool::{Id, NO, Pool, YES};
 use crate::sort::Sort;
 
-pub const RULES: [&str; 26] = [
+pub const RULES: [&str; 30] = [
     "value",
     "var",
     "and",
@@ -31,6 +31,10 @@ pub const RULES: [&str; 26] = [
     "udiv, standard",
     "urem, standard",
     "ashr, standard",
+    "zero_extend",
+    "rotate_left",
+    "rotate_right",
+    "repeat",
 ];
 
 /// The kind of the left side; rules 1 and 2 ask for none.
@@ -56,6 +60,10 @@ pub fn left_kind(rule: u16) -> Option<u16> {
         20 | 26 => BV_ASHR,
         21 | 24 => BV_UDIV,
         22 | 25 => BV_UREM,
+        27 => ZERO_EXTEND,
+        28 => ROTATE_LEFT,
+        29 => ROTATE_RIGHT,
+        30 => REPEAT,
         _ => return None,
     })
 }
@@ -181,6 +189,19 @@ pub fn expected(pool: &mut Pool, rule: u16, left: Id) -> Id {
             let (quotient, remainder) = pool.divided(args[0], args[1], divider);
             if term.kind == BV_UDIV { quotient } else { remainder }
         }
+        27 => {
+            let mut x = pool.bits(args[0]);
+            x.resize(pool.width(left), NO);
+            x
+        }
+        28 | 29 => {
+            let x = pool.bits(args[0]);
+            let (n, k) = (x.len(), term.numbers[0] as usize);
+            // Rotated left, bit i is at place i + k: place i has the bit that is k places lower.
+            let moved = |i: usize| if rule == 28 { (i + n - k % n) % n } else { (i + k) % n };
+            (0..n).map(|i| x[moved(i)]).collect()
+        }
+        30 => pool.bits(args[0]).repeat(term.numbers[0] as usize),
         _ => unreachable!("rule {rule} expects no one term"),
     };
     pool.bb(&bits)

@@ -12,6 +12,12 @@ fn signed(x: u64, width: usize) -> i128 {
     (i128::from(x) ^ top) - top
 }
 
+/// Bit i comes to place i + k, modulo the width; `k` is at most the width.
+fn rotated_left(x: u64, width: usize, k: usize) -> u64 {
+    let x = u128::from(x);
+    (x << k | x >> (width - k)) as u64 & ones(width)
+}
+
 /// The value of one term from its arguments' values `v`; `n` is the width of its first argument, `m` its own, 1 for a Bool.
 fn value(term: &Term, v: &[u64], n: usize, m: usize, widths: &[usize]) -> u64 {
     let all = ones(m);
@@ -54,6 +60,10 @@ fn value(term: &Term, v: &[u64], n: usize, m: usize, widths: &[usize]) -> u64 {
         CONCAT => v.iter().zip(widths).fold(0u128, |a, (&b, w)| a << w | u128::from(b)) as u64,
         EXTRACT => v[0] >> term.numbers[1] & all,
         SIGN_EXTEND => signed(v[0], n) as u64 & all,
+        ZERO_EXTEND => v[0],
+        ROTATE_LEFT => rotated_left(v[0], n, term.numbers[0] as usize % n),
+        ROTATE_RIGHT => rotated_left(v[0], n, n - term.numbers[0] as usize % n),
+        REPEAT => (0..term.numbers[0]).fold(0u128, |a, _| a << n | u128::from(v[0])) as u64,
         kind => unreachable!("kind {kind} has no value"),
     }
 }

@@ -190,6 +190,57 @@ fn the_standards_circuits() {
     }
 }
 
+/// Amounts that fit and that do not, on a variable of width 2 or 16: the job's stop code.
+#[test]
+fn amounts() {
+    let code = |kind: u16, width: u16, k: u16| {
+        let mut maker = Maker::new(0);
+        maker.words(VARIABLE, &[width, 0]);
+        maker.words(kind, &[k, 2]);
+        stop(&maker.bytes, 800, 0)
+    };
+    for (kind, width, fit, unfit) in [
+        (ZERO_EXTEND, 1, &[0, 1, 63][..], &[64, 65, 65_535][..]),
+        (ZERO_EXTEND, 16, &[0, 48], &[49, 63, 64]),
+        (ROTATE_LEFT, 2, &[0, 1, 2, 3, 65_535], &[]),
+        (ROTATE_RIGHT, 64, &[0, 63, 64, 65, 65_535], &[]),
+        (REPEAT, 1, &[1, 2, 64], &[0, 65, 65_535]),
+        (REPEAT, 16, &[1, 4], &[0, 5, 64]),
+    ] {
+        assert!(fit.iter().all(|&k| code(kind, width, k) == 0), "kind {kind} width {width}");
+        assert!(unfit.iter().all(|&k| code(kind, width, k) == 7), "kind {kind} width {width}");
+    }
+}
+
+/// Rules 27 to 30 on variables of width 3 and 4: the bits that they claim.
+#[test]
+fn moved_bits() {
+    let code = |rule: u16, kind: u16, width: usize, k: u64, places: &[usize]| {
+        let build = |m: &mut Maker| {
+            let x = m.variable(width, 0);
+            let left = m.pool.add(kind, &[k], &[x]);
+            let bits: Vec<Id> = places.iter().map(|&i| if i < width { m.pool.bit(i, x) } else { NO }).collect();
+            (left, m.pool.bb(&bits))
+        };
+        claim(rule, build).0
+    };
+    assert_eq!(code(27, ZERO_EXTEND, 3, 2, &[0, 1, 2, 9, 9]), 0);
+    assert_eq!(code(27, ZERO_EXTEND, 3, 2, &[9, 9, 0, 1, 2]), 16);
+    assert_eq!(code(28, ROTATE_LEFT, 4, 1, &[3, 0, 1, 2]), 0);
+    assert_eq!(code(28, ROTATE_LEFT, 4, 65_535, &[1, 2, 3, 0]), 0);
+    assert_eq!(code(29, ROTATE_RIGHT, 4, 1, &[1, 2, 3, 0]), 0);
+    assert_eq!(code(29, ROTATE_RIGHT, 4, 1, &[3, 0, 1, 2]), 16);
+    assert_eq!(code(29, ROTATE_LEFT, 4, 1, &[1, 2, 3, 0]), 11);
+    assert_eq!(code(30, REPEAT, 3, 2, &[0, 1, 2, 0, 1, 2]), 0);
+    assert_eq!(code(30, REPEAT, 3, 2, &[0, 1, 2, 9, 9, 9]), 16);
+    let itself = |m: &mut Maker| {
+        let x = m.variable(3, 0);
+        (m.pool.add(ZERO_EXTEND, &[0], &[x]), x)
+    };
+    assert_eq!(claim(27, itself).0, 16);
+    assert_eq!(code(27, ZERO_EXTEND, 3, 0, &[0, 1, 2]), 0);
+}
+
 /// Rule 20 on a BvBbTerm of two bits: held exactly where its last bit is `false` itself.
 #[test]
 fn an_arithmetic_shift_is_held_below_a_literal_false() {

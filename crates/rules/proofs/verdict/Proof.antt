@@ -3,7 +3,7 @@ use mathlib.Core.Path.{refl}
 use borrow.Author.Needs.{needs}
 use denote.Ref.{now}
 use Rattle.theory.specs.Term.{Term}
-use Rattle.theory.specs.RuleTable.{by-value, by-var, by-and, by-or, by-xor, by-xnor, by-not, by-ult, by-slt, by-add, by-mult, by-neg, by-equality, by-comp, by-extract, by-concat, by-sign-extend, by-shl, by-lshr, by-ashr, by-udiv, by-urem, by-bitwise-slicing, by-udiv-standard, by-urem-standard, by-ashr-standard}
+use Rattle.theory.specs.RuleTable.{by-value, by-var, by-and, by-or, by-xor, by-xnor, by-not, by-ult, by-slt, by-add, by-mult, by-neg, by-equality, by-comp, by-extract, by-concat, by-sign-extend, by-shl, by-lshr, by-ashr, by-udiv, by-urem, by-bitwise-slicing, by-udiv-standard, by-urem-standard, by-ashr-standard, by-zero-extend, by-rotate-left, by-rotate-right, by-repeat}
 use Rattle.operand_rules.specs.Rules.{tree}
 use Rattle.rules.proofs.Numbered.{by-number, by-none}
 use Rattle.rules.proofs.verdict.Statement.{statement}
@@ -92,12 +92,28 @@ returns-26 : tie.Need-returns-26
 returns-26 c = by-number (literal (c .before .before .before .before)) 26 by-ashr-standard (c .before .match .keys26) refl (c .ashr-standard .ensures)
 
 returns-27 : tie.Need-returns-27
-returns-27 c = let m = c .match .rest in by-none (literal (c .before .before .before)) (m .0 .0 .0 .0 .0 .0 .0 .0 .0 .0 .0 .0 .0 .0 .0 .0 .0 .0 .0 .0 .0 .0 .0 .0 .0 .1, (m .0 .0 .0 .0 .0 .0 .0 .0 .0 .0 .0 .0 .0 .0 .0 .0 .0 .0 .0 .0 .0 .0 .0 .0 .1, (m .0 .0 .0 .0 .0 .0 .0 .0 .0 .0 .0 .0 .0 .0 .0 .0 .0 .0 .0 .0 .0 .0 .0 .1, (m .0 .0 .0 .0 .0 .0 .0 .0 .0 .0 .0 .0 .0 .0 .0 .0 .0 .0 .0 .0 .0 .0 .1, (m .0 .0 .0 .0 .0 .0 .0 .0 .0 .0 .0 .0 .0 .0 .0 .0 .0 .0 .0 .0 .0 .1, (m .0 .0 .0 .0 .0 .0 .0 .0 .0 .0 .0 .0 .0 .0 .0 .0 .0 .0 .0 .0 .1, (m .0 .0 .0 .0 .0 .0 .0 .0 .0 .0 .0 .0 .0 .0 .0 .0 .0 .0 .0 .1, (m .0 .0 .0 .0 .0 .0 .0 .0 .0 .0 .0 .0 .0 .0 .0 .0 .0 .0 .1, (m .0 .0 .0 .0 .0 .0 .0 .0 .0 .0 .0 .0 .0 .0 .0 .0 .0 .1, (m .0 .0 .0 .0 .0 .0 .0 .0 .0 .0 .0 .0 .0 .0 .0 .0 .1, (m .0 .0 .0 .0 .0 .0 .0 .0 .0 .0 .0 .0 .0 .0 .0 .1, (m .0 .0 .0 .0 .0 .0 .0 .0 .0 .0 .0 .0 .0 .0 .1, (m .0 .0 .0 .0 .0 .0 .0 .0 .0 .0 .0 .0 .0 .1, (m .0 .0 .0 .0 .0 .0 .0 .0 .0 .0 .0 .0 .1, (m .0 .0 .0 .0 .0 .0 .0 .0 .0 .0 .0 .1, (m .0 .0 .0 .0 .0 .0 .0 .0 .0 .0 .1, (m .0 .0 .0 .0 .0 .0 .0 .0 .0 .1, (m .0 .0 .0 .0 .0 .0 .0 .0 .1, (m .0 .0 .0 .0 .0 .0 .0 .1, (m .0 .0 .0 .0 .0 .0 .1, (m .0 .0 .0 .0 .0 .1, (m .0 .0 .0 .0 .1, (m .0 .0 .0 .1, (m .0 .0 .1, (m .0 .1, (m .1, tt)))))))))))))))))))))))))) refl
+returns-27 c = by-number (literal (c .before .before .before .before)) 27 by-zero-extend (c .before .match .keys27) refl (c .zero-extend .ensures)
+
+returns-28 : tie.Need-returns-28
+returns-28 c = by-number (literal (c .before .before .before .before)) 28 by-rotate-left (c .before .match .keys28) refl (c .rotate-left .ensures)
+
+returns-29 : tie.Need-returns-29
+returns-29 c = by-number (literal (c .before .before .before .before)) 29 by-rotate-right (c .before .match .keys29) refl (c .rotate-right .ensures)
+
+returns-30 : tie.Need-returns-30
+returns-30 c = by-number (literal (c .before .before .before .before)) 30 by-repeat (c .before .match .keys30) refl (c .repeat .ensures)
+
+returns-31 : tie.Need-returns-31
+returns-31 c = let m = c .match .rest in by-none (literal (c .before .before .before)) (m .0 .0 .0 .0 .0 .0 .0 .0 .0 .0 .0 .0 .0 .0 .0 .0 .0 .0 .0 .0 .0 .0 .0 .0 .0 .0 .0 .0 .0 .1, (m .0 .0 .0 .0 .0 .0 .0 .0 .0 .0 .0 .0 .0 .0 .0 .0 .0 .0 .0 .0 .0 .0 .0 .0 .0 .0 .0 .0 .1, (m .0 .0 .0 .0 .0 .0 .0 .0 .0 .0 .0 .0 .0 .0 .0 .0 .0 .0 .0 .0 .0 .0 .0 .0 .0 .0 .0 .1, (m .0 .0 .0 .0 .0 .0 .0 .0 .0 .0 .0 .0 .0 .0 .0 .0 .0 .0 .0 .0 .0 .0 .0 .0 .0 .0 .1, (m .0 .0 .0 .0 .0 .0 .0 .0 .0 .0 .0 .0 .0 .0 .0 .0 .0 .0 .0 .0 .0 .0 .0 .0 .0 .1, (m .0 .0 .0 .0 .0 .0 .0 .0 .0 .0 .0 .0 .0 .0 .0 .0 .0 .0 .0 .0 .0 .0 .0 .0 .1, (m .0 .0 .0 .0 .0 .0 .0 .0 .0 .0 .0 .0 .0 .0 .0 .0 .0 .0 .0 .0 .0 .0 .0 .1, (m .0 .0 .0 .0 .0 .0 .0 .0 .0 .0 .0 .0 .0 .0 .0 .0 .0 .0 .0 .0 .0 .0 .1, (m .0 .0 .0 .0 .0 .0 .0 .0 .0 .0 .0 .0 .0 .0 .0 .0 .0 .0 .0 .0 .0 .1, (m .0 .0 .0 .0 .0 .0 .0 .0 .0 .0 .0 .0 .0 .0 .0 .0 .0 .0 .0 .0 .1, (m .0 .0 .0 .0 .0 .0 .0 .0 .0 .0 .0 .0 .0 .0 .0 .0 .0 .0 .0 .1, (m .0 .0 .0 .0 .0 .0 .0 .0 .0 .0 .0 .0 .0 .0 .0 .0 .0 .0 .1, (m .0 .0 .0 .0 .0 .0 .0 .0 .0 .0 .0 .0 .0 .0 .0 .0 .0 .1, (m .0 .0 .0 .0 .0 .0 .0 .0 .0 .0 .0 .0 .0 .0 .0 .0 .1, (m .0 .0 .0 .0 .0 .0 .0 .0 .0 .0 .0 .0 .0 .0 .0 .1, (m .0 .0 .0 .0 .0 .0 .0 .0 .0 .0 .0 .0 .0 .0 .1, (m .0 .0 .0 .0 .0 .0 .0 .0 .0 .0 .0 .0 .0 .1, (m .0 .0 .0 .0 .0 .0 .0 .0 .0 .0 .0 .0 .1, (m .0 .0 .0 .0 .0 .0 .0 .0 .0 .0 .0 .1, (m .0 .0 .0 .0 .0 .0 .0 .0 .0 .0 .1, (m .0 .0 .0 .0 .0 .0 .0 .0 .0 .1, (m .0 .0 .0 .0 .0 .0 .0 .0 .1, (m .0 .0 .0 .0 .0 .0 .0 .1, (m .0 .0 .0 .0 .0 .0 .1, (m .0 .0 .0 .0 .0 .1, (m .0 .0 .0 .0 .1, (m .0 .0 .0 .1, (m .0 .0 .1, (m .0 .1, (m .1, tt)))))))))))))))))))))))))))))) refl
 
 pub verdict-spec : {M : Type 1} → statement M
 verdict-spec =
     tie.close
     (tie.spec
+    (λ c κs. search needs)
+    (λ c κs. search needs)
+    (λ c κs. search needs)
+    (λ c κs. search needs)
     (λ c κs. search needs)
     (λ c κs. search needs)
     (λ c κs. search needs)
@@ -150,4 +166,8 @@ verdict-spec =
     returns-24
     returns-25
     returns-26
-    returns-27)
+    returns-27
+    returns-28
+    returns-29
+    returns-30
+    returns-31)

@@ -28,7 +28,7 @@ impl Maker {
 
     fn count_of_operands(&mut self, rule: u16, width: usize) -> usize {
         match rule {
-            7 | 12 | 15 | 17 => 1,
+            7 | 12 | 15 | 17 | 27..=30 => 1,
             3..=5 | 10 if width < 4 && self.rng.chance(10) => 64,
             3..=5 | 10 => self.rng.pick(&[1, 2, 2, 2, 3, 5]),
             11 => self.rng.pick(&[1, 2, 2, 2, 3]),
@@ -55,9 +55,22 @@ impl Maker {
                 vec![i as u64, self.rng.range(0, i) as u64]
             }
             SIGN_EXTEND => vec![self.rng.range(0, 64 - width) as u64],
+            ZERO_EXTEND..=REPEAT => vec![self.amount(kind, width) as u64],
             _ => vec![],
         };
         self.pool.add(kind, &numbers, &args)
+    }
+
+    /// An amount that fits, often the smallest or largest one.
+    fn amount(&mut self, kind: u16, width: usize) -> usize {
+        let most = match kind {
+            ZERO_EXTEND => 64 - width,
+            REPEAT => 64 / width,
+            _ => 65_535,
+        };
+        let any = self.rng.range(0, most);
+        let amount = self.rng.pick(&[0, 1, width - 1, width, width + 1, most, any, any % 64]);
+        amount.clamp(usize::from(kind == REPEAT), most)
     }
 
     /// A vector whose top bit is false, said in different ways, or only its lowest bit.

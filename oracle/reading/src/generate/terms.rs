@@ -69,9 +69,11 @@ impl Maker {
                 self.pool.bb(&bits)
             }
             5 => {
-                let kind = self.rng.pick(&[BV_NOT, BV_NEG]);
+                let kind = self.rng.pick(&[BV_NOT, BV_NEG, ROTATE_LEFT, ROTATE_RIGHT]);
                 let x = self.vector(width, nesting - 1);
-                self.pool.op(kind, &[x])
+                let amount = [self.rng.below(2 * width) as u64];
+                let own = if kind == BV_NOT || kind == BV_NEG { &amount[..0] } else { &amount };
+                self.pool.add(kind, own, &[x])
             }
             6 | 7 => {
                 let kind = self.rng.pick(&[BV_AND, BV_OR, BV_XOR, BV_ADD, BV_MUL, BV_XNOR, BV_SHL, BV_ASHR, BV_UREM]);
@@ -93,8 +95,12 @@ impl Maker {
                 self.pool.add(EXTRACT, &[(low + width - 1) as u64, low as u64], &[x])
             }
             1 => {
+                let (kind, x) = (self.rng.pick(&[SIGN_EXTEND, ZERO_EXTEND]), self.vector(shorter, nesting));
+                self.pool.add(kind, &[(width - shorter) as u64], &[x])
+            }
+            2 if width.is_multiple_of(shorter) => {
                 let x = self.vector(shorter, nesting);
-                self.pool.add(SIGN_EXTEND, &[(width - shorter) as u64], &[x])
+                self.pool.add(REPEAT, &[(width / shorter) as u64], &[x])
             }
             _ if shorter < width => {
                 let (x, y) = (self.vector(width - shorter, nesting), self.vector(shorter, nesting));

@@ -72,7 +72,7 @@ impl Maker {
             let k = self.rng.below(args.len());
             args[k] = self.stranger(args[k]);
         } else {
-            kind = self.rng.range(usize::from(BV_NOT), usize::from(CONCAT)) as u16;
+            kind = self.rng.range(usize::from(BV_NOT), usize::from(REPEAT)) as u16;
         }
         let fits =
             shape(kind).is_some_and(|s| s.own == 2 * term.numbers.len() && (s.least..=s.most).contains(&args.len()));
@@ -126,9 +126,27 @@ impl Maker {
                 let beyond = self.rng.pick(&[x[0], x[x.len() - 1], NO, YES]);
                 self.pool.shifted(BV_ASHR, args[0], args[1], beyond)
             }
+            27..=30 => self.misplaced(rule, left),
             _ => return None,
         };
         Some(self.pool.bb(&bits))
+    }
+
+    /// The operand's bits moved otherwise: the other way or one place too far, zeros below, a copy fewer, copies of bits.
+    fn misplaced(&mut self, rule: u16, left: Id) -> Vec<Id> {
+        let (x, width) = (self.pool.args(left)[0], self.pool.width(left));
+        let (mut x, amount) = (self.pool.bits(x), self.pool.term(left).numbers[0] as usize);
+        let (added, top) = (width - x.len(), x[x.len() - 1]);
+        match (rule, self.rng.below(2)) {
+            (27, 0) => return [vec![NO; added], x].concat(),
+            (27, _) => x.resize(width, top),
+            (28 | 29, 0) => x.rotate_left((amount + 1) % width),
+            (28, _) => x.rotate_left(amount % width),
+            (29, _) => x.rotate_right(amount % width),
+            (_, 0) => return [x.repeat(amount - 1), vec![NO; x.len()]].concat(),
+            _ => return (0..width).map(|i| x[i / amount]).collect(),
+        }
+        x
     }
 
     /// The circuit of another rule over the same operands, or the rule's with its operands the other way round.

@@ -68,6 +68,9 @@ returns-14 c = let s = c .before .before .before .before in depth-of (first-is s
 returns-15 : tie.Need-returns-15
 returns-15 c = let s = c .before .before .before .before in depth-of (first-is s) (deepest-is s) (c .enum-told16 .given .1) refl
 
+returns-16 : tie.Need-returns-16
+returns-16 c = let s = c .before .before .before .before in depth-of (first-is s) (deepest-is s) (c .enum-told17 .given .1) refl
+
 pub asked-depth-spec : {M : Type 1} → statement M
 asked-depth-spec =
     tie.close
@@ -81,6 +84,7 @@ asked-depth-spec =
     (λ c κs. search needs)
     (λ c. search needs)
     (λ c κs. search needs)
+    (λ c. search needs)
     (λ c. search needs)
     (λ c. search needs)
     (λ c. search needs)
@@ -108,4 +112,5 @@ asked-depth-spec =
     returns-12
     returns-13
     returns-14
-    returns-15)
+    returns-15
+    returns-16)

@@ -14,7 +14,7 @@ use Rattle.store.specs.Store.{listed}
 use Rattle.store.specs.Sorts.{sorts-at}
 use Rattle.store.proofs.Arguments.{count-length}
 use Rattle.intern.proofs.Arguing.{count-few}
-use Rattle.intern.proofs.Asking.{asked, asked-bit, asked-bits, asked-alike, asked-extract, asked-extend}
+use Rattle.intern.proofs.Asking.{asked, asked-bit, asked-bits, asked-alike, asked-extract, asked-extend, asked-copies}
 use Rattle.intern.proofs.kinds.asked_sort.Statement.{statement}
 use Rattle.intern.proofs.kinds.asked_sort.Tie as tie
 
@@ -22,8 +22,8 @@ use Rattle.intern.proofs.kinds.asked_sort.Tie as tie
 abbrev sorts : tie.Start → List Sort
 sorts s = let a = s .args in sorts-at (listed (now (a .job)) (now (a .work)) (a .n)) (numbers-of (now (a .job)) (a .ops))
 
-cast-t23 : tie.Need-cast-t23
-cast-t23 c = let s = c .before .before .before .before .before .before in omega (arith, count-few (now (s .args .job)) (s .args .ops) (s .pre .placed), c .count .ensures)
+cast-t24 : tie.Need-cast-t24
+cast-t24 c = let s = c .before .before .before .before .before .before in omega (arith, count-few (now (s .args .job)) (s .args .ops) (s .pre .placed), c .count .ensures)
 
 returns : tie.Need-returns
 returns c = asked (sorts (c .before .before .before .before)) (c .enum-told .given .1) refl
@@ -66,6 +66,9 @@ returns-12 c = asked-extract (sorts (c .before .before .before .before .before .
 returns-13 : tie.Need-returns-13
 returns-13 c = asked-extend (sorts (c .before .before .before .before .before .before .before)) (c .before .before .before .asks5 .given .1) (c .before .first-sort4 .ensures) (c .of-extend .ensures)
 
+returns-14 : tie.Need-returns-14
+returns-14 c = asked-copies (sorts (c .before .before .before .before .before .before .before)) (c .before .before .before .asks6 .given .1) (c .before .first-sort5 .ensures) (c .of-copies .ensures)
+
 pub asked-sort-spec : {M : Type 1} → statement M
 asked-sort-spec =
     tie.close
@@ -87,7 +90,7 @@ asked-sort-spec =
     (λ c. search needs)
     (λ c κs. search needs)
     (λ c κs. search needs)
-    cast-t23
+    cast-t24
     (λ c κs. search needs)
     (λ c. search needs)
     (λ c κs. search needs)
@@ -100,6 +103,9 @@ asked-sort-spec =
     (λ c κs. search needs)
     (λ c κs. search needs)
     (λ c. search needs)
+    (λ c κs. search needs)
+    (λ c. search needs)
+    (λ c κs. search needs)
     (λ c κs. search needs)
     (λ c. search needs)
     (λ c κs. search needs)
@@ -119,4 +125,5 @@ asked-sort-spec =
     returns-10
     returns-11
     returns-12
-    returns-13)
+    returns-13
+    returns-14)

@@ -1,7 +1,7 @@
 use borrow.Author.Needs.{needs}
 use mathlib.Core.Path.{refl}
 use Prim.Native.Nat.{_-_}
-use Rattle.theory.specs.Alethe.{bit-of}
+use Rattle.theory.specs.Move.{bit-of}
 use Rattle.theory.proofs.Bytes.{words-length}
 use Rattle.terms.specs.Decoded.{words-in}
 use Rattle.circuits.proofs.FillLaws.{Filling, fill-start, fill-turn, reached}

@@ -71,7 +71,19 @@ returns-19 : tie.Need-returns-19
 returns-19 c = record { says = indexed-one (look (c .before)) 58 K.SignExtend refl (λ i. refl) (c .match .keys19); placed = tt }
 
 returns-20 : tie.Need-returns-20
-returns-20 c = record { says = nothing (look (c .before) .fit) (none-from-40 (c .before .before .before .before .before .pre .1) (c .match .rest)); placed = tt }
+returns-20 c = record { says = indexed-one (look (c .before)) 60 K.ZeroExtend refl (λ i. refl) (c .match .keys20); placed = tt }
+
+returns-21 : tie.Need-returns-21
+returns-21 c = record { says = indexed-one (look (c .before)) 61 K.RotateLeft refl (λ i. refl) (c .match .keys21); placed = tt }
+
+returns-22 : tie.Need-returns-22
+returns-22 c = record { says = indexed-one (look (c .before)) 62 K.RotateRight refl (λ i. refl) (c .match .keys22); placed = tt }
+
+returns-23 : tie.Need-returns-23
+returns-23 c = record { says = indexed-one (look (c .before)) 63 K.Repeat refl (λ i. refl) (c .match .keys23); placed = tt }
+
+returns-24 : tie.Need-returns-24
+returns-24 c = record { says = nothing (look (c .before) .fit) (none-from-40 (c .before .before .before .before .before .pre .1) (c .match .rest)); placed = tt }
 
 pub bv-term-spec : {M : Type 1} → statement M
 bv-term-spec =
@@ -102,4 +114,8 @@ bv-term-spec =
     returns-17
     returns-18
     returns-19
-    returns-20)
+    returns-20
+    returns-21
+    returns-22
+    returns-23
+    returns-24)

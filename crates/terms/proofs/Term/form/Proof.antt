@@ -5,7 +5,7 @@ use borrow.Author.Needs.{needs}
 use Rattle.theory.specs.Record.{plain, indexed, twice-indexed, valued}
 use Rattle.theory.specs.Kind as K
 use Rattle.terms.specs.Bodies.{form-of}
-use Rattle.terms.proofs.Forms.{past, known-form, known-row, none-low, none-middle, none-high}
+use Rattle.terms.proofs.Forms.{past, known-form, known-row, none-low, none-middle, none-over}
 use Rattle.terms.proofs.Term.form.Statement.{statement}
 use Rattle.terms.proofs.Term.form.Tie as tie
 
@@ -40,28 +40,41 @@ returns-10 : tie.Need-returns-10
 returns-10 c = known-form 58 (indexed K.SignExtend) refl (c .match .keys10)
 
 returns-11 : tie.Need-returns-11
-returns-11 c = known-row 21 2 0 1 64 tt (past (c .before .if1 .left) (c .before .before .match .rest .0 .0 .0 .0 .0 .0 .1)) (c .if2 .taken)
+returns-11 c = known-form 60 (indexed K.ZeroExtend) refl (c .match .keys11)
 
 returns-12 : tie.Need-returns-12
-returns-12 c = known-row 23 2 0 2 2 tt (omega arith) (omega arith)
+returns-12 c = known-form 61 (indexed K.RotateLeft) refl (c .match .keys12)
 
 returns-13 : tie.Need-returns-13
-returns-13 c = known-row 40 2 0 1 1 tt (omega arith) (omega arith)
+returns-13 c = known-form 62 (indexed K.RotateRight) refl (c .match .keys13)
 
 returns-14 : tie.Need-returns-14
-returns-14 c = known-row 42 5 0 1 64 tt (omega arith) (omega arith)
+returns-14 c = known-form 63 (indexed K.Repeat) refl (c .match .keys14)
 
 returns-15 : tie.Need-returns-15
-returns-15 c = known-row 47 9 0 2 2 tt (omega arith) (omega arith)
+returns-15 c = known-row 21 2 0 1 64 tt (past (c .before .if1 .left) (c .before .before .match .rest .0 .0 .0 .0 .0 .0 .0 .0 .0 .0 .1)) (c .if2 .taken)
 
 returns-16 : tie.Need-returns-16
-returns-16 c = ap form-of (sym (none-low (c .if1 .taken) (c .before .match .rest .0 .0 .0 .0 .0 .0 .0 .0 .0 .1) (c .before .match .rest .0 .0 .0 .0 .0 .0 .0 .0 .1) (c .before .match .rest .0 .0 .0 .0 .0 .0 .0 .1)))
+returns-16 c = known-row 23 2 0 2 2 tt (omega arith) (omega arith)
 
 returns-17 : tie.Need-returns-17
-returns-17 c = ap form-of (sym (none-middle (past (c .before .if3 .left) (c .before .before .before .before .match .rest .0 .0 .0 .0 .0 .1)) (c .if4 .taken) (c .before .before .before .before .match .rest .0 .0 .0 .0 .1) (c .before .before .before .before .match .rest .0 .0 .0 .1)))
+returns-17 c = known-row 40 2 0 1 1 tt (omega arith) (omega arith)
 
 returns-18 : tie.Need-returns-18
-returns-18 c = ap form-of (sym (none-high (past (past (past (c .if7 .left) (c .before .before .before .before .before .before .before .match .rest .0 .0 .1)) (c .before .before .before .before .before .before .before .match .rest .0 .1)) (c .before .before .before .before .before .before .before .match .rest .1))))
+returns-18 c = known-row 42 5 0 1 64 tt (omega arith) (omega arith)
+
+returns-19 : tie.Need-returns-19
+returns-19 c = known-row 47 9 0 2 2 tt (omega arith) (omega arith)
+
+returns-20 : tie.Need-returns-20
+returns-20 c = ap form-of (sym (none-low (c .if1 .taken) (c .before .match .rest .0 .0 .0 .0 .0 .0 .0 .0 .0 .0 .0 .0 .0 .1) (c .before .match .rest .0 .0 .0 .0 .0 .0 .0 .0 .0 .0 .0 .0 .1) (c .before .match .rest .0 .0 .0 .0 .0 .0 .0 .0 .0 .0 .0 .1)))
+
+returns-21 : tie.Need-returns-21
+returns-21 c = ap form-of (sym (none-middle (past (c .before .if3 .left) (c .before .before .before .before .match .rest .0 .0 .0 .0 .0 .0 .0 .0 .0 .1)) (c .if4 .taken) (c .before .before .before .before .match .rest .0 .0 .0 .0 .0 .0 .0 .0 .1) (c .before .before .before .before .match .rest .0 .0 .0 .0 .0 .0 .0 .1)))
+
+returns-22 : tie.Need-returns-22
+returns-22 c = let r = c .before .before .before .before .before .before .before .match .rest in
+    ap form-of (sym (none-over (past (past (past (c .if7 .left) (r .0 .0 .0 .0 .0 .0 .1)) (r .0 .0 .0 .0 .0 .1)) (r .0 .0 .0 .0 .1)) (r .0 .0 .0 .1) (r .0 .0 .1) (r .0 .1) (r .1)))
 
 pub form-spec : {M : Type 1} → statement M
 form-spec =
@@ -87,4 +100,8 @@ form-spec =
     returns-15
     returns-16
     returns-17
-    returns-18)
+    returns-18
+    returns-19
+    returns-20
+    returns-21
+    returns-22)

@@ -101,10 +101,26 @@ returns-31 c = ap operands-of (sym (c .before .self26 .given .1))
 returns-32 : tie.Need-returns-32
 returns-32 c = ap operands-of (sym (c .before .self27 .given .1))
 
+returns-33 : tie.Need-returns-33
+returns-33 c = ap operands-of (sym (c .before .self28 .given .1))
+
+returns-34 : tie.Need-returns-34
+returns-34 c = ap operands-of (sym (c .before .self29 .given .1))
+
+returns-35 : tie.Need-returns-35
+returns-35 c = ap operands-of (sym (c .before .self30 .given .1))
+
+returns-36 : tie.Need-returns-36
+returns-36 c = ap operands-of (sym (c .before .self31 .given .1))
+
 pub operands-spec : {M : Type 1} → statement M
 operands-spec =
     tie.close
     (tie.spec
+    (λ c. search needs)
+    (λ c. search needs)
+    (λ c. search needs)
+    (λ c. search needs)
     (λ c. search needs)
     (λ c. search needs)
     (λ c. search needs)
@@ -168,4 +184,8 @@ operands-spec =
     returns-29
     returns-30
     returns-31
-    returns-32)
+    returns-32
+    returns-33
+    returns-34
+    returns-35
+    returns-36)
