@@ -34,7 +34,7 @@ extern "C" {
 #define BB_TERM_BYTES 8
 
 /* The bytes of an answer: five numbers of two bytes, low byte first: 8, 200, rule, code, depth.
- * Code 0 is held, 1 form only, 10 to 17 refused. */
+ * Code 0 is held, 1 form only, 10 to 17 and 24 refused. */
 #define BB_ANSWER_BYTES 10
 
 /* What a job came to. */

@@ -1,6 +1,6 @@
 #!/usr/bin/env python3
-"""Small jobs with what the original Rust answers to each. Document 01's own are computed by the prover (crates/theory/proofs/Computed.antt);
-the program `replay` runs all of them, after its generated ones.
+"""Small jobs with what the original Rust answers to each. Document 01's own, and some of document 02's chains, are computed by the
+prover (crates/theory/proofs/Computed.antt); the program `replay` runs all of them, after its generated ones.
 
   listed_jobs.py write                       writes Computed.antt, and the listed jobs into crates/replay
   listed_jobs.py check                       exit status 1 where one of these is not what `write` would write
@@ -14,8 +14,8 @@ from replay_jobs import GENERATED, JOBS, STDOUT, head, printed
 
 HERE = os.path.dirname(os.path.abspath(__file__))
 LIST = os.path.join(HERE, 'listed_jobs.txt')
-COMPUTED = 'document 01'    # how the names of the computed jobs begin
-REQUEST = 'request '        # of those with what the requests after document 01 brought, which the original does not know
+COMPUTED = ('document 01', 'document 02')    # how the names of the computed jobs begin
+REQUEST = ('document 02', 'request ')        # of those with what the requests of document 02 brought, which the original does not know
 OUT = os.path.join(HERE, '..', 'crates', 'theory', 'proofs', 'Computed.antt')
 
 # What a run has to unfold to be computed, by the module of specs/ that defines it.
@@ -32,10 +32,12 @@ UNFOLD = {
     'Plain': 'feed',
     'Codes': 'fault',
     'Answer': '',
-    'Job': 'answers-to run-from run',
+    'Chain': 'joins chain-verdict',
+    'Job': 'answers-to recall run-from run',
 }
 
-HEAD = '''-- Document 01's own jobs, computed: each comes to what it says, which is what the original Rust answers. Written by tools/listed_jobs.py.
+HEAD = '''-- Document 01's own jobs, computed: each comes to what it says, which is what the original Rust answers; and some of document 02's chains.
+-- Written by tools/listed_jobs.py.
 use mathlib.Core.Path.{_≡_, refl}
 use mathlib.Core.List.{List, [], _∷_}
 use Prim.Native.Nat.{ℕ}

@@ -51,6 +51,12 @@ pub enum Kind {
 
 const STEP: u16 = 100;
 const BACK: u16 = 101;
+const CHAIN: u16 = 104;
+
+/// The rules of chains.
+pub const SYMM: u16 = 31;
+pub const TRANS: u16 = 32;
+pub const CONG: u16 = 33;
 
 /// A term's record before its arguments have numbers.
 #[derive(Debug, PartialEq, Eq, Hash)]
@@ -70,6 +76,8 @@ pub struct JobWriter {
     /// The numbers of the terms that are kept, and these terms in the order of their numbers.
     numbers: HashMap<Term, u16>,
     kept: Vec<Term>,
+    /// The steps and chains written.
+    steps: usize,
     bytes: Vec<u8>,
 }
 
@@ -86,6 +94,7 @@ impl JobWriter {
             terms: HashMap::new(),
             numbers: HashMap::from([(TRUE, 0), (FALSE, 1)]),
             kept: vec![TRUE, FALSE],
+            steps: 0,
             bytes: Vec::new(),
         }
     }
@@ -98,6 +107,16 @@ impl JobWriter {
     /// The number of terms kept.
     pub fn count(&self) -> usize {
         self.kept.len()
+    }
+
+    /// The number of steps and chains written: the place of the last one.
+    pub fn steps(&self) -> usize {
+        self.steps
+    }
+
+    /// Whether a term is kept.
+    pub fn is_kept(&self, term: Term) -> bool {
+        self.numbers.contains_key(&term)
     }
 
     pub fn finish(self) -> Vec<u8> {
@@ -224,12 +243,21 @@ impl JobWriter {
     pub fn step(&mut self, rule: u16, literals: &[Term]) {
         let literals: Vec<u16> = literals.iter().map(|&l| self.number(l)).collect();
         self.record(STEP, std::iter::once(rule).chain(literals));
+        self.steps += 1;
     }
 
     /// Writes a step whose literal is `left = right`.
     pub fn claim(&mut self, rule: u16, left: Term, right: Term) {
         let literal = self.term(Kind::Equals, &[left, right]);
         self.step(rule, &[literal]);
+    }
+
+    /// Writes a chain: the literal from the literals of earlier steps, which are named by their places among the job's steps, from 1.
+    pub fn chain(&mut self, rule: u16, premises: &[u16], literal: Term) {
+        let literal = self.number(literal);
+        let words = [rule, premises.len() as u16].into_iter().chain(premises.iter().copied()).chain([literal]);
+        self.record(CHAIN, words);
+        self.steps += 1;
     }
 
     /// Writes a back: only the first `count` terms stay.
@@ -320,6 +348,35 @@ pub fn many_backs(count: usize) -> Vec<u8> {
     job.finish()
 }
 
+/// One step, and a run of chains from it and from each other: symm, trans and cong.
+pub fn many_chains(count: usize) -> Vec<u8> {
+    let mut job = JobWriter::new();
+    let x = job.bv_var(1, 0);
+    let bits = job.circuit(2, x);
+    job.claim(2, x, bits);
+    let (not_x, not_bits) = (job.term(Kind::BvNot, &[x]), job.term(Kind::BvNot, &[bits]));
+    let [forth, back, same, nots] =
+        [(x, bits), (bits, x), (x, x), (not_x, not_bits)].map(|(a, b)| job.term(Kind::Equals, &[a, b]));
+    let (mut forth_at, mut back_at) = (1, 1);
+    for k in 0..count {
+        // A premise is named in two bytes: what stands further on is nobody's premise.
+        let place = u16::try_from(k + 2).ok();
+        match k % 4 {
+            0 => {
+                job.chain(SYMM, &[forth_at], back);
+                back_at = place.unwrap_or(back_at);
+            }
+            1 => job.chain(TRANS, &[forth_at, back_at], same),
+            2 => job.chain(CONG, &[forth_at], nots),
+            _ => {
+                job.chain(SYMM, &[back_at], forth);
+                forth_at = place.unwrap_or(forth_at);
+            }
+        }
+    }
+    job.finish()
+}
+
 impl JobWriter {
     /// The code of an accepted step of the rule: rules 21 and 22 are accepted for their form only, and so is 20 unless the shifted term is a
     /// BvBbTerm that ends in `false`.
@@ -336,10 +393,42 @@ impl JobWriter {
     }
 }
 
+/// Writes one to three chains that are held, from a held step; each is added to the held ones.
+fn random_chain(job: &mut JobWriter, held: &mut Vec<(u16, Term)>, rng: &mut Rng) {
+    let &(premise, literal) = rng.pick(held);
+    let sides = job.node(literal).expect("a held literal is an equality").arguments.clone();
+    let (left, right) = (sides[0], sides[1]);
+    let mut chain = |job: &mut JobWriter, rule, premises: &[u16], left, right| {
+        let literal = job.term(Kind::Equals, &[left, right]);
+        job.chain(rule, premises, literal);
+        held.push((job.steps() as u16, literal));
+        job.steps() as u16
+    };
+    match rng.below(4) {
+        0 => drop(chain(job, SYMM, &[premise], right, left)),
+        1 => {
+            let turned = chain(job, SYMM, &[premise], right, left);
+            chain(job, TRANS, &[premise, turned], left, left);
+            chain(job, TRANS, &[turned, premise, turned], right, left);
+        }
+        2 => {
+            let negation = if job.width(left) == 0 { Kind::Not } else { Kind::BvNot };
+            let (not_left, not_right) = (job.term(negation, &[left]), job.term(negation, &[right]));
+            chain(job, CONG, &[premise], not_left, not_right);
+        }
+        _ => {
+            let (left, right) = (job.term(Kind::Equals, &[left, left]), job.term(Kind::Equals, &[right, right]));
+            chain(job, CONG, &[premise, premise], left, right);
+        }
+    }
+}
+
 /// A random job in which every step is accepted, and the code that each step gets.
 pub fn random_right(rng: &mut Rng) -> (Vec<u8>, Vec<u16>) {
     let mut job = JobWriter::new();
     let mut codes = Vec::new();
+    // The held steps whose literal no back has dropped: their places and literals.
+    let mut held: Vec<(u16, Term)> = Vec::new();
     for _ in 0..rng.range(1, 6) {
         let rule = rng.range(1, RULES.len()) as u16;
         let widest = match rule {
@@ -352,9 +441,18 @@ pub fn random_right(rng: &mut Rng) -> (Vec<u8>, Vec<u16>) {
         let right = job.circuit(rule, left);
         job.claim(rule, left, right);
         codes.push(job.right_code(rule, left));
+        if codes.last() == Some(&0) {
+            let literal = job.term(Kind::Equals, &[left, right]);
+            held.push((job.steps() as u16, literal));
+        }
+        if !held.is_empty() && rng.chance(40) {
+            random_chain(&mut job, &mut held, rng);
+            codes.resize(job.steps(), 0);
+        }
         if rng.chance(25) {
             let count = rng.range(2, job.count());
             job.back(count);
+            held.retain(|&(_, literal)| job.is_kept(literal));
         }
     }
     (job.finish(), codes)

@@ -1,6 +1,6 @@
 //! Rules and codes in words.
 
-/// The rules in the order of their numbers, from 1.
+/// The rules of steps in the order of their numbers, from 1.
 pub const RULES: [&str; 30] = [
     "value",
     "var",
@@ -34,6 +34,9 @@ pub const RULES: [&str; 30] = [
     "repeat",
 ];
 
+/// The rules of chains; their numbers follow those of steps.
+pub const CHAIN_RULES: [&str; 3] = ["symm", "trans", "cong"];
+
 /// How many of the rules, the first ones, are those of the original.
 pub const ORIGINAL_RULES: usize = 23;
 
@@ -53,7 +56,7 @@ pub const STOPS: [(u32, &str); 11] = [
 ];
 
 /// The codes of answers.
-pub const ANSWERS: [(u16, &str); 10] = [
+pub const ANSWERS: [(u16, &str); 11] = [
     (0, "held"),
     (1, "form only: the circuit is the rule's, which is not the standard's operation"),
     (10, "the clause has not exactly one literal"),
@@ -64,11 +67,17 @@ pub const ANSWERS: [(u16, &str); 10] = [
     (15, "the right side is another value"),
     (16, "the right side is not the expected term"),
     (17, "a slice does not begin just below the one before"),
+    (24, "a premise is not an earlier step that is held and whose literal is kept since"),
 ];
+
+/// All rules with their numbers.
+pub fn rules() -> impl Iterator<Item = (u16, &'static str)> {
+    (1..).zip(RULES.into_iter().chain(CHAIN_RULES))
+}
 
 /// The rule's name, `unknown` where there is no such rule.
 pub fn rule_name(rule: u16) -> &'static str {
-    usize::from(rule).checked_sub(1).and_then(|k| RULES.get(k)).copied().unwrap_or("unknown")
+    rules().find(|(number, _)| *number == rule).map_or("unknown", |(_, name)| name)
 }
 
 /// A stop code in words.

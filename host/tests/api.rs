@@ -113,7 +113,7 @@ fn every_code_has_words() {
     for code in [0, 2, 3, 4, 5, 6, 7, 8, 9, 18, 19] {
         assert_ne!(words::stop_meaning(code), "unknown code");
     }
-    for code in [0, 1, 10, 11, 12, 13, 14, 15, 16, 17] {
+    for code in [0, 1, 10, 11, 12, 13, 14, 15, 16, 17, 24] {
         assert_ne!(words::answer_meaning(code), "unknown code");
     }
     assert_eq!(words::stop_meaning(1), "unknown code");
@@ -122,9 +122,11 @@ fn every_code_has_words() {
         (words::rule_name(0), words::rule_name(1), words::rule_name(23)),
         ("unknown", "value", "bitwise_slicing")
     );
-    let last = words::RULES.len();
-    assert_eq!(words::rule_name(last as u16), words::RULES[last - 1]);
-    assert_eq!(words::rule_name(last as u16 + 1), "unknown");
+    for (rule, name) in words::rules() {
+        assert_eq!(words::rule_name(rule), name);
+    }
+    let last = (words::RULES.len() + words::CHAIN_RULES.len()) as u16;
+    assert_eq!((words::rule_name(last), words::rule_name(last + 1)), ("cong", "unknown"));
 }
 
 #[test]

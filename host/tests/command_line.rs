@@ -1,5 +1,5 @@
 //! The command line: exit statuses, what it prints, and JSON that a reader of JSON takes.
-use bitblast_host::jobs;
+use bitblast_host::jobs::{self, CONG, JobWriter, Kind, SYMM, TRANS};
 use std::{
     fs,
     io::Write,
@@ -167,6 +167,30 @@ fn jobs_without_the_steps_that_they_should_have() {
 }
 
 #[test]
+fn chains_in_words() {
+    let mut job = JobWriter::new();
+    let x = job.bv_var(1, 0);
+    let bits = job.circuit(2, x);
+    let turned = job.term(Kind::Equals, &[bits, x]);
+    job.claim(2, x, bits);
+    job.chain(SYMM, &[1], turned);
+    job.chain(TRANS, &[1], turned);
+    job.chain(CONG, &[4], turned);
+    let job = job.finish();
+    let table = bbhost(&["check", "-"], &job);
+    assert_eq!(table.status.code(), Some(1));
+    let table = text(&table.stdout);
+    assert!(table.contains("31 symm                0      0  held"), "{table}");
+    assert!(table.contains("32 trans              11      0  the literal is not of the rule's form"), "{table}");
+    assert!(table.contains("33 cong               24      0  a premise is not an earlier step"), "{table}");
+    assert!(table.contains("ran to its end: 2 held, 0 form only, 2 refused"), "{table}");
+    let objects = bbhost(&["check", "--json", "-"], &job);
+    let objects = text(&objects.stdout);
+    assert!(is_json(objects), "{objects}");
+    assert!(objects.contains("\"rule\":33,\"name\":\"cong\",\"verdict\":\"refused\",\"code\":24,"), "{objects}");
+}
+
+#[test]
 fn long_jobs() {
     let longest = vec![0; 16_777_216];
     let output = bbhost(&["check", "-"], &longest);
@@ -237,7 +261,7 @@ fn bench_writes_jobs_that_are_held() {
     let folder = folder("bench");
     assert_eq!(status(&["bench", "--write", folder.to_str().unwrap()], b""), 0);
     let name = |file: &str| folder.join(format!("{file}.job")).to_str().unwrap().to_owned();
-    assert_eq!(fs::read_dir(&folder).unwrap().count(), 39);
+    assert_eq!(fs::read_dir(&folder).unwrap().count(), 42);
     assert_eq!(status(&["check", "-q", &name("add64"), &name("mult32"), &name("udiv_standard16")], b""), 0);
     for without_step in [name("terms60000"), name("backs20000")] {
         let output = bbhost(&["check", &without_step], b"");

@@ -12,11 +12,12 @@ use lib.Seq.{length-take-le}
 use borrow.Author.Tests.{le-leb}
 use Rattle.theory.specs.Limit.{max-job, max-terms, first-terms, term-bytes}
 use Rattle.theory.specs.Term.{Term}
-use Rattle.theory.specs.Record.{Bytes, extent, whole, cut, records-of, ending, Item, term, step, back, unknown, misfit, read}
+use Rattle.theory.specs.Record.{Bytes, extent, whole, cut, records-of, ending, Item, term, step, chain, back, unknown, misfit, read}
 use Rattle.theory.specs.Plain.{Plain, entry, start, term-of, has, put, feed-item, feed}
 use Rattle.theory.specs.Codes.{first-fault, all-below, well-sorted, room, tests, fault}
 use Rattle.theory.specs.Answer.{Answer}
-use Rattle.theory.specs.Job.{Outcome, outcome, answers-to, run-from, run}
+use Rattle.theory.specs.Chain.{Earlier}
+use Rattle.theory.specs.Job.{Outcome, outcome, answers-to, recall, run-from, run}
 use Rattle.terms.proofs.Parts.{whole-parts}
 use Rattle.bitblast.specs.Walking.{Enough}
 
@@ -49,6 +50,7 @@ fault-same more less space list n r e = go (read r)
     go misfit = refl
     go (term o ks) = ap (λ (b : Bool). first-fault ((all-below (length list) ks, 6) ∷ (well-sorted (term-of list o ks), 7) ∷ (has list r || b, 8) ∷ [])) e
     go (step m ks) = refl
+    go (chain m ps k) = refl
     go (back m) = refl
 
 put-short : (list : Plain) (r : Bytes) (t : Term) (b : Bool) → length (cond b list (list ++ (entry t r ∷ []))) ≤ suc (length list)
@@ -68,6 +70,7 @@ feed-short list r = go (read r)
     go misfit = omega arith
     go (term o ks) = of-term (term-of list o ks)
     go (step m ks) = omega arith
+    go (chain m ps k) = omega arith
     go (back m) = let l = length-take m list in omega arith
 
 -- ---- the run
@@ -76,16 +79,16 @@ by-fault : (c : ℕ) {x y : Outcome} (f : ℕ → Outcome) → x ≡ y
 by-fault zero f e = e
 by-fault (suc code) f e = refl
 
-run-from-same : (more less space end : ℕ) → less ≤ more → (rs : List Bytes) (done : ℕ) (list : Plain) (given : List Answer)
-    → term-bytes * (length list + length rs - first-terms) ≤ less → run-from less space end done list given rs ≡ run-from more space end done list given rs
+run-from-same : (more less space end : ℕ) → less ≤ more → (rs : List Bytes) (done : ℕ) (earlier : Earlier) (list : Plain) (given : List Answer)
+    → term-bytes * (length list + length rs - first-terms) ≤ less → run-from less space end done earlier list given rs ≡ run-from more space end done earlier list given rs
 unfolding run-from
-run-from-same more less space end k [] done list given h = refl
-run-from-same more less space end k (r ∷ rs) done list given h =
+run-from-same more less space end k [] done earlier list given h = refl
+run-from-same more less space end k (r ∷ rs) done earlier list given h =
     let s = feed-short list r in
     let stop : ℕ → Outcome = λ code. outcome (suc code) done given list in
-    ap (λ (c : ℕ). elim c as (λ w. Outcome) [ zero ↦ run-from less space end (suc done) (feed list r) (given ++ answers-to list r) rs | suc code ↦ stop code ])
+    ap (λ (c : ℕ). elim c as (λ w. Outcome) [ zero ↦ run-from less space end (suc done) (recall earlier list r) (feed list r) (given ++ answers-to earlier list r) rs | suc code ↦ stop code ])
     (fault-same more less space list (length given) r (room-same more less list (omega arith) k))
-    ∙ by-fault (fault more space list (length given) r) stop (run-from-same more less space end k rs (suc done) (feed list r) (given ++ answers-to list r) (omega arith))
+    ∙ by-fault (fault more space list (length given) r) stop (run-from-same more less space end k rs (suc done) (recall earlier list r) (feed list r) (given ++ answers-to earlier list r) (omega arith))
 
 by-length : (b : Bool) {x y : Outcome} (z : Outcome) → x ≡ y
     → _≡_ {A = Outcome} (elim b as (λ w. Outcome) [ true ↦ x | false ↦ z ]) (elim b as (λ w. Outcome) [ true ↦ y | false ↦ z ])
@@ -97,7 +100,7 @@ run-same : (job : Bytes) (more less space : ℕ) → less ≤ more → 4 * lengt
 unfolding run
 run-same job more less space k h =
     let f = few-cut (length job) job in
-    by-length (leb (length job) max-job) (outcome 2 0 [] start) (run-from-same more less space (ending job) k (records-of job) 0 start [] (omega arith))
+    by-length (leb (length job) max-job) (outcome 2 0 [] start) (run-from-same more less space (ending job) k (records-of job) 0 [] start [] (omega arith))
 
 -- the first bytes of a work memory, where they are enough
 pub run-enough : (job work : Bytes) (used space : ℕ) → Enough (length job) (length work) used → run job (length (take used work)) space ≡ run job (length work) space

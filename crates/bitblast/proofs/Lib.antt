@@ -1,4 +1,5 @@
 pub mod Positions
+pub mod Notes
 pub mod Walks
 pub mod Calls
 pub mod Enough

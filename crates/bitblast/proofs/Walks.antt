@@ -1,5 +1,5 @@
 -- The walk over the records: what holds between two of them, and where the job stops.
-use mathlib.Core.Path.{_≡_, refl, sym, ap, ap₂, subst, _∙_}
+use mathlib.Core.Path.{_≡_, refl, sym, ap, ap₂, subst, subst₂, _∙_}
 use mathlib.Core.Bool.{Bool, true, false}
 use mathlib.Core.Logic.{_⊎_, inl, inr, ⊎-elim}
 use mathlib.Core.List.{List, [], _∷_, _++_, append-nil}
@@ -7,57 +7,63 @@ use Prim.Native.Nat.{ℕ, zero, suc, _+_, _-_, _*_, _<_, _≤_}
 use native.Mathlib.Omega.{arith}
 use native.Mathlib.Numerals.{add-one}
 use lib.Dec.{leb}
-use lib.ListN.{length, drop, length-drop, length-append}
+use lib.ListN.{length, drop, length-drop, length-append, length-map}
 use lib.Seq.{drop-drop, length-take-le}
 use borrow.Author.Tests.{le-leb, lt-leb}
 use Rattle.theory.specs.Limit.{first-terms, max-job, answer-bytes}
-use Rattle.theory.specs.Record.{Bytes, extent, whole, records-of, total-length, ending}
+use Rattle.theory.specs.Record.{Bytes, extent, whole, records-of, total-length, ending, read}
 use Rattle.theory.specs.Plain.{Plain, start, feed}
 use Rattle.theory.specs.Codes.{fault}
 use Rattle.theory.specs.Answer.{Answer}
-use Rattle.theory.specs.Job.{answers-to, Outcome, Returned, outcome, returned, run-from, run, answers-after}
+use Rattle.theory.specs.Chain.{Earlier}
+use Rattle.theory.specs.Job.{answers-to, recall, Outcome, Returned, outcome, returned, run-from, run, answers-after}
+use Rattle.theory.proofs.Written.{new-small}
+use Rattle.theory.proofs.Origins.{Mark, origins-item, marks-item, Tracks, tracks-start, tracks-next}
 use Rattle.terms.specs.Framing.{record-at}
 use Rattle.terms.proofs.Reading.{stands}
+use Rattle.rows.specs.Rows.{column, offsets}
 use Rattle.store.specs.Store.{Store, listed}
 use Rattle.intern.specs.Interning.{Started}
 use Rattle.records.specs.declared.Turn.{Turn}
 use Rattle.bitblast.specs.declared.walk.State.{State}
-use Rattle.steps.specs.Answering.{with-answers}
+use Rattle.steps.specs.Answering.{with-notes, step-place, sealed}
+use Rattle.chains.specs.Premises.{marks-in, origins, earlier-in}
 use Rattle.records.specs.Turning.{passed, Turned}
 use Rattle.bitblast.specs.Walking.{state, moved, Standing, Next, broken, taken, Walked}
-use Rattle.steps.proofs.Writing.{after-more, written-fits, one-answer}
+use Rattle.steps.proofs.Writing.{Note, written-fits, one-answer}
+use Rattle.bitblast.proofs.Notes.{answers-of, at-record, notes-after, answers-more, notes-more, notes-sealed, marks-more, places-more}
 use Rattle.bitblast.proofs.Positions.{records-whole, records-broken, none-left, ends-whole, ends-broken}
 
 -- ---- the run, record by record
-module _ (work space end done : ℕ) (list : Plain) (answers : List Answer) where
+module _ (work space end done : ℕ) (earlier : Earlier) (list : Plain) (answers : List Answer) where
   -- what it comes to with one more record, by the record's code
   abbrev by-code : Bytes → List Bytes → ℕ → Outcome
   by-code r rs f =
       elim f as (λ z. Outcome) [
-        | zero ↦ run-from work space end (suc done) (feed list r) (answers ++ answers-to list r) rs
+        | zero ↦ run-from work space end (suc done) (recall earlier list r) (feed list r) (answers ++ answers-to earlier list r) rs
         | suc code ↦ outcome (suc code) done answers list
       ]
 
   -- one more record
   run-record : (r : Bytes) (rs : List Bytes) {f : ℕ} → fault work space list (length answers) r ≡ f
-      → run-from work space end done list answers (r ∷ rs) ≡ by-code r rs f
+      → run-from work space end done earlier list answers (r ∷ rs) ≡ by-code r rs f
   unfolding run-from
   run-record r rs e = ap (by-code r rs) e
 
   -- no record is left
-  run-ends : {rs : List Bytes} → rs ≡ [] → run-from work space end done list answers rs ≡ outcome end done answers list
+  run-ends : {rs : List Bytes} → rs ≡ [] → run-from work space end done earlier list answers rs ≡ outcome end done answers list
   unfolding run-from
-  run-ends e = ap (run-from work space end done list answers) e
+  run-ends e = ap (run-from work space end done earlier list answers) e
 
 -- the run, by the test of the job's length
 module _ (job : Bytes) (work space : ℕ) where
   by-length : {b : Bool} → leb (length job) max-job ≡ b
-      → run job work space ≡ elim b as (λ z. Outcome) [ true ↦ run-from work space (ending job) 0 start [] (records-of job) | false ↦ outcome 2 0 [] start ]
+      → run job work space ≡ elim b as (λ z. Outcome) [ true ↦ run-from work space (ending job) 0 [] start [] (records-of job) | false ↦ outcome 2 0 [] start ]
   unfolding run
-  by-length e = ap (λ (b : Bool). elim b as (λ z. Outcome) [ true ↦ run-from work space (ending job) 0 start [] (records-of job) | false ↦ outcome 2 0 [] start ]) e
+  by-length e = ap (λ (b : Bool). elim b as (λ z. Outcome) [ true ↦ run-from work space (ending job) 0 [] start [] (records-of job) | false ↦ outcome 2 0 [] start ]) e
 
   -- a job that is not too long
-  run-short : length job ≤ max-job → run job work space ≡ run-from work space (ending job) 0 start [] (records-of job)
+  run-short : length job ≤ max-job → run job work space ≡ run-from work space (ending job) 0 [] start [] (records-of job)
   run-short h = by-length (le-leb (length job) max-job h)
 
   -- a job that is too long
@@ -66,12 +72,13 @@ module _ (job : Bytes) (work space : ℕ) where
 
 -- ---- what holds between two records
 -- of the job, the length of its work memory and the old bytes of its answers' memory: the answers given, what both memories hold, and the counts
-pub record Holding (job : Bytes) (size : ℕ) (old work answers : Bytes) (s : State) (given : List Answer) : Type 0 where
+pub record Holding (job : Bytes) (size : ℕ) (old work answers : Bytes) (s : State) (ms : List Note) : Type 0 where
   pub store : Store job work (s .rows)
   pub same-work : length work ≡ size
   pub same-answers : length answers ≡ length old
-  pub written : answers ≡ answers-after given old
-  pub counted : s .answers ≡ length given
+  pub written : answers ≡ notes-after ms old
+  pub counted : s .answers ≡ length ms
+  pub places : (k : ℕ) → k < s .answers → whole (drop (step-place answers k) job) ≡ true
   pub roomy : answer-bytes * s .answers ≤ length old
   pub within : s .at ≤ length job
   pub few : s .records ≤ s .at
@@ -79,28 +86,41 @@ pub record Holding (job : Bytes) (size : ℕ) (old work answers : Bytes) (s : St
 
 -- the run goes on from here with the records that are left, and those before are the bytes before
 pub record Between (job : Bytes) (size : ℕ) (old work answers : Bytes) (s : State) : Type 0 where
-  pub given : List Answer
+  pub given : List Note
   pub holding : Holding job size old work answers s given
+  pub tracks : Tracks (s .at) (origins work (s .rows)) (marks-in job answers (s .answers)) (earlier-in job work answers (s .rows) (s .answers)) (listed job work (s .rows))
   pub before : total-length (records-of job) ≡ s .at + total-length (records-of (drop (s .at) job))
   pub leads : run job size (length old)
-      ≡ run-from size (length old) (ending job) (s .records) (listed job work (s .rows)) given (records-of (drop (s .at) job))
+      ≡ run-from size (length old) (ending job) (s .records) (earlier-in job work answers (s .rows) (s .answers)) (listed job work (s .rows)) (answers-of given) (records-of (drop (s .at) job))
 
 -- the run ends here
 pub record Stopped (job : Bytes) (size : ℕ) (old work answers : Bytes) (s : State) : Type 0 where
-  pub given : List Answer
+  pub given : List Note
   pub holding : Holding job size old work answers s given
-  pub ended : run job size (length old) ≡ outcome (s .stop) (s .records) given (listed job work (s .rows))
+  pub ended : run job size (length old) ≡ outcome (s .stop) (s .records) (answers-of given) (listed job work (s .rows))
+
+-- before the first record no step is there, and `true` and `false` are the only terms
+none-earlier : (job work answers : Bytes) → earlier-in job work answers 0 0 ≡ []
+unfolding marks-in column
+none-earlier job work answers = refl
+
+start-tracks : {job work after : Bytes} (old : Bytes) → length job ≤ max-job → Started job work after
+    → Tracks 0 (origins after 0) (marks-in job old 0) (earlier-in job after old 0 0) (listed job after 0)
+unfolding marks-in origins offsets column
+start-tracks {job} {work} {after} old h s = subst (Tracks 0 (0 ∷ 0 ∷ []) [] []) (sym (s .listed-is)) tracks-start
 
 -- at the first record
 pub begins : {job work after : Bytes} (old : Bytes) → length job ≤ max-job → Started job work after → Between job (length after) old after old (state 0 0 0 0 0)
 begins {job} {work} {after} old h s = record {
   given = [];
+  tracks = start-tracks old h s;
   holding = record {
     store = s .store;
     same-work = refl;
     same-answers = refl;
     written = refl;
     counted = refl;
+    places = λ k l. absurd (omega arith);
     roomy = omega arith;
     within = omega arith;
     few = omega arith;
@@ -108,7 +128,7 @@ begins {job} {work} {after} old h s = record {
   };
   before = omega arith;
   leads = run-short job (length after) (length old) h
-      ∙ ap (λ (list : Plain). run-from (length after) (length old) (ending job) 0 list [] (records-of job)) (sym (s .listed-is));
+      ∙ ap₂ (λ (earlier : Earlier) (list : Plain). run-from (length after) (length old) (ending job) 0 earlier list [] (records-of job)) (sym (none-earlier job after old)) (sym (s .listed-is));
 }
 
 -- what the next record may take for granted
@@ -117,14 +137,14 @@ standing b =
     let h = b .holding in
     let l = h .same-answers in
     let r = h .roomy in
-    record { store = h .store; counted = h .few; roomy = omega arith }
+    record { noted = record { store = h .store; roomy = omega arith; places = h .places }; counted = h .few }
 
 -- no record is left: the run ends with the ending's code
 last : {job old work answers : Bytes} {size : ℕ} {s : State} (b : Between job size old work answers s) → records-of (drop (s .at) job) ≡ [] → {c : ℕ} → ending job ≡ c
-    → run job size (length old) ≡ outcome c (s .records) (b .given) (listed job work (s .rows))
+    → run job size (length old) ≡ outcome c (s .records) (answers-of (b .given)) (listed job work (s .rows))
 last {job} {old} {work} {answers} {size} {s} b none e =
-    b .leads ∙ run-ends size (length old) (ending job) (s .records) (listed job work (s .rows)) (b .given) none
-    ∙ ap (λ (x : ℕ). outcome x (s .records) (b .given) (listed job work (s .rows))) e
+    b .leads ∙ run-ends size (length old) (ending job) (s .records) (earlier-in job work answers (s .rows) (s .answers)) (listed job work (s .rows)) (answers-of (b .given)) none
+    ∙ ap (λ (x : ℕ). outcome x (s .records) (answers-of (b .given)) (listed job work (s .rows))) e
 
 -- the job ends where nothing is left
 pub ends : {job old work answers : Bytes} {size : ℕ} {s : State} → Between job size old work answers s → s .stop ≡ 0 → length job ≤ s .at → Stopped job size old work answers s
@@ -145,11 +165,15 @@ walked {job} {old} {work} {answers} {size} {s} short t {given-size} same =
     let b = h .few in
     let d = h .fewer in
     let f = h .store .table .slots .rows .few in
-    let e : run job given-size (length old) ≡ outcome (s .stop) (s .records) (t .given) (listed job work (s .rows)) = ap (λ (m : ℕ). run job m (length old)) (sym same) ∙ t .ended in
+    let m : length (answers-of (t .given)) ≡ length (t .given) = length-map (t .given) (λ (x : Note). x .1) in
+    let y = h .roomy in
+    let z = h .same-answers in
+    let e : run job given-size (length old) ≡ outcome (s .stop) (s .records) (answers-of (t .given)) (listed job work (s .rows)) = ap (λ (m : ℕ). run job m (length old)) (sym same) ∙ t .ended in
     let terms : s .rows + first-terms ≡ length (listed job work (s .rows)) = omega arith in
     record {
-      result-is = ap₂ (λ (x y : ℕ). told-of x y) c terms ∙ ap returned (sym e);
-      answers-are = h .written ∙ ap (λ (o : Outcome). answers-after (o .answers) old) (sym e);
+      result-is = ap₂ (λ (x y : ℕ). told-of x y) (c ∙ sym m) terms ∙ ap returned (sym e);
+      roomy = omega arith;
+      answers-are = ap (sealed (s .answers)) (h .written) ∙ notes-sealed old (t .given) c ∙ ap (λ (o : Outcome). answers-after (o .answers) old) (sym e);
       few-records = omega arith;
       few-answers = omega arith;
       few-terms = omega arith;
@@ -191,6 +215,7 @@ module _ {job old work answers : Bytes} {size : ℕ} {s : State} (b : Between jo
           same-answers = h .same-answers;
           written = h .written;
           counted = h .counted;
+          places = h .places;
           roomy = h .roomy;
           within = h .within;
           few = h .few;
@@ -209,37 +234,46 @@ module _ {job old work answers : Bytes} {size : ℕ} {s : State} (b : Between jo
   abbrev list : Plain
   list = listed job work (s .rows)
 
+  abbrev E : Earlier
+  E = earlier-in job work answers (s .rows) (s .answers)
+
   abbrev left : List Bytes
   left = records-of (drop n (drop (s .at) job))
 
-  module _ (w : whole (drop (s .at) job) ≡ true) (t : Turn) (turned : Turned job work answers (s .rows) (s .answers) r work′ answers′ t) where
+  module _ (w : whole (drop (s .at) job) ≡ true) (t : Turn) (turned : Turned job work answers (s .rows) (s .answers) (s .at) work′ answers′ t) where
     -- it is the run's next record
-    here : run job size (length old) ≡ run-from size (length old) (ending job) (s .records) list (b .given) (r ∷ left)
-    here = b .leads ∙ ap (run-from size (length old) (ending job) (s .records) list (b .given)) (records-whole (drop (s .at) job) w)
+    here : run job size (length old) ≡ run-from size (length old) (ending job) (s .records) E list (answers-of (b .given)) (r ∷ left)
+    here = b .leads ∙ ap (run-from size (length old) (ending job) (s .records) E list (answers-of (b .given))) (records-whole (drop (s .at) job) w)
+
+    -- as many answers as the code counts
+    counts : s .answers ≡ length (answers-of (b .given))
+    counts = b .holding .counted ∙ sym (length-map (b .given) (λ (x : Note). x .1))
 
     -- its code
-    test : fault size (length old) list (length (b .given)) r ≡ t .code
+    test : fault size (length old) list (length (answers-of (b .given))) r ≡ t .code
     test =
         let h = b .holding in
-        sym (turned .code-is ∙ ap (λ (k : ℕ). fault (length work) (length answers) list k r) (h .counted)
-        ∙ ap₂ (λ (x y : ℕ). fault x y list (length (b .given)) r) (h .same-work) (h .same-answers))
+        sym (turned .code-is ∙ ap (λ (k : ℕ). fault (length work) (length answers) list k r) counts
+        ∙ ap₂ (λ (x y : ℕ). fault x y list (length (answers-of (b .given))) r) (h .same-work) (h .same-answers))
 
     -- the answers after it, where the code is c
     module _ (c : ℕ) (e : t .code ≡ c) where
       -- those that it adds
       abbrev new : List Answer
-      new = passed c (answers-to list r) []
+      new = passed c (answers-to E list r) []
 
       -- they are what was written
-      same-new : passed (t .code) (answers-to list r) [] ≡ new
-      same-new = ap (λ (x : ℕ). passed x (answers-to list r) []) e
+      same-new : passed (t .code) (answers-to E list r) [] ≡ new
+      same-new = ap (λ (x : ℕ). passed x (answers-to E list r) []) e
 
       -- the memory holds them all
-      wrote : answers′ ≡ answers-after (b .given ++ new) old
+      wrote-new : answers′ ≡ with-notes answers (s .answers) (s .at) new
+      wrote-new = turned .written-is ∙ ap (with-notes answers (s .answers) (s .at)) same-new
+
+      wrote : answers′ ≡ notes-after (b .given ++ at-record (s .at) new) old
       wrote =
           let h = b .holding in
-          turned .written-is ∙ ap (with-answers answers (s .answers)) same-new ∙ ap (λ (x : Bytes). with-answers x (s .answers) new) (h .written)
-          ∙ after-more old (b .given) new (h .counted)
+          wrote-new ∙ ap (λ (x : Bytes). with-notes x (s .answers) (s .at) new) (h .written) ∙ notes-more old (b .given) (s .at) new (h .counted)
 
       -- how many they are
       count : t .answers ≡ s .answers + length new
@@ -251,7 +285,7 @@ module _ {job old work answers : Bytes} {size : ℕ} {s : State} (b : Between jo
           let h = b .holding in
           let x = h .same-answers in
           let y = h .roomy in
-          let z = written-fits answers (s .answers) new (omega arith) (ap length (sym (turned .written-is ∙ ap (with-answers answers (s .answers)) same-new)) ∙ la) in
+          let z = written-fits answers (s .answers) (s .at) new (omega arith) (ap length (sym wrote-new) ∙ la) in
           let k = count in
           omega arith
 
@@ -259,13 +293,19 @@ module _ {job old work answers : Bytes} {size : ℕ} {s : State} (b : Between jo
       few-new : length new ≤ 1
       few-new = go c
         where
-          go : (d : ℕ) → length (passed d (answers-to list r) []) ≤ 1
-          go zero = one-answer list r
+          go : (d : ℕ) → length (passed d (answers-to E list r) []) ≤ 1
+          go zero = one-answer E list r
           go (suc d) = omega arith
 
       -- what holds at a state after it
+      near : s .at < 16777216
+      near = let z = b .holding .store .table .slots .rows .short in omega arith
+
+      room : answer-bytes * s .answers ≤ length answers
+      room = let x = b .holding .same-answers in let y = b .holding .roomy in omega arith
+
       held : (at records : ℕ) (stop : ℕ) → at ≤ length job → records ≤ at → t .answers ≤ records
-          → Holding job size old work′ answers′ (state at stop records (t .answers) (t .rows)) (b .given ++ new)
+          → Holding job size old work′ answers′ (state at stop records (t .answers) (t .rows)) (b .given ++ at-record (s .at) new)
       held at records stop p q o =
           let h = b .holding in
           record {
@@ -273,7 +313,9 @@ module _ {job old work answers : Bytes} {size : ℕ} {s : State} (b : Between jo
             same-work = lw ∙ h .same-work;
             same-answers = la ∙ h .same-answers;
             written = wrote;
-            counted = count ∙ ap (λ (k : ℕ). k + length new) (h .counted) ∙ sym (length-append (b .given) new);
+            counted = count ∙ ap₂ (λ (k i : ℕ). k + i) (h .counted) (sym (length-map new (λ (a : Answer). (s .at, a)))) ∙ sym (length-append (b .given) (at-record (s .at) new));
+            places = λ k l. subst (λ (m : Bytes). whole (drop (step-place m k) job) ≡ true) (sym wrote-new)
+                (places-more job answers (s .answers) (s .at) room near w (h .places) new few-new k (let i = count in omega arith));
             roomy = fits;
             within = p;
             few = q;
@@ -281,6 +323,25 @@ module _ {job old work answers : Bytes} {size : ℕ} {s : State} (b : Between jo
           }
 
     -- no code: the run goes on after the record
+    -- the earlier steps after it
+    tracked : t .code ≡ 0 → Tracks (s .at + n) (origins work′ (t .rows)) (marks-in job answers′ (t .answers)) (recall E list r) (listed job work′ (t .rows))
+    tracked e =
+        let h = b .holding in
+        let st = stands job (s .at) w in
+        let p = st .low in
+        let few = h .store .table .slots .rows .few in
+        let c = h .store .count in
+        let f = test ∙ e in
+        let small = new-small size (length old) E list (length (answers-of (b .given))) r f (h .store .well) (omega arith) in
+        let os : origins-item (origins work (s .rows)) list (s .at) r (read r) ≡ origins work′ (t .rows)
+        = sym (turned .origins-are ∙ ap (λ (x : ℕ). passed x (origins-item (origins work (s .rows)) list (s .at) r (read r)) (origins work (s .rows))) e) in
+        let ms : marks-item (marks-in job answers (s .answers)) (s .at) (read r) (answers-to E list r) ≡ marks-in job answers′ (t .answers)
+        = sym (ap₂ (marks-in job) (wrote-new 0 e) (count 0 e) ∙ marks-more job answers (s .answers) (s .at) (room 0 e) (near 0 e) E list small) in
+        let ls : feed list r ≡ listed job work′ (t .rows) = sym (turned .listed-is ∙ ap (λ (x : ℕ). passed x (feed list r) list) e) in
+        subst (λ (l : Plain). Tracks (s .at + n) (origins work′ (t .rows)) (marks-in job answers′ (t .answers)) (recall E list r) l) ls
+        (subst₂ (λ (o : List ℕ) (m : List Mark). Tracks (s .at + n) o m (recall E list r) (feed list r)) os ms
+        (tracks-next size (length old) (length (answers-of (b .given))) (s .at) (s .at + n) r (origins work (s .rows)) (marks-in job answers (s .answers)) E list (b .tracks) (omega arith) f))
+
     took : t .code ≡ 0 → Between job size old work′ answers′ (state (s .at + n) 0 (s .records + 1) (t .answers) (t .rows))
     took e =
         let h = b .holding in
@@ -294,14 +355,18 @@ module _ {job old work answers : Bytes} {size : ℕ} {s : State} (b : Between jo
         let d : drop n (drop (s .at) job) ≡ drop (s .at + n) job = drop-drop n (s .at) job in
         let len : length r ≡ n = length-take-le n (drop (s .at) job) (let m = length-drop (s .at) job in omega arith) in
         record {
-          given = b .given ++ answers-to list r;
+          given = b .given ++ at-record (s .at) (answers-to E list r);
+          tracks = subst (λ (x : Earlier). Tracks (s .at + n) (origins work′ (t .rows)) (marks-in job answers′ (t .answers)) x (listed job work′ (t .rows))) (tracked e .is) (tracked e);
           holding = held 0 e (s .at + n) (s .records + 1) 0 (omega arith) (omega arith) (omega arith);
           before = b .before ∙ ap (λ (rs : List Bytes). s .at + total-length rs) (records-whole (drop (s .at) job) w)
               ∙ ap (λ (m : ℕ). s .at + (m + total-length left)) len ∙ ap (λ (bs : Bytes). s .at + (n + total-length (records-of bs))) d ∙ omega arith;
-          leads = here ∙ run-record size (length old) (ending job) (s .records) list (b .given) r left (test ∙ e)
-              ∙ ap (λ (l : Plain). run-from size (length old) (ending job) (suc (s .records)) l (b .given ++ answers-to list r) left)
-              (sym (turned .listed-is ∙ ap (λ (x : ℕ). passed x (feed list r) list) e))
-              ∙ ap₂ (λ (m : ℕ) (bs : Bytes). run-from size (length old) (ending job) m (listed job work′ (t .rows)) (b .given ++ answers-to list r) (records-of bs))
+          leads = here ∙ run-record size (length old) (ending job) (s .records) E list (answers-of (b .given)) r left (test ∙ e)
+              ∙ ap₂ (λ (x : Earlier) (l : Plain). run-from size (length old) (ending job) (suc (s .records)) x l (answers-of (b .given) ++ answers-to E list r) left)
+              (tracked e .is) (sym (turned .listed-is ∙ ap (λ (x : ℕ). passed x (feed list r) list) e))
+              ∙ ap (λ (xs : List Answer). run-from size (length old) (ending job) (suc (s .records)) (earlier-in job work′ answers′ (t .rows) (t .answers)) (listed job work′ (t .rows)) xs left)
+              (sym (answers-more (b .given) (s .at) (answers-to E list r)))
+              ∙ ap₂ (λ (m : ℕ) (bs : Bytes). run-from size (length old) (ending job) m (earlier-in job work′ answers′ (t .rows) (t .answers)) (listed job work′ (t .rows))
+              (answers-of (b .given ++ at-record (s .at) (answers-to E list r))) (records-of bs))
               (sym (add-one (s .records))) d;
         }
 
@@ -314,8 +379,8 @@ module _ {job old work answers : Bytes} {size : ℕ} {s : State} (b : Between jo
         record {
           given = b .given ++ [];
           holding = held (suc c) e (s .at) (s .records) (suc c) (h .within) (h .few) (omega arith);
-          ended = here ∙ run-record size (length old) (ending job) (s .records) list (b .given) r left (test ∙ e)
-              ∙ ap₂ (outcome (suc c) (s .records)) (sym (append-nil (b .given))) (sym (turned .listed-is ∙ ap (λ (x : ℕ). passed x (feed list r) list) e));
+          ended = here ∙ run-record size (length old) (ending job) (s .records) E list (answers-of (b .given)) r left (test ∙ e)
+              ∙ ap₂ (outcome (suc c) (s .records)) (ap answers-of (sym (append-nil (b .given)))) (sym (turned .listed-is ∙ ap (λ (x : ℕ). passed x (feed list r) list) e));
         }
 
   -- the next state: it has no code and stands further on, between two records, or it has one and the run ends there

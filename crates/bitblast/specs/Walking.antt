@@ -6,8 +6,8 @@ use lib.ListN.{length, drop}
 use Rattle.theory.specs.Limit.{first-terms, max-terms, max-job, answer-bytes}
 use Rattle.theory.specs.Record.{Bytes, extent, whole}
 use Rattle.theory.specs.Job.{Returned, returned, run, answers-after}
-use Rattle.terms.specs.Framing.{record-at}
-use Rattle.store.specs.Store.{Store}
+use Rattle.steps.specs.Answering.{sealed}
+use Rattle.chains.specs.Premises.{Noted}
 use Rattle.bitblast.specs.declared.Outcome.{Outcome}
 use Rattle.records.specs.declared.Turn.{Turn}
 use Rattle.bitblast.specs.declared.walk.State.{State}
@@ -25,11 +25,10 @@ state at stop records answers rows = record { at = at; stop = stop; records = re
 abbrev pub reached : State → Returned
 reached s = record { stop = s .stop; records = s .records; answers = s .answers; terms = s .rows + first-terms }
 
--- the terms are kept, no more records are done than bytes passed, and the answers have room
+-- the terms are kept, the answers have room and hold the places of their steps' records, and no more records are done than bytes passed
 pub record Standing (job work answers : Bytes) (s : State) : Type 0 where
-  pub store : Store job work (s .rows)
+  pub noted : Noted job work answers (s .rows) (s .answers)
   pub counted : s .records ≤ s .at
-  pub roomy : answer-bytes * s .answers ≤ length answers
 
 -- past a record of that size, or stopped at it: the record that stops the job is not counted
 abbrev pub moved : ℕ → State → Turn → State
@@ -40,7 +39,7 @@ moved size s t =
 pub data Next (job work answers : Bytes) (s : State) (work′ answers′ : Bytes) (s′ : State) : Type 0 where
   broken : whole (drop (s .at) job) ≡ false → work′ ≡ work → answers′ ≡ answers → s′ ≡ state (s .at) 3 (s .records) (s .answers) (s .rows)
       → Next job work answers s work′ answers′ s′
-  taken : whole (drop (s .at) job) ≡ true → (t : Turn) → Turned job work answers (s .rows) (s .answers) (record-at job (s .at)) work′ answers′ t
+  taken : whole (drop (s .at) job) ≡ true → (t : Turn) → Turned job work answers (s .rows) (s .answers) (s .at) work′ answers′ t
       → s′ ≡ moved (extent (drop (s .at) job)) s t → Next job work answers s work′ answers′ s′
 
 -- so many bytes of work memory are used of a job: all, or four for each byte of the job, which is more than its records can fill
@@ -48,10 +47,11 @@ pub record Enough (job work used : ℕ) : Type 0 where
   pub within : used ≤ work
   pub enough : used < work → 4 * job ≤ used
 
--- what the host is to be told of the whole job, and the answers' memory then; the numbers fit into 32 bits
+-- what the host is to be told of the whole job, and the answers' memory once its answers have their length and kind; the numbers fit into 32 bits
 pub record Walked (job : Bytes) (work : ℕ) (old answers : Bytes) (s : State) : Type 0 where
   pub result-is : reached s ≡ returned (run job work (length old))
-  pub answers-are : answers ≡ answers-after (run job work (length old) .answers) old
+  pub roomy : answer-bytes * s .answers ≤ length answers
+  pub answers-are : sealed (s .answers) answers ≡ answers-after (run job work (length old) .answers) old
   pub few-records : s .records ≤ max-job
   pub few-answers : s .answers ≤ max-job
   pub few-terms : s .rows + first-terms ≤ max-terms

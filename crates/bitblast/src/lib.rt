@@ -10,6 +10,7 @@ ghost use Rattle.theory.specs.Demand.{Demand3};
 ghost use Rattle.theory.specs.Demands.{Stops, Demand2};
 ghost use Rattle.bitblast.specs.Walking.{told, Enough};
 use crate::walk::walk;
+use steps::answers::seal;
 
 // The longest job, in bytes.
 pub const MAX_JOB: usize = 16777216;
@@ -37,6 +38,7 @@ fn check_job(job: &[u8], work: &mut [u8], answers: &mut [u8]) -> Outcome
         };
     }
     let s = walk(job, work, answers);
+    seal(answers, s.answers);
     Outcome {
         stop: s.stop,
         records: s.records as u32,

@@ -157,4 +157,5 @@ module _ {job work after : Bytes} {n count : ℕ} (s : Store job work n) (low : 
               ∙ widths-at job work n k (omega arith) ∙ s .widths-are k (omega arith) ∙ ap (λ (t : Term). sort-width (sort-of t)) (cut-tree k h);
         };
         listed-is = cut-listed;
+        offsets-are = c .offsets-are;
       }

@@ -34,7 +34,7 @@ use Rattle.theory.proofs.Distinct.{WellKept}
 use Rattle.theory.proofs.Bounds.{place-depth}
 use Rattle.terms.specs.Framing.{record-at}
 use Rattle.rows.specs.Layout.{missing, number-end, depth-at, width-at}
-use Rattle.rows.specs.Rows.{kept, depths, widths, place-of}
+use Rattle.rows.specs.Rows.{kept, offsets, depths, widths, place-of}
 use Rattle.table.specs.Slots.{Table}
 use Rattle.table.specs.Promise.{Grown, room-for, added-for, count-after, list-after}
 use Rattle.table.specs.declared.kept.Added.{Added}
@@ -46,7 +46,7 @@ use Rattle.terms.specs.Decoded.{op-of, arguments-of}
 use Rattle.store.specs.Store.{Store, stored, listed, records}
 use Rattle.store.specs.Sorts.{sorts-at, deepest-at}
 use Rattle.intern.specs.Kinds.{Fitting}
-use Rattle.intern.specs.Interning.{Offered, Taken, code-of, rows-after, answer-for, list-after as list-after-of}
+use Rattle.intern.specs.Interning.{Offered, Taken, code-of, rows-after, offsets-after, answer-for, list-after as list-after-of}
 use Rattle.store.proofs.Lookup.{says-count}
 use Rattle.intern.proofs.Asking.{tree-depth}
 use Rattle.store.proofs.Keeping.{records-at}
@@ -309,13 +309,14 @@ module _ {job work : Bytes} {n at : ℕ} {t : Decoded} (o : Offered job work n a
 
   taken : {answer : Interned} {after : Bytes}
       → answer ≡ answer-for (well-sorted (term-of (listed job work n) (op-of t) (arguments-of job t))) (has (listed job work n) (record-at job at)) (room (length work) (listed job work n)) n
-      → Store job after (rows-after answer n) → listed job after (rows-after answer n) ≡ list-after-of answer (listed job work n) (record-at job at) → Taken job work after n at t answer
-  taken {answer} e s l = record { answer-is = e; code-is = ap code-of e ∙ code-law _ _ _ n; store = s; listed-is = l }
+      → Store job after (rows-after answer n) → listed job after (rows-after answer n) ≡ list-after-of answer (listed job work n) (record-at job at)
+      → offsets after (rows-after answer n) ≡ offsets-after answer at (offsets work n) → Taken job work after n at t answer
+  taken {answer} e s l f = record { answer-is = e; code-is = ap code-of e ∙ code-law _ _ _ n; store = s; listed-is = l; offsets-are = f }
 
   -- it has no sort
   pub taken-unsorted : {s : Sort} → s ≡ sort-of (tree-of (listed job work n) (op-of t) (arguments-of job t)) → same-sort s bad ≡ true → Taken job work work n at t I.Unsorted
   unfolding answer-for
-  taken-unsorted {s} e f = taken (decided (sorted-is e ∙ bad-test s .0 f) refl refl) (o .arguments .store) refl
+  taken-unsorted {s} e f = taken (decided (sorted-is e ∙ bad-test s .0 f) refl refl) (o .arguments .store) refl refl
 
   module _ {after : Bytes} {d w : ℕ} {s : Sort} (bytes : AllBytes job) (e : s ≡ sort-of (tree-of (listed job work n) (op-of t) (arguments-of job t))) (f : same-sort s bad ≡ false)
       (de : d ≡ depth (tree-of (listed job work n) (op-of t) (arguments-of job t))) (we : w ≡ sort-width s) {a : Added} (g : Grown job work after n at d w a) where
@@ -335,7 +336,7 @@ module _ {job work : Bytes} {n at : ℕ} {t : Decoded} (o : Offered job work n a
         let s = o .arguments .store in
         let there = found-there s (record-at job at) (found-means (record-at job at) (kept job work n) (length work) (h .answer-is)) in
         taken (decided sorted-true there refl) (store-same s (h .table) (h .kept-is) (h .depths-are) (h .widths-are))
-        (ap stored (h .kept-is) ∙ fed-old s (record-at job at) (op-of t) (arguments-of job t) says-it all-low there)
+        (ap stored (h .kept-is) ∙ fed-old s (record-at job at) (op-of t) (arguments-of job t) says-it all-low there) (h .offsets-are)
 
     pub taken-spent : a ≡ A.Spent → Taken job work after n at t I.Spent
     unfolding count-after list-after answer-for
@@ -345,7 +346,7 @@ module _ {job work : Bytes} {n at : ℕ} {t : Decoded} (o : Offered job work n a
         let m = spent-means (record-at job at) (kept job work n) (length work) (h .answer-is) in
         let there = missing-there s (record-at job at) (sound-it .long) (m .0) in
         let none-left : room (length work) (listed job work n) ≡ false = room-is ∙ ap (λ (k : ℕ). room-for k (length work)) (sym (length-kept job work n)) ∙ m .1 in
-        taken (decided sorted-true there none-left) (store-same s (h .table) (h .kept-is) (h .depths-are) (h .widths-are)) (ap stored (h .kept-is))
+        taken (decided sorted-true there none-left) (store-same s (h .table) (h .kept-is) (h .depths-are) (h .widths-are)) (ap stored (h .kept-is)) (h .offsets-are)
 
     pub taken-new : {p : ℕ} → a ≡ A.New p → Taken job work after n at t (I.New (n + 1))
     unfolding count-after list-after answer-for
@@ -359,4 +360,4 @@ module _ {job work : Bytes} {n at : ℕ} {t : Decoded} (o : Offered job work n a
         let ws = h .widths-are ∙ ap (λ (x : ℕ). widths work n ++ (x ∷ [])) (we ∙ ap sort-width e) in
         taken (decided sorted-true there some-left)
         (store-snoc st (record-at job at) (op-of t) (arguments-of job t) says-it all-low after there (h .kept-is) sound-it (subst (λ (x : Sort). T (good x)) e (bad-test s .1 f)) (h .table) ds ws)
-        (snoc-fed st (record-at job at) (op-of t) (arguments-of job t) says-it all-low after there (h .kept-is))
+        (snoc-fed st (record-at job at) (op-of t) (arguments-of job t) says-it all-low after there (h .kept-is)) (h .offsets-are)

@@ -1,7 +1,7 @@
 -- What callers are promised when the store starts, is cut back, and takes a term.
 use mathlib.Core.Path.{_≡_}
 use mathlib.Core.Bool.{Bool, true, _||_, cond}
-use mathlib.Core.List.{[], _∷_}
+use mathlib.Core.List.{List, [], _∷_, _++_}
 use Prim.Native.Nat.{ℕ, _+_, _-_}
 use lib.ListN.{length, take, drop, replicate}
 use Rattle.theory.specs.Limit.{first-terms}
@@ -13,6 +13,7 @@ use Rattle.terms.specs.declared.Term.{Term}
 use Rattle.terms.specs.declared.Item.the-variants as I
 use Rattle.terms.specs.Framing.{record-at}
 use Rattle.terms.specs.Decoded.{op-of, operands-of, arguments-of, item-of}
+use Rattle.rows.specs.Rows.{offsets}
 use Rattle.store.specs.Store.{Store, listed}
 use Rattle.store.specs.Sorts.{Arguments}
 use Rattle.intern.specs.declared.Interned.{Interned}
@@ -28,6 +29,7 @@ pub record Started (job work after : Bytes) : Type 0 where
 pub record CutBack (job work after : Bytes) (n count : ℕ) : Type 0 where
   pub store : Store job after (count - first-terms)
   pub listed-is : listed job after (count - first-terms) ≡ take count (listed job work n)
+  pub offsets-are : offsets after (count - first-terms) ≡ take (count - first-terms) (offsets work n)
 
 -- ---- taking a term
 -- document 01's code of an answer
@@ -51,6 +53,13 @@ list-after Spent list r = list
 list-after (Found m) list r = feed list r
 list-after (New m) list r = feed list r
 
+-- where the records of the rows stand after it: a new one stands at `at`
+abbrev pub offsets-after : Interned → ℕ → List ℕ → List ℕ
+offsets-after Unsorted at os = os
+offsets-after Spent at os = os
+offsets-after (Found m) at os = os
+offsets-after (New m) at os = os ++ (at ∷ [])
+
 -- the answer where the term has a sort or not, its record is there or not, and there is room or not
 unfoldable pub answer-for : Bool → Bool → Bool → ℕ → Interned
 answer-for sorted there roomy n = cond sorted (cond there (Found n) (cond roomy (New (n + 1)) Spent)) Unsorted
@@ -71,3 +80,4 @@ pub record Taken (job work after : Bytes) (n at : ℕ) (t : Term) (answer : Inte
       ∷ (has (listed job work n) (record-at job at) || room (length work) (listed job work n), 8) ∷ [])
   pub store : Store job after (rows-after answer n)
   pub listed-is : listed job after (rows-after answer n) ≡ list-after answer (listed job work n) (record-at job at)
+  pub offsets-are : offsets after (rows-after answer n) ≡ offsets-after answer at (offsets work n)

@@ -1,5 +1,5 @@
 // Keeps and drops terms: the store is emptied at the start of a job, grown by a record's term, and cut back to a count of terms.
-mod arguments;
+pub mod arguments;
 mod guards;
 mod kinds;
 

@@ -28,6 +28,7 @@ verdict-of R.BitNotLiteral = Said.bit-not-literal
 verdict-of R.OtherValue = Said.other-value
 verdict-of R.TermsDiffer = Said.terms-differ
 verdict-of R.IndexNotNext = Said.index-not-next
+verdict-of R.PremiseBroken = Said.premise-broken
 
 -- the term at a place of the store
 abbrev pub tree : Bytes → Bytes → ℕ → ℕ → Term

@@ -1,14 +1,16 @@
 -- The tests of a step, as the code makes them one after the other.
-use mathlib.Core.Path.{_≡_, refl}
-use mathlib.Core.Bool.{true, false}
+use mathlib.Core.Path.{_≡_, refl, _∙_}
+use mathlib.Core.Bool.{Bool, true, false, cond}
+use mathlib.Core.Option.{none}
 use mathlib.Core.List.{List, [], _∷_}
-use Prim.Native.Nat.{ℕ, zero, suc, _*_, _<_, _≤_}
+use Prim.Native.Nat.{ℕ, zero, suc, _-_, _*_, _<_, _≤_}
 use native.Mathlib.Omega.{arith}
+use lib.Dec.{leb}
 use lib.ListN.{length, getElem?}
-use borrow.Author.Tests.{le-leb, lt-leb}
+use borrow.Author.Tests.{le-leb, lt-leb, lt-ltb, le-ltb}
 use Rattle.theory.specs.Limit.{answer-bytes}
 use Rattle.theory.specs.Optional.{is-some}
-use Rattle.theory.specs.RuleTable.{Rule, rules, rule-at}
+use Rattle.theory.specs.RuleTable.{Rule, rules, rule-at, chain-rules, chain-rule-at}
 use Rattle.theory.specs.Codes.{first-fault, all-below, step-tests}
 
 -- ---- a rule's number is 1 to 30
@@ -37,20 +39,54 @@ rule-high (suc n) h = go rules n (omega arith)
     go (r ∷ rs) zero l = absurd (omega arith)
     go (r ∷ rs) (suc i) l = go rs i (omega arith)
 
+-- ---- a chain's is 31 to 33
+pub chain-there : (n : ℕ) → 31 ≤ n → n ≤ 33 → is-some (chain-rule-at n) ≡ true
+chain-there n h k = rw (le-leb 31 n h) (go (n - 31) (omega arith))
+  where
+    go : (i : ℕ) → i < 3 → is-some (getElem? chain-rules i) ≡ true
+    go zero l = refl
+    go (suc zero) l = refl
+    go (suc (suc zero)) l = refl
+    go (suc (suc (suc i))) l = absurd (omega arith)
+
+pub chain-low : (n : ℕ) → n < 31 → is-some (chain-rule-at n) ≡ false
+chain-low n h = rw (lt-leb 31 n h)
+
+pub chain-high : (n : ℕ) → 33 < n → is-some (chain-rule-at n) ≡ false
+chain-high n h = rw (le-leb 31 n (omega arith)) (go (n - 31) (omega arith))
+  where
+    go : (i : ℕ) → 3 ≤ i → is-some (getElem? chain-rules i) ≡ false
+    go zero l = absurd (omega arith)
+    go (suc zero) l = absurd (omega arith)
+    go (suc (suc zero)) l = absurd (omega arith)
+    go (suc (suc (suc i))) l = refl
+
+-- its literal
+pub one-kept : (n k : ℕ) → k < n → all-below n (k ∷ []) ≡ true
+one-kept n k h = rw (lt-ltb k n h)
+
+pub one-gone : (n k : ℕ) → n ≤ k → all-below n (k ∷ []) ≡ false
+one-gone n k h = rw (le-ltb k n h)
+
 -- ---- the first test that fails gives the code
-module _ (terms space answered rule : ℕ) (ks : List ℕ) where
+module _ (terms space answered : ℕ) (known : Bool) (ks : List ℕ) where
   -- a literal is not kept
-  pub fault-6 : all-below terms ks ≡ false → 6 ≡ first-fault (step-tests terms space answered rule ks)
+  pub fault-6 : all-below terms ks ≡ false → 6 ≡ first-fault (step-tests terms space answered known ks)
   fault-6 a = rw a
 
   -- there is no such rule
-  pub fault-9 : all-below terms ks ≡ true → is-some (rule-at rule) ≡ false → 9 ≡ first-fault (step-tests terms space answered rule ks)
+  pub fault-9 : all-below terms ks ≡ true → known ≡ false → 9 ≡ first-fault (step-tests terms space answered known ks)
   fault-9 a b = rw (a, b)
 
-  -- there is no room for the answer
-  pub fault-19 : all-below terms ks ≡ true → is-some (rule-at rule) ≡ true → space < answer-bytes * suc answered → 19 ≡ first-fault (step-tests terms space answered rule ks)
-  fault-19 a b h = rw (a, b, lt-leb (answer-bytes * suc answered) space h)
+  -- what the last test says
+  pub fault-room : all-below terms ks ≡ true → known ≡ true → {c : ℕ} → c ≡ cond (leb (answer-bytes * suc answered) space) 0 19
+      → c ≡ first-fault (step-tests terms space answered known ks)
+  fault-room a b e = e ∙ rw (a, b)
 
-  -- all pass
-  pub fault-none : all-below terms ks ≡ true → is-some (rule-at rule) ≡ true → answer-bytes * suc answered ≤ space → 0 ≡ first-fault (step-tests terms space answered rule ks)
-  fault-none a b h = rw (a, b, le-leb (answer-bytes * suc answered) space h)
+-- there is no room for one more answer
+pub no-room : (space answered : ℕ) → space < answer-bytes * suc answered → _≡_ {A = ℕ} 19 (cond (leb (answer-bytes * suc answered) space) 0 19)
+no-room space answered h = rw (lt-leb (answer-bytes * suc answered) space h)
+
+-- there is
+pub some-room : (space answered : ℕ) → answer-bytes * suc answered ≤ space → _≡_ {A = ℕ} 0 (cond (leb (answer-bytes * suc answered) space) 0 19)
+some-room space answered h = rw (le-leb (answer-bytes * suc answered) space h)

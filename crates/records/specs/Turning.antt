@@ -1,19 +1,22 @@
 -- One record of a job: what it says, and what became of it.
 use mathlib.Core.Path.{_≡_}
 use mathlib.Core.Bool.{true}
-use mathlib.Core.List.{[]}
+use mathlib.Core.List.{List, []}
 use Prim.Native.Nat.{ℕ, zero, suc, _+_}
 use lib.ListN.{length, drop}
 use Rattle.theory.specs.Record.{Bytes, whole, read}
 use Rattle.theory.specs.Plain.{feed}
 use Rattle.theory.specs.Codes.{fault}
+use Rattle.theory.specs.Answer.{Answer}
 use Rattle.theory.specs.Job.{answers-to}
+use Rattle.theory.proofs.Origins.{origins-item}
 use Rattle.terms.specs.declared.Item.{Item}
 use Rattle.terms.specs.Framing.{record-at}
 use Rattle.terms.specs.Decoded.{Placed, item-of}
 use Rattle.store.specs.Store.{Store, listed}
 use Rattle.records.specs.declared.Turn.{Turn}
-use Rattle.steps.specs.Answering.{with-answers}
+use Rattle.steps.specs.Answering.{with-notes}
+use Rattle.chains.specs.Premises.{earlier-in, origins}
 
 -- the first where the code is 0, else the second
 abbrev pub passed : {A : Type 0} → ℕ → A → A → A
@@ -31,10 +34,19 @@ pub record Reading (job work : Bytes) (rows at : ℕ) (item : Item) : Type 0 whe
   pub says : item-of job item ≡ read (record-at job at)
   pub placed : Placed job item
 
--- what became of record r, by theory's tests, plain list and answers; where a code stops the job, terms and answers stay
-pub record Turned (job work answers : Bytes) (rows answered : ℕ) (r work′ answers′ : Bytes) (t : Turn) : Type 0 where
-  pub code-is : t .code ≡ fault (length work) (length answers) (listed job work rows) answered r
+-- the answers to the record at `at`
+abbrev pub answers-at : Bytes → Bytes → Bytes → ℕ → ℕ → ℕ → List Answer
+answers-at job work answers rows answered at = answers-to (earlier-in job work answers rows answered) (listed job work rows) (record-at job at)
+
+-- the origins after it
+abbrev pub origins-at : Bytes → Bytes → ℕ → ℕ → List ℕ
+origins-at job work rows at = origins-item (origins work rows) (listed job work rows) at (record-at job at) (read (record-at job at))
+
+-- what became of the record at `at`, by theory's tests, plain list and answers; where a code stops the job, terms and answers stay
+pub record Turned (job work answers : Bytes) (rows answered at : ℕ) (work′ answers′ : Bytes) (t : Turn) : Type 0 where
+  pub code-is : t .code ≡ fault (length work) (length answers) (listed job work rows) answered (record-at job at)
   pub store : Store job work′ (t .rows)
-  pub listed-is : listed job work′ (t .rows) ≡ passed (t .code) (feed (listed job work rows) r) (listed job work rows)
-  pub answers-is : t .answers ≡ answered + length (passed (t .code) (answers-to (listed job work rows) r) [])
-  pub written-is : answers′ ≡ with-answers answers answered (passed (t .code) (answers-to (listed job work rows) r) [])
+  pub listed-is : listed job work′ (t .rows) ≡ passed (t .code) (feed (listed job work rows) (record-at job at)) (listed job work rows)
+  pub origins-are : origins work′ (t .rows) ≡ passed (t .code) (origins-at job work rows at) (origins work rows)
+  pub answers-is : t .answers ≡ answered + length (passed (t .code) (answers-at job work answers rows answered at) [])
+  pub written-is : answers′ ≡ with-notes answers answered at (passed (t .code) (answers-at job work answers rows answered at) [])

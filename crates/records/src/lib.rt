@@ -1,23 +1,30 @@
 // One record of a job: its tests in document 01's order, and what it does to the terms and the answers where it passes.
 ghost use mathlib.Core.Path.{_≡_};
-ghost use mathlib.Core.Bool.{true};
-ghost use Prim.Native.Nat.{_+_, _*_, _≤_};
+ghost use mathlib.Core.Bool.{true, cond};
+ghost use mathlib.Core.List.{[], _∷_};
+ghost use Prim.Native.Nat.{suc, _+_, _*_, _≤_};
+ghost use lib.Dec.{leb};
 ghost use lib.ListN.{length, drop};
 ghost use Rattle.theory.specs.Limit.{answer-bytes, first-terms, max-terms};
+ghost use Rattle.theory.specs.Optional.{is-some};
+ghost use Rattle.theory.specs.RuleTable.{rule-at, chain-rule-at};
 ghost use Rattle.theory.specs.Record.{Bytes, whole};
 ghost use Rattle.theory.specs.Codes.{first-fault, step-tests};
-ghost use Rattle.terms.specs.Framing.{record-at};
 ghost use Rattle.terms.specs.declared.Item.the-variants as I;
 ghost use Rattle.terms.specs.Decoded.{Inside, words-in};
-ghost use Rattle.store.specs.Store.{Store};
 ghost use Rattle.intern.specs.Interning.{code-of, rows-after};
+ghost use Rattle.steps.specs.Answering.{given, with-notes};
+ghost use Rattle.chains.specs.Premises.{Noted};
 ghost use Rattle.records.specs.Turning.{turn, Reading, Turned};
+use chains::chain_verdict;
 use intern::Interned;
 use intern::back;
 use intern::intern;
 use rows::FIRST_PLACE;
 use steps::answer;
+use steps::answers::Reply;
 use steps::answers::put_answer;
+use steps::judge;
 use terms::ANSWER_BYTES;
 use terms::Args;
 use terms::Item;
@@ -25,6 +32,11 @@ use terms::Term;
 
 // The number of the last rule; the first is 1.
 const LAST_RULE: u32 = 30;
+
+// The numbers of the first and the last rule of a chain.
+const FIRST_CHAIN_RULE: u32 = 31;
+
+const LAST_CHAIN_RULE: u32 = 33;
 
 // What became of a record: the code that stops the job or 0, and then the answers written and the rows kept.
 pub struct Turn {
@@ -71,7 +83,7 @@ fn term_record(
     term: Term,
 ) -> Turn
     requires { ⌜ Reading (now job) (now work) rows at (I.Term term) ⌝ }
-    ensures { λ r. ⌜ ((answers : Bytes) → Turned (now (job .entry)) (now (work .entry)) answers rows answered (record-at (now (job .entry)) at) (now (work .exit)) answers r) ⌝ }
+    ensures { λ r. ⌜ ((answers : Bytes) → Turned (now (job .entry)) (now (work .entry)) answers rows answered at (now (work .exit)) answers r) ⌝ }
 {
     if !term.below(job, (rows + FIRST_PLACE) as u32) {
         return Turn {
@@ -84,6 +96,17 @@ fn term_record(
     kept_turn(kept, answered, rows)
 }
 
+// 19 where there is no room for one more answer, or 0.
+fn room_fault(answered: usize, space: usize) -> u32
+    requires { ⌜ answer-bytes * answered ≤ space ⌝ }
+    ensures { λ r. ⌜ r ≡ cond (leb (answer-bytes * suc answered) space) 0 19 ⌝ }
+{
+    if space - ANSWER_BYTES * answered < ANSWER_BYTES {
+        return 19;
+    }
+    0
+}
+
 // The code that stops the job at a step, or 0: 6 where a literal is not kept, 9 where there is no such rule, 19 where there is no room for its answer.
 fn step_fault(
     job: &[u8],
@@ -94,7 +117,7 @@ fn step_fault(
     literals: Args,
 ) -> u32
     requires { ⌜ Inside (now job) literals × (rows + first-terms ≤ max-terms) × (answer-bytes * answered ≤ space) ⌝ }
-    ensures { λ r. ⌜ r ≡ first-fault (step-tests (rows + first-terms) space answered rule (words-in (now (job .entry)) literals)) ⌝ }
+    ensures { λ r. ⌜ r ≡ first-fault (step-tests (rows + first-terms) space answered (is-some (rule-at rule)) (words-in (now (job .entry)) literals)) ⌝ }
 {
     if !Term::all_below(job, literals, (rows + FIRST_PLACE) as u32) {
         return 6;
@@ -105,10 +128,28 @@ fn step_fault(
     if LAST_RULE < rule {
         return 9;
     }
-    if space - ANSWER_BYTES * answered < ANSWER_BYTES {
-        return 19;
+    room_fault(answered, space)
+}
+
+// The answer to a step of either kind is written.
+fn answered_turn(
+    answers: &mut [u8],
+    rows: usize,
+    answered: usize,
+    at: usize,
+    rule: u32,
+    reply: Reply,
+) -> Turn
+    requires { ⌜ answer-bytes * suc answered ≤ length (now answers) ⌝ }
+    ensures written { λ _. ⌜ now (answers .exit) ≡ with-notes (now (answers .entry)) answered at (given rule reply ∷ []) ⌝ }
+    ensures turned { λ r. ⌜ r ≡ turn 0 (answered + 1) rows ⌝ }
+{
+    put_answer(answers, answered, at, rule, reply);
+    Turn {
+        code: 0,
+        answers: answered + 1,
+        rows: rows,
     }
-    0
 }
 
 // A step: where it passes, its answer is written.
@@ -123,7 +164,7 @@ fn step_record(
     literals: Args,
 ) -> Turn
     requires { ⌜ Reading (now job) (now work) rows at (I.Step rule literals) × (answer-bytes * answered ≤ length (now answers)) ⌝ }
-    ensures { λ r. ⌜ Turned (now (job .entry)) (now (work .entry)) (now (answers .entry)) rows answered (record-at (now (job .entry)) at) (now (work .entry)) (now (answers .exit)) r ⌝ }
+    ensures { λ r. ⌜ Turned (now (job .entry)) (now (work .entry)) (now (answers .entry)) rows answered at (now (work .entry)) (now (answers .exit)) r ⌝ }
 {
     let code = step_fault(job, rows, answered, answers.len(), rule, literals);
     if code != 0 {
@@ -134,12 +175,52 @@ fn step_record(
         };
     }
     let reply = answer(job, work, rows, rule, literals);
-    put_answer(answers, answered, rule, reply);
-    Turn {
-        code: 0,
-        answers: answered + 1,
-        rows: rows,
+    answered_turn(answers, rows, answered, at, rule, reply)
+}
+
+// The code that stops the job at a chain, or 0: 6 where its literal is not kept, 9 where there is no such rule, 19 where there is no room for its answer.
+fn chain_fault(rows: usize, answered: usize, space: usize, rule: u32, literal: u32) -> u32
+    requires { ⌜ (rows + first-terms ≤ max-terms) × (answer-bytes * answered ≤ space) ⌝ }
+    ensures { λ r. ⌜ r ≡ first-fault (step-tests (rows + first-terms) space answered (is-some (chain-rule-at rule)) (literal ∷ [])) ⌝ }
+{
+    if (rows + FIRST_PLACE) as u32 <= literal {
+        return 6;
     }
+    if rule < FIRST_CHAIN_RULE {
+        return 9;
+    }
+    if LAST_CHAIN_RULE < rule {
+        return 9;
+    }
+    room_fault(answered, space)
+}
+
+// A chain: where it passes, its answer is written.
+fn chain_record(
+    job: &[u8],
+    work: &[u8],
+    answers: &mut [u8],
+    rows: usize,
+    answered: usize,
+    at: usize,
+    rule: u32,
+    premises: Args,
+    literal: u32,
+) -> Turn
+    requires { ⌜ Reading (now job) (now work) rows at (I.Chain rule premises literal) × Noted (now job) (now work) (now answers) rows answered ⌝ }
+    ensures { λ r. ⌜ Turned (now (job .entry)) (now (work .entry)) (now (answers .entry)) rows answered at (now (work .entry)) (now (answers .exit)) r ⌝ }
+{
+    let code = chain_fault(rows, answered, answers.len(), rule, literal);
+    if code != 0 {
+        return Turn {
+            code: code,
+            answers: answered,
+            rows: rows,
+        };
+    }
+    let v = chain_verdict(job, work, answers, rows, answered, rule, premises, literal);
+    let reply = judge(job, work, rows, literal, v);
+    answered_turn(answers, rows, answered, at, rule, reply)
 }
 
 // A back: 18 where its count is below 2 or above the number of terms.
@@ -152,7 +233,7 @@ fn back_record(
     count: u32,
 ) -> Turn
     requires { ⌜ Reading (now job) (now work) rows at (I.Back count) ⌝ }
-    ensures { λ r. ⌜ ((answers : Bytes) → Turned (now (job .entry)) (now (work .entry)) answers rows answered (record-at (now (job .entry)) at) (now (work .exit)) answers r) ⌝ }
+    ensures { λ r. ⌜ ((answers : Bytes) → Turned (now (job .entry)) (now (work .entry)) answers rows answered at (now (work .exit)) answers r) ⌝ }
 {
     let n = count as usize;
     if n < FIRST_PLACE {
@@ -186,8 +267,8 @@ pub fn take_record(
     answered: usize,
     at: usize,
 ) -> Turn
-    requires { ⌜ Store (now job) (now work) rows × (answer-bytes * answered ≤ length (now answers)) × (whole (drop at (now job)) ≡ true) ⌝ }
-    ensures { λ r. ⌜ Turned (now (job .entry)) (now (work .entry)) (now (answers .entry)) rows answered (record-at (now (job .entry)) at) (now (work .exit)) (now (answers .exit)) r ⌝ }
+    requires { ⌜ Noted (now job) (now work) (now answers) rows answered × (whole (drop at (now job)) ≡ true) ⌝ }
+    ensures { λ r. ⌜ Turned (now (job .entry)) (now (work .entry)) (now (answers .entry)) rows answered at (now (work .exit)) (now (answers .exit)) r ⌝ }
 {
     let item = Term::read(job, at);
     match item {
@@ -201,6 +282,17 @@ pub fn take_record(
             at,
             rule,
             literals,
+        ),
+        Item::Chain(rule, premises, literal) => chain_record(
+            job,
+            work,
+            answers,
+            rows,
+            answered,
+            at,
+            rule,
+            premises,
+            literal,
         ),
         Item::Back(count) => back_record(job, work, rows, answered, at, count),
         Item::Unknown => Turn {

@@ -23,6 +23,10 @@ row-record job work k = record-at job (offset-at work k)
 unfoldable pub kept : Bytes → Bytes → ℕ → List Bytes
 kept job work n = column (row-record job work) n
 
+-- where they stand in the job
+unfoldable pub offsets : Bytes → ℕ → List ℕ
+offsets work n = column (offset-at work) n
+
 -- their depths
 unfoldable pub depths : Bytes → ℕ → List ℕ
 depths work n = column (depth-at work) n

@@ -9,13 +9,11 @@ use lib.Dec.{ltb}
 use lib.ListN.{length, getD, length-map}
 use borrow.Author.Tests.{ltb-true}
 use Rattle.theory.specs.Term.{Term}
-use Rattle.theory.specs.Kind.{Equals}
-use Rattle.theory.specs.Depth.{depth}
 use Rattle.theory.specs.Verdict as W
 use Rattle.theory.specs.Verdict.{Verdict, wrong-form, code-of, accepted}
 use Rattle.theory.specs.Optional.{either}
 use Rattle.theory.specs.RuleTable.{Rule, rule-at}
-use Rattle.theory.specs.Rule.{verdict}
+use Rattle.theory.specs.Rule.{on-sides, verdict}
 use Rattle.theory.specs.Record.{Bytes}
 use Rattle.theory.specs.Plain.{Plain}
 use Rattle.theory.specs.Codes.{all-below}
@@ -23,16 +21,11 @@ use Rattle.theory.specs.Job.{right-depth, judged, unjudged, answer-to}
 use Rattle.theory.proofs.Places.{tree-at}
 use Rattle.theory.proofs.Bytes.{words-length}
 use Rattle.terms.specs.declared.Args.{Args}
-use Rattle.terms.specs.declared.Term.{Term as Decoded}
-use Rattle.terms.specs.declared.Term.the-variants as D
-use Rattle.terms.specs.declared.Operands.the-variants.{Two as TwoArgs}
-use Rattle.terms.specs.Decoded.{op-of, operands-of, words-in}
+use Rattle.terms.specs.Decoded.{words-in}
 use Rattle.terms.proofs.Parts.{both}
-use Rattle.store.specs.Terms.{TermAt}
-use Rattle.operand_rules.specs.Rules.{tree}
-use Rattle.operand_rules.proofs.Forms.{made-of}
 use Rattle.steps.specs.declared.answers.Reply.{Reply}
-use Rattle.steps.specs.Answering.{given, Judged}
+use Rattle.steps.specs.Answering.{given, equation-depth, Judged}
+use Rattle.steps.proofs.Equations.{accepted-depth}
 
 -- a reply by its parts
 abbrev pub reply : ℕ → ℕ → Reply
@@ -51,6 +44,7 @@ accepts W.bit-not-literal h = absurd (omega arith)
 accepts W.other-value h = absurd (omega arith)
 accepts W.terms-differ h = absurd (omega arith)
 accepts W.index-not-next h = absurd (omega arith)
+accepts W.premise-broken h = absurd (omega arith)
 
 -- from 10 on it refuses
 pub refuses : (v : Verdict) → 10 ≤ code-of v → accepted v ≡ false
@@ -64,10 +58,7 @@ refuses W.bit-not-literal h = refl
 refuses W.other-value h = refl
 refuses W.terms-differ h = refl
 refuses W.index-not-next h = refl
-
--- a literal of the wrong form is not accepted
-pub wrong-refused : {v : Verdict} → wrong-form ≡ v → accepted v ≡ true → ⊥
-wrong-refused e a = let f : false ≡ true = ap accepted e ∙ a in let z : _≡_ {A = ℕ} 0 1 = cc in omega arith
+refuses W.premise-broken h = refl
 
 -- ---- the reply with a verdict
 module _ {v : Verdict} {literal : Term} {code : ℕ} (e : code ≡ code-of v) where
@@ -75,21 +66,28 @@ module _ {v : Verdict} {literal : Term} {code : ℕ} (e : code ≡ code-of v) wh
   pub judged-no : 10 ≤ code → Judged v literal (reply code 0)
   judged-no h = record {
     code-is = e;
-    depth-is = λ rule f. sym (ap (λ (b : Bool). cond b (right-depth literal) 0) (refuses v (omega arith)));
+    depth-is = sym (ap (λ (b : Bool). cond b (equation-depth literal) 0) (refuses v (omega arith)));
   }
 
   -- it accepts: the right side's depth
-  pub judged-yes : {d : ℕ} → code < 10 → ((rule : Rule) → accepted (verdict rule literal) ≡ true → d ≡ right-depth literal) → Judged v literal (reply code d)
-  judged-yes h g =
-      let a = accepts v (omega arith) in
-      record {
-        code-is = e;
-        depth-is = λ rule f. g rule (ap accepted (sym f) ∙ a) ∙ sym (ap (λ (b : Bool). cond b (right-depth literal) 0) a);
-      }
+  pub judged-yes : {d : ℕ} → code < 10 → d ≡ equation-depth literal → Judged v literal (reply code d)
+  judged-yes h g = record { code-is = e; depth-is = g ∙ sym (ap (λ (b : Bool). cond b (equation-depth literal) 0) (accepts v (omega arith))) }
 
--- the right side of an equation
-pub right-of : {job work : Bytes} {n p : ℕ} {t : Decoded} → TermAt job work n p t → {l r : ℕ} → t ≡ D.Equals l r → depth (tree job work n r) ≡ right-depth (tree job work n p)
-right-of s {l} {r} e = sym (ap right-depth (made-of s Equals (TwoArgs l r) (ap op-of e) (ap operands-of e)))
+-- it is theory's, where an accepted literal has a right side
+pub judged-is : (n : ℕ) {v : Verdict} {t : Term} {r : Reply} → Judged v t r → (accepted v ≡ true → equation-depth t ≡ right-depth t) → given n r ≡ judged n v t
+judged-is n {v} {t} {r} j f = given-by (j .code-is) (j .depth-is ∙ go (accepted v) f)
+  where
+    go : (b : Bool) → (b ≡ true → equation-depth t ≡ right-depth t) → cond b (equation-depth t) 0 ≡ cond b (right-depth t) 0
+    go true g = g refl
+    go false g = refl
+
+    given-by : {c d : ℕ} → r .code ≡ c → r .depth ≡ d → given n r ≡ record { rule = n; code = c; depth = d }
+    given-by p q = rw (p, q)
+
+-- a rule's verdict
+rule-depth : (rule : Rule) (t : Term) → accepted (verdict rule t) ≡ true → equation-depth t ≡ right-depth t
+unfolding verdict
+rule-depth rule t a = accepted-depth t (on-sides rule) a
 
 -- ---- the verdict of a rule that there is
 pub of-rule : {v : Verdict} (n : ℕ) (literal : Term) → v ≡ either wrong-form (λ (q : Rule). verdict q literal) (rule-at n) → (r : Rule) → rule-at n ≡ some r → v ≡ verdict r literal
@@ -119,10 +117,8 @@ one-literal : (n : ℕ) {v : Verdict} (rule : Rule) (list : Plain) (ks : List �
 one-literal n rule list [] l e f j = absurd (omega arith)
 one-literal n rule list (k ∷ j ∷ js) l e f g = absurd (omega arith)
 one-literal n {v} rule list (k ∷ []) l {x} e f {r} g =
-    given-by (g .code-is) (g .depth-is rule f) ∙ ap (λ (w : Verdict). judged n w (tree-at list x)) f ∙ ap (λ (i : ℕ). judged n (verdict rule (tree-at list i)) (tree-at list i)) e
-  where
-    given-by : {c d : ℕ} → r .code ≡ c → r .depth ≡ d → given n r ≡ record { rule = n; code = c; depth = d }
-    given-by p q = rw (p, q)
+    judged-is n g (λ a. rule-depth rule (tree-at list x) (ap accepted (sym f) ∙ a))
+    ∙ ap (λ (w : Verdict). judged n w (tree-at list x)) f ∙ ap (λ (i : ℕ). judged n (verdict rule (tree-at list i)) (tree-at list i)) e
 
 -- by its literals in the job
 pub one-judged : (n : ℕ) {v : Verdict} (rule : Rule) (list : Plain) (job : Bytes) (a : Args) → a .count ≡ 1 → {x : ℕ} → x ≡ getD (words-in job a) 0 0 → v ≡ verdict rule (tree-at list x)

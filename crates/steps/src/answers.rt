@@ -1,10 +1,14 @@
-// Writing an answer: ten bytes, five numbers of two bytes.
+// The answers' memory: ten bytes for each answer, five numbers of two bytes. While the job runs, the bytes of an answer's length and kind hold the
+// place of its step's record in the job, by which a chain finds the literals of its premises; they are written when the job has ended.
 ghost use mathlib.Core.Path.{_≡_};
 ghost use mathlib.Core.List.{[], _∷_};
 ghost use Prim.Native.Nat.{suc, _*_, _≤_};
 ghost use lib.ListN.{length};
-ghost use Rattle.theory.specs.Limit.{answer-bytes};
-ghost use Rattle.steps.specs.Answering.{given, with-answers};
+ghost use Rattle.theory.specs.Limit.{answer-bytes, max-job};
+ghost use Rattle.rows.specs.Layout.{Bounded, number-end};
+ghost use Rattle.steps.specs.Answering.{given, step-place, step-code, with-notes, sealed};
+use rows::bytes::number;
+use rows::bytes::offset;
 use rows::bytes::put_number;
 use terms::ANSWER_BYTES;
 use terms::ANSWER_KIND_AT;
@@ -24,15 +28,44 @@ const ANSWER_LENGTH: usize = ANSWER_BYTES - Term::NUMBER_BYTES;
 
 const ANSWER_KIND: usize = 200;
 
-// Stores answer k: its length, its kind, the rule, the code and the depth.
-pub fn put_answer(d: &mut [u8], k: usize, rule: u32, reply: Reply)
+// Stores answer k while the job runs: the place of the step's record, the rule, the code and the depth.
+pub fn put_answer(d: &mut [u8], k: usize, place: usize, rule: u32, reply: Reply)
     requires { ⌜ answer-bytes * suc k ≤ length (now d) ⌝ }
-    ensures { λ _. ⌜ now (d .exit) ≡ with-answers (now (d .entry)) k (given rule reply ∷ []) ⌝ }
+    ensures { λ _. ⌜ now (d .exit) ≡ with-notes (now (d .entry)) k place (given rule reply ∷ []) ⌝ }
 {
     let at = ANSWER_BYTES * k;
-    put_number(d, at, Term::NUMBER_BYTES, ANSWER_LENGTH);
-    put_number(d, at + ANSWER_KIND_AT, Term::NUMBER_BYTES, ANSWER_KIND);
+    put_number(d, at, RULE_AT, place);
     put_number(d, at + RULE_AT, Term::NUMBER_BYTES, rule as usize);
     put_number(d, at + CODE_AT, Term::NUMBER_BYTES, reply.code as usize);
     put_number(d, at + DEPTH_AT, Term::NUMBER_BYTES, reply.depth);
+}
+
+// The place of the record of answer k's step.
+pub fn place_at(d: &[u8], k: usize) -> usize
+    requires { ⌜ answer-bytes * suc k ≤ length (now d) ⌝ }
+    ensures { λ r. ⌜ Bounded r (step-place (now (d .entry)) k) max-job ⌝ }
+{
+    offset(d, ANSWER_BYTES * k)
+}
+
+// The code of answer k.
+pub fn code_at(d: &[u8], k: usize) -> usize
+    requires { ⌜ answer-bytes * suc k ≤ length (now d) ⌝ }
+    ensures { λ r. ⌜ Bounded r (step-code (now (d .entry)) k) number-end ⌝ }
+{
+    number(d, ANSWER_BYTES * k + CODE_AT)
+}
+
+// Writes the length and the kind of the first n answers.
+pub fn seal(d: &mut [u8], n: usize)
+    requires { ⌜ answer-bytes * n ≤ length (now d) ⌝ }
+    ensures { λ _. ⌜ now (d .exit) ≡ sealed n (now (d .entry)) ⌝ }
+{
+    let mut k: usize = 0;
+    while k < n {
+        let head = ANSWER_BYTES * k;
+        put_number(d, head, Term::NUMBER_BYTES, ANSWER_LENGTH);
+        put_number(d, head + ANSWER_KIND_AT, Term::NUMBER_BYTES, ANSWER_KIND);
+        k += 1;
+    }
 }

@@ -7,16 +7,15 @@ ghost use mathlib.Core.List.{map};
 ghost use mathlib.Core.Option.{some};
 ghost use Prim.Native.Nat.{_+_, _<_};
 ghost use Rattle.theory.specs.Limit.{first-terms};
-ghost use Rattle.theory.specs.Verdict.{code-of, accepted};
+ghost use Rattle.theory.specs.Verdict.{code-of};
 ghost use Rattle.theory.specs.Optional.{is-some};
 ghost use Rattle.theory.specs.RuleTable.{Rule, rule-at};
-ghost use Rattle.theory.specs.Rule.{verdict as verdict·of};
-ghost use Rattle.theory.specs.Job.{right-depth, answer-to};
+ghost use Rattle.theory.specs.Job.{answer-to};
 ghost use Rattle.theory.proofs.Places.{tree-at};
 ghost use Rattle.terms.specs.Decoded.{words-in};
 ghost use Rattle.store.specs.Store.{Store, listed};
 ghost use Rattle.operand_rules.specs.Rules.{tree, verdict-of};
-ghost use Rattle.steps.specs.Answering.{given, Literals, Judged};
+ghost use Rattle.steps.specs.Answering.{given, equation-depth, Literals, Judged};
 use crate::answers::Reply;
 use rules::Verdict;
 use rules::verdict;
@@ -43,13 +42,14 @@ fn code(v: Verdict) -> u32
         Verdict::OtherValue => 15,
         Verdict::TermsDiffer => 16,
         Verdict::IndexNotNext => 17,
+        Verdict::PremiseBroken => 24,
     }
 }
 
-// The depth of the right side of a literal that a rule accepts, which is an equation.
+// The depth of the right side of a literal that is an equation, and 0 of any other.
 fn right_depth(job: &[u8], work: &[u8], n: usize, literal: u32) -> usize
     requires { ⌜ Store (now job) (now work) n × (literal < first-terms + n) ⌝ }
-    ensures { λ r. ⌜ ((rule : Rule) → accepted (verdict·of rule (tree (now (job .entry)) (now (work .entry)) n literal)) ≡ true → r ≡ right-depth (tree (now (job .entry)) (now (work .entry)) n literal)) ⌝ }
+    ensures { λ r. ⌜ r ≡ equation-depth (tree (now (job .entry)) (now (work .entry)) n literal) ⌝ }
 {
     let Term::Equals(_, r) = term_at(job, work, n, literal) else {
         return 0;
@@ -58,7 +58,7 @@ fn right_depth(job: &[u8], work: &[u8], n: usize, literal: u32) -> usize
 }
 
 // The answer with that verdict on a literal.
-fn judge(job: &[u8], work: &[u8], n: usize, literal: u32, v: Verdict) -> Reply
+pub fn judge(job: &[u8], work: &[u8], n: usize, literal: u32, v: Verdict) -> Reply
     requires { ⌜ Store (now job) (now work) n × (literal < first-terms + n) ⌝ }
     ensures { λ r. ⌜ Judged (verdict-of v) (tree (now (job .entry)) (now (work .entry)) n literal) r ⌝ }
 {

@@ -11,7 +11,7 @@ use lib.Ieee.Fits.{and-l, and-r}
 use lib.ListN.{length, length-append}
 use Rattle.theory.specs.Limit.{number-bytes, value-bytes, max-terms}
 use Rattle.theory.specs.Kind.{Op, Const, kind, Arity, exactly, arity, takes}
-use Rattle.theory.specs.Record.{Bytes, AllBytes, little-endian, word, words, bytes-of, kind-of, body-of, fits, arguments, Shape, plain, indexed, valued, shape-of, term, misfit, read-term, read-step, read-back, read}
+use Rattle.theory.specs.Record.{Bytes, AllBytes, little-endian, word, words, bytes-of, kind-of, body-of, fits, arguments, Shape, plain, indexed, valued, shape-of, term, misfit, read-term, read-step, read-back, read, read-chain}
 use Rattle.theory.proofs.Bytes.{Sound}
 use Rattle.table.specs.Keys.{record-of, words-bytes, all-places}
 use Rattle.table.proofs.KeyLaws.{words-bytes-length}
@@ -53,22 +53,25 @@ record-sound k body h b = record {
   long = omega arith;
 }
 
--- a term's record: not a step's kind, not a back's
+-- a term's record: not a step's kind, not a chain's, not a back's
 read-as : (k : ℕ) (s : Shape) (body : Bytes) → k < 100 → shape-of k ≡ some s → read (record-of k body) ≡ read-term (some s) body
 unfolding read
 read-as k s body h e =
     let kk : kind-of (record-of k body) ≡ k = record-kind k body (omega arith) in
-    by-kind (eqb (kind-of (record-of k body)) 100) (eqb (kind-of (record-of k body)) 101)
+    by-kind (eqb (kind-of (record-of k body)) 100) (eqb (kind-of (record-of k body)) 104) (eqb (kind-of (record-of k body)) 101)
     (λ t. let z = eqb→eq (kind-of (record-of k body)) 100 t in omega arith)
+    (λ t. let z = eqb→eq (kind-of (record-of k body)) 104 t in omega arith)
     (λ t. let z = eqb→eq (kind-of (record-of k body)) 101 t in omega arith)
     ∙ ap₂ read-term (ap shape-of kk ∙ e) (record-body k body)
   where
-    by-kind : (a b : Bool) → (T a → ⊥) → (T b → ⊥)
-        → cond a (read-step (body-of (record-of k body))) (cond b (read-back (body-of (record-of k body))) (read-term (shape-of (kind-of (record-of k body))) (body-of (record-of k body))))
+    by-kind : (a b c : Bool) → (T a → ⊥) → (T b → ⊥) → (T c → ⊥)
+        → cond a (read-step (body-of (record-of k body))) (cond b (read-chain (body-of (record-of k body)))
+        (cond c (read-back (body-of (record-of k body))) (read-term (shape-of (kind-of (record-of k body))) (body-of (record-of k body)))))
         ≡ read-term (shape-of (kind-of (record-of k body))) (body-of (record-of k body))
-    by-kind true b f g = absurd (f tt)
-    by-kind false true f g = absurd (g tt)
-    by-kind false false f g = refl
+    by-kind true b c f g h = absurd (f tt)
+    by-kind false true c f g h = absurd (g tt)
+    by-kind false false true f g h = absurd (h tt)
+    by-kind false false false f g h = refl
 
 -- ---- a body: some bytes, then arguments
 front-length : (pre : Bytes) (ks : List ℕ) → length (pre ++ words-bytes ks) ≡ length pre + length ks * 2

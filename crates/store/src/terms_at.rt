@@ -25,6 +25,7 @@ pub fn term_at(job: &[u8], work: &[u8], n: usize, place: u32) -> Term
         Item::Term(t) => t,
         // A row's record says a term, so nothing below is reached.
         Item::Step(_, _) => Term::True,
+        Item::Chain(_, _, _) => Term::True,
         Item::Back(_) => Term::True,
         Item::Unknown => Term::True,
         Item::Misfit => Term::True,

@@ -10,13 +10,13 @@ use Rattle.theory.specs.Limit.{first-terms, max-terms, term-bytes}
 use Rattle.theory.specs.Record.{Bytes, extent}
 use Rattle.terms.specs.Framing.{record-at}
 use Rattle.rows.specs.Layout.{missing, number-at, number-end, max-rows}
-use Rattle.rows.specs.Rows.{depths, kept, place-of, widths}
+use Rattle.rows.specs.Rows.{depths, kept, offsets, place-of, widths}
 use Rattle.table.specs.Slots.{Table, TableOf, added-row, seek-of, slot-count, start-of}
 use Rattle.table.specs.Promise.{Grown, added-for, count-after, list-after, room-for}
 use Rattle.rows.proofs.RowLaws.{and-first, and-second, length-kept}
 use Rattle.table.proofs.SlotLaws.{FreeAt, place-in, seek-is-at, seek-is-free, seek-is-place, start-below, turn-below}
 use Rattle.table.proofs.TableLaws.{never-full}
-use Rattle.table.proofs.MemoryLaws.{depths-added, kept-added, length-added, slot-count-more, table-added, widths-added}
+use Rattle.table.proofs.MemoryLaws.{depths-added, kept-added, length-added, offsets-added, slot-count-more, table-added, widths-added}
 use Rattle.table.specs.declared.slots.Seek.{Seek}
 use Rattle.table.specs.declared.kept.Added.{Added}
 
@@ -135,12 +135,13 @@ module _ (job work : Bytes) (n c at depth width : ℕ) (table : TableOf job work
   retable after k e t = subst (λ (i : ℕ). TableOf job after k i) (count ∙ ap slot-count (sym e)) t
 
   grown-same : (r : Added) → count-after r n ≡ n → list-after r (record-at job at) (kept job work n) ≡ kept job work n
-      → list-after r depth (depths work n) ≡ depths work n → list-after r width (widths work n) ≡ widths work n
+      → list-after r at (offsets work n) ≡ offsets work n → list-after r depth (depths work n) ≡ depths work n → list-after r width (widths work n) ≡ widths work n
       → r ≡ added-for (record-at job at) (kept job work n) (length work) → Grown job work work n at depth width r
-  grown-same r a b d e f = record {
+  grown-same r a b o d e f = record {
     answer-is = f;
     table = rw a (retable work n refl table);
     kept-is = rw (a, b);
+    offsets-are = rw (a, o);
     depths-are = rw (a, d);
     widths-are = rw (a, e);
   }
@@ -156,18 +157,19 @@ module _ (job work : Bytes) (n c at depth width : ℕ) (table : TableOf job work
         table = retable (added-row work n t at depth width) (n + 1) (length-added job work n c t at depth width table (r .0) (r .1) small inside e)
             (table-added job work n c t at depth width table (r .0) (r .1) small inside e);
         kept-is = kept-added job work n c t at depth width table (r .0) (r .1) small inside e;
+        offsets-are = offsets-added job work n c t at depth width table (r .0) (r .1) small inside e;
         depths-are = depths-added job work n c t at depth width table (r .0) (r .1) small inside e deep;
         widths-are = widths-added job work n c t at depth width table (r .0) (r .1) small inside e wide;
       }
-  grown-free t e false f g = grown-same Added.Spent refl refl refl refl g
+  grown-free t e false f g = grown-same Added.Spent refl refl refl refl refl g
 
   grown-is : (q : Seek) → seek-of job work c (record-at job at) ≡ q
       → answer-for q (room-for n (length work)) n ≡ added-for (record-at job at) (kept job work n) (length work)
       → Grown job work (memory-for q (room-for n (length work)) work n at depth width) n at depth width (answer-for q (room-for n (length work)) n)
   unfolding memory-for answer-for count-after list-after
-  grown-is (Seek.At p) e g = grown-same (Added.Found p) refl refl refl refl g
+  grown-is (Seek.At p) e g = grown-same (Added.Found p) refl refl refl refl refl g
   grown-is (Seek.Free t) e g = grown-free t e (room-for n (length work)) refl g
-  grown-is Seek.Full e g = grown-same Added.Spent refl refl refl refl g
+  grown-is Seek.Full e g = grown-same Added.Spent refl refl refl refl refl g
 
   -- from what the table says of a record to what callers are promised
   pub grown : {r : Added} {after : Bytes}

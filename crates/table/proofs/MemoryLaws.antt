@@ -16,7 +16,7 @@ use Rattle.theory.specs.Limit.{max-job, term-bytes, number-bytes}
 use Rattle.theory.specs.Record.{Bytes, extent, bytes-of}
 use Rattle.terms.specs.Framing.{record-at}
 use Rattle.rows.specs.Layout.{depth-at, number-at, offset-at, width-at, max-rows}
-use Rattle.rows.specs.Rows.{Rows, column, depths, kept, row-record, stored-row, widths}
+use Rattle.rows.specs.Rows.{Rows, column, depths, kept, offsets, row-record, stored-row, widths}
 use Rattle.table.specs.Slots.{max-slots, Reach, Table, TableOf, added-row, dropped-row, holder-from, seek-of, slot-at, slot-count, start-of, stored-slot, turn}
 use Rattle.table.specs.Promise.{Cut, Wiped}
 use Rattle.rows.proofs.RowLaws.{after-stored, before-stored, column-added, column-same, column-take, depth-before, depth-stored, length-stored, number-is, offset-before, offset-is, offset-stored, rows-stored, sets-after, sets-before, sets-in, width-before, width-stored}
@@ -148,7 +148,7 @@ module _ (job work : Bytes) (n c t offset depth width : ℕ) (table : TableOf jo
   unfolding added-row
   length-added = length-slot (stored-row work n offset depth width) t (n + 1) slot-room ∙ length-stored work n offset depth width room
 
-  -- the lists of the records, the depths and the widths have the new row's at the end
+  -- the lists of the records, where they stand, the depths and the widths have the new row's at the end
   pub kept-added : kept job (added-row work n t offset depth width) (n + 1) ≡ kept job work n ++ (record-at job offset ∷ [])
   unfolding added-row kept
   kept-added =
@@ -157,6 +157,13 @@ module _ (job work : Bytes) (n c t offset depth width : ℕ) (table : TableOf jo
       (offset-slot (stored-row work n offset depth width) t (n + 1) slot-room k ∙ offset-before work n offset depth width room k h))
       (ap (λ (o : ℕ). record-at job o)
       (offset-slot (stored-row work n offset depth width) t (n + 1) slot-room n ∙ offset-stored work n offset depth width room small))
+
+  pub offsets-added : offsets (added-row work n t offset depth width) (n + 1) ≡ offsets work n ++ (offset ∷ [])
+  unfolding added-row offsets
+  offsets-added =
+      column-added (offset-at work) (offset-at (stored-slot (stored-row work n offset depth width) t (n + 1))) n offset
+      (λ k h. offset-slot (stored-row work n offset depth width) t (n + 1) slot-room k ∙ offset-before work n offset depth width room k h)
+      (offset-slot (stored-row work n offset depth width) t (n + 1) slot-room n ∙ offset-stored work n offset depth width room small)
 
   pub depths-added : depth < 65536 → depths (added-row work n t offset depth width) (n + 1) ≡ depths work n ++ (depth ∷ [])
   unfolding added-row depths
@@ -371,11 +378,13 @@ module _ {job work after : Bytes} {n m c k : ℕ} (count : c ≡ slot-count (len
   whole = omega arith
 
   pub cut : Cut job work after n m
-  unfolding kept depths widths
+  unfolding kept offsets depths widths
   cut = record {
     table = table-m;
     kept-is = column-same (row-record job after) (row-record job work) m (λ i h. ap (λ (o : ℕ). record-at job o) (same .offset i))
         ∙ column-take (row-record job work) m (n - m) ∙ ap (λ (i : ℕ). take m (column (row-record job work) i)) whole;
+    offsets-are = column-same (offset-at after) (offset-at work) m (λ i h. same .offset i)
+        ∙ column-take (offset-at work) m (n - m) ∙ ap (λ (i : ℕ). take m (column (offset-at work) i)) whole;
     depths-are = column-same (depth-at after) (depth-at work) m (λ i h. same .depth i)
         ∙ column-take (depth-at work) m (n - m) ∙ ap (λ (i : ℕ). take m (column (depth-at work) i)) whole;
     widths-are = column-same (width-at after) (width-at work) m (λ i h. same .width i)

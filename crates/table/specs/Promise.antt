@@ -9,7 +9,7 @@ use Rattle.theory.specs.Limit.{term-bytes, first-terms, max-terms, max-job}
 use Rattle.theory.specs.Record.{Bytes}
 use Rattle.terms.specs.Framing.{record-at}
 use Rattle.rows.specs.Layout.{missing}
-use Rattle.rows.specs.Rows.{kept, depths, widths, place-of}
+use Rattle.rows.specs.Rows.{kept, offsets, depths, widths, place-of}
 use Rattle.table.specs.Slots.{Table}
 use Rattle.table.specs.declared.kept.Added.{Added}
 use Rattle.table.specs.declared.kept.Added.the-variants.{Found, New, Spent}
@@ -42,6 +42,7 @@ pub record Grown (job work after : Bytes) (n at depth width : ℕ) (answer : Add
   pub answer-is : answer ≡ added-for (record-at job at) (kept job work n) (length work)
   pub table : Table job after (count-after answer n)
   pub kept-is : kept job after (count-after answer n) ≡ list-after answer (record-at job at) (kept job work n)
+  pub offsets-are : offsets after (count-after answer n) ≡ list-after answer at (offsets work n)
   pub depths-are : depths after (count-after answer n) ≡ list-after answer depth (depths work n)
   pub widths-are : widths after (count-after answer n) ≡ list-after answer width (widths work n)
 
@@ -50,6 +51,7 @@ pub record Grown (job work after : Bytes) (n at depth width : ℕ) (answer : Add
 pub record Cut (job work after : Bytes) (n m : ℕ) : Type 0 where
   pub table : Table job after m
   pub kept-is : kept job after m ≡ take m (kept job work n)
+  pub offsets-are : offsets after m ≡ take m (offsets work n)
   pub depths-are : depths after m ≡ take m (depths work n)
   pub widths-are : widths after m ≡ take m (widths work n)
 

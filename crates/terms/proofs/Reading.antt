@@ -11,7 +11,7 @@ use lib.Seq.{drop-drop}
 use borrow.Author.Tests.{le-leb, lt-leb, eq-eqb, ne-eqb, leb-true, leb-false, eqb-true, eqb-false}
 use Rattle.theory.specs.Limit.{number-bytes, max-arguments}
 use Rattle.theory.specs.Kind.{Arity, exactly, many, arity, takes}
-use Rattle.theory.specs.Record.{Bytes, word, words, extent, whole, kind-of, body-of, fits, arguments, step, back, unknown, misfit, Shape, plain, indexed, twice-indexed, valued, front, make, shapes, find-shape, shape-of, read, read-term, read-step, read-back}
+use Rattle.theory.specs.Record.{Bytes, word, words, extent, whole, kind-of, body-of, fits, arguments, step, chain, back, unknown, misfit, premise-count, chain-front, chain-fits, Shape, plain, indexed, twice-indexed, valued, front, make, shapes, find-shape, shape-of, read, read-term, read-step, read-chain, read-back}
 use Rattle.terms.specs.declared.Frame.{Frame}
 use Rattle.terms.specs.declared.Frame.the-variants.{End, Broken, Whole as Ends}
 use Rattle.terms.specs.declared.Form.the-variants.{Unknown, Known}
@@ -188,6 +188,50 @@ module _ (job : Bytes) (body size : ℕ) (h : body + size ≤ length job) where
       ∙ ap (words k) (drop-drop number-bytes body job) in
       sym (ap (λ (c : Bool). cond c (step (word b) (arguments number-bytes b)) misfit) t ∙ ap₂ step w a)
 
+  -- ---- a chain's body
+  -- the body has not both numbers in front
+  pub chain-short : size < chain-front → misfit ≡ read-chain (part job body size)
+  chain-short l = rw (length-part job body size h, lt-leb chain-front size l)
+
+  module _ (l : chain-front ≤ size) {n : ℕ} (f : n ≡ word (drop (body + number-bytes) job)) where
+    -- the number of premises
+    chain-count : premise-count (part job body size) ≡ n
+    chain-count =
+        ap word (drop-take number-bytes size (drop body job)) ∙ word-take (size - number-bytes) (drop number-bytes (drop body job)) (omega arith)
+        ∙ ap word (drop-drop number-bytes body job) ∙ sym f
+
+    chain-test : chain-fits (part job body size) ≡ (takes many n && eqb size (chain-front + number-bytes * n + number-bytes))
+    chain-test = rw (length-part job body size h, chain-count, le-leb chain-front size l)
+
+    -- no premise
+    pub chain-none : n < 1 → misfit ≡ read-chain (part job body size)
+    chain-none k = rw (chain-test, lt-leb 1 n k)
+
+    -- too many
+    pub chain-many : max-arguments < n → misfit ≡ read-chain (part job body size)
+    chain-many k = rw (chain-test, le-leb 1 n (omega arith), lt-leb n max-arguments k)
+
+    -- another length
+    pub chain-length : 1 ≤ n → n ≤ max-arguments → (size ≡ chain-front + number-bytes * n + number-bytes → ⊥) → misfit ≡ read-chain (part job body size)
+    chain-length k m e = rw (chain-test, le-leb 1 n k, le-leb n max-arguments m, ne-eqb size (chain-front + number-bytes * n + number-bytes) e)
+
+    pub chain-made : 1 ≤ n → n ≤ max-arguments → size ≡ chain-front + number-bytes * n + number-bytes
+        → {rule literal : ℕ} → rule ≡ word (drop body job) → literal ≡ word (drop (body + (chain-front + number-bytes * n)) job)
+        → chain rule (words n (drop (body + chain-front) job)) literal ≡ read-chain (part job body size)
+    chain-made k m e {rule} {literal} p q =
+        let b = part job body size in
+        let t : chain-fits b ≡ true = rw (chain-test, le-leb 1 n k, le-leb n max-arguments m, eq-eqb size (chain-front + number-bytes * n + number-bytes) e) in
+        let w : word b ≡ rule = word-take size (drop body job) (omega arith) ∙ sym p in
+        let a : words n (drop chain-front b) ≡ words n (drop (body + chain-front) job)
+        = ap (words n) (drop-take chain-front size (drop body job))
+        ∙ words-take n (size - chain-front) (drop chain-front (drop body job)) (omega arith)
+        ∙ ap (words n) (drop-drop chain-front body job) in
+        let z : word (drop (chain-front + number-bytes * n) b) ≡ literal
+        = ap word (drop-take (chain-front + number-bytes * n) size (drop body job))
+        ∙ word-take (size - (chain-front + number-bytes * n)) (drop (chain-front + number-bytes * n) (drop body job)) (omega arith)
+        ∙ ap word (drop-drop (chain-front + number-bytes * n) body job) ∙ sym q in
+        sym (rw (t, chain-count, w, a, z))
+
   -- ---- a back's body
   pub back-misfit : (size ≡ number-bytes → ⊥) → misfit ≡ read-back (part job body size)
   back-misfit n = rw (length-part job body size h, ne-eqb size number-bytes n)
@@ -231,8 +275,12 @@ module _ (r : Bytes) {b : Bytes} (h : body-of r ≡ b) where
 
   pub read-as-back : kind-of r ≡ 101 → read-back b ≡ read r
   unfolding read
-  read-as-back e = rw (ne-eqb (kind-of r) 100 (λ f. omega arith), eq-eqb (kind-of r) 101 e, ← h)
+  read-as-back e = rw (ne-eqb (kind-of r) 100 (λ f. omega arith), ne-eqb (kind-of r) 104 (λ f. omega arith), eq-eqb (kind-of r) 101 e, ← h)
 
-  pub read-as-term : {k : ℕ} → kind-of r ≡ k → (k ≡ 100 → ⊥) → (k ≡ 101 → ⊥) → read-term (shape-of k) b ≡ read r
+  pub read-as-chain : kind-of r ≡ 104 → read-chain b ≡ read r
   unfolding read
-  read-as-term {k} e f g = rw (e, ne-eqb k 100 f, ne-eqb k 101 g, ← h)
+  read-as-chain e = rw (ne-eqb (kind-of r) 100 (λ f. omega arith), eq-eqb (kind-of r) 104 e, ← h)
+
+  pub read-as-term : {k : ℕ} → kind-of r ≡ k → (k ≡ 100 → ⊥) → (k ≡ 101 → ⊥) → (k ≡ 104 → ⊥) → read-term (shape-of k) b ≡ read r
+  unfolding read
+  read-as-term {k} e f g i = rw (e, ne-eqb k 100 f, ne-eqb k 104 i, ne-eqb k 101 g, ← h)

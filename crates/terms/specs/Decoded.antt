@@ -5,11 +5,13 @@ use Prim.Native.Nat.{ℕ, _+_, _*_, _≤_}
 use lib.ListN.{length, drop}
 use Rattle.theory.specs.Limit.{max-arguments, number-bytes}
 use Rattle.theory.specs.Kind.{Op}
+use Rattle.theory.specs.Rule.{nth}
 use Rattle.theory.specs.Record.{Bytes, words}
 use Rattle.theory.specs.Kind as K
 use Rattle.theory.specs.Record as R
 use Rattle.terms.specs.declared.Args.{Args}
 use Rattle.terms.specs.declared.Term.{Term}
+use Rattle.terms.specs.declared.Head.{Head}
 use Rattle.terms.specs.declared.Operands.{Operands}
 use Rattle.terms.specs.declared.Operands.the-variants.{None, One, Two, Three, List as Listed}
 use Rattle.terms.specs.declared.Item.{Item}
@@ -65,6 +67,10 @@ op-of (D.ZeroExtend k x) = K.ZeroExtend k
 op-of (D.RotateLeft k x) = K.RotateLeft k
 op-of (D.RotateRight k x) = K.RotateRight k
 op-of (D.Repeat k x) = K.Repeat k
+
+-- that kind by its number and the numbers in it
+abbrev pub head-of : Term → Head
+head-of t = record { kind = K.kind (op-of t); first = nth 0 (K.indices (op-of t)); second = nth 1 (K.indices (op-of t)) }
 
 -- its arguments
 abbrev pub operands-of : Term → Operands
@@ -122,6 +128,7 @@ arguments-of job t = numbers-of job (operands-of t)
 abbrev pub item-of : Bytes → Item → R.Item
 item-of job (I.Term t) = R.term (op-of t) (arguments-of job t)
 item-of job (I.Step n a) = R.step n (words-in job a)
+item-of job (I.Chain n a k) = R.chain n (words-in job a) k
 item-of job (I.Back n) = R.back n
 item-of job I.Unknown = R.unknown
 item-of job I.Misfit = R.misfit
@@ -138,6 +145,7 @@ OperandsPlaced job (Listed a) = Inside job a
 abbrev pub Placed : Bytes → Item → Type 0
 Placed job (I.Term t) = OperandsPlaced job (operands-of t)
 Placed job (I.Step n a) = Inside job a
+Placed job (I.Chain n a k) = Inside job a
 Placed job (I.Back n) = Unit {0}
 Placed job I.Unknown = Unit {0}
 Placed job I.Misfit = Unit {0}

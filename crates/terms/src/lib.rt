@@ -4,10 +4,10 @@ ghost use mathlib.Core.Bool.{true};
 ghost use Prim.Native.Nat.{_+_, _^_, _<_, _≤_};
 ghost use lib.ListN.{length, take, drop, getD};
 ghost use Rattle.theory.specs.Limit.{number-bytes, value-bytes};
-ghost use Rattle.theory.specs.Record.{little-endian, word, whole, shape-of, read, read-term, read-step, read-back};
+ghost use Rattle.theory.specs.Record.{little-endian, word, whole, shape-of, read, read-term, read-step, read-chain, read-back};
 ghost use Rattle.theory.specs.Codes.{all-below};
 ghost use Rattle.terms.specs.Framing.{part, record-at, frame-of};
-ghost use Rattle.terms.specs.Decoded.{Inside, OperandsPlaced, Placed, Says, words-in, item-of, operands-of, arguments-of};
+ghost use Rattle.terms.specs.Decoded.{Inside, OperandsPlaced, Placed, Says, words-in, item-of, head-of, operands-of, arguments-of};
 ghost use Rattle.terms.specs.Bodies.{Body, form-of, sized, made};
 
 // The bytes of an answer: its length, its kind, a rule, a code and a depth.
@@ -86,6 +86,13 @@ pub enum Operands {
     List(Args),
 }
 
+// A term's kind: its number, and the numbers in it, 0 where there is none.
+pub struct Head {
+    pub kind: u32,
+    pub first: u32,
+    pub second: u64,
+}
+
 // What stands at a place of a job: nothing more, no whole record, or a record of so many bytes.
 pub enum Frame {
     End,
@@ -93,10 +100,11 @@ pub enum Frame {
     Whole(usize),
 }
 
-// What a record says: a term, a step's rule and literals, a back's count, or why it can't be read.
+// What a record says: a term, a step's rule and literals, a chain's rule, premises and literal, a back's count, or why it can't be read.
 pub enum Item {
     Term(Term),
     Step(u32, Args),
+    Chain(u32, Args, u32),
     Back(u32),
     // a kind that is unknown
     Unknown,
@@ -340,6 +348,33 @@ impl Term {
         Item::Step(rule, literals)
     }
 
+    // What a chain with that body says: its rule, the number of its premises, from 1 to 64, the premises, and one literal.
+    fn read_chain(job: &[u8], body: usize, size: usize) -> Item
+        requires { ⌜ body + size ≤ length (now job) ⌝ }
+        ensures { λ r. ⌜ Says (now (job .entry)) r (read-chain (part (now (job .entry)) body size)) ⌝ }
+    {
+        if size < 2 * Term::NUMBER_BYTES {
+            return Item::Misfit;
+        }
+        let rule = Term::number(job, body);
+        let count = Term::number(job, body + Term::NUMBER_BYTES) as usize;
+        if count < 1 {
+            return Item::Misfit;
+        }
+        if Term::MAX_ARGUMENTS < count {
+            return Item::Misfit;
+        }
+        let end = 2 * Term::NUMBER_BYTES + Term::NUMBER_BYTES * count;
+        if size != end + Term::NUMBER_BYTES {
+            return Item::Misfit;
+        }
+        let premises = Args {
+            at: body + 2 * Term::NUMBER_BYTES,
+            count: count,
+        };
+        Item::Chain(rule, premises, Term::number(job, body + end))
+    }
+
     // What a back with that body says.
     fn read_back(job: &[u8], body: usize, size: usize) -> Item
         requires { ⌜ body + size ≤ length (now job) ⌝ }
@@ -351,7 +386,7 @@ impl Term {
         Item::Back(Term::number(job, body))
     }
 
-    // What the whole record at `at` says: 100 is a step, 101 a back, and any other kind a term or unknown.
+    // What the whole record at `at` says: 100 is a step, 101 a back, 104 a chain, and any other kind a term or unknown.
     pub fn read(job: &[u8], at: usize) -> Item
         requires { ⌜ whole (drop at (now job)) ≡ true ⌝ }
         ensures says { λ r. ⌜ item-of (now (job .entry)) r ≡ read (record-at (now (job .entry)) at) ⌝ }
@@ -363,6 +398,7 @@ impl Term {
         match kind {
             100 => Term::read_step(job, body, size),
             101 => Term::read_back(job, body, size),
+            104 => Term::read_chain(job, body, size),
             _ => Term::read_term(job, kind, body, size),
         }
     }
@@ -433,6 +469,194 @@ impl Term {
             Term::RotateLeft(_, x) => Operands::One(x),
             Term::RotateRight(_, x) => Operands::One(x),
             Term::Repeat(_, x) => Operands::One(x),
+        }
+    }
+
+    // The kind of a term.
+    pub fn head(self) -> Head
+        ensures { λ r. ⌜ r ≡ head-of self ⌝ }
+    {
+        match self {
+            Term::True => Head {
+                kind: 0,
+                first: 0,
+                second: 0,
+            },
+            Term::False => Head {
+                kind: 1,
+                first: 0,
+                second: 0,
+            },
+            Term::BoolVar(x) => Head {
+                kind: 10,
+                first: x,
+                second: 0,
+            },
+            Term::BvVar(n, x) => Head {
+                kind: 11,
+                first: n,
+                second: x as u64,
+            },
+            Term::Const(n, v) => Head {
+                kind: 12,
+                first: n,
+                second: v,
+            },
+            Term::Not(_) => Head {
+                kind: 20,
+                first: 0,
+                second: 0,
+            },
+            Term::And(_) => Head {
+                kind: 21,
+                first: 0,
+                second: 0,
+            },
+            Term::Or(_) => Head {
+                kind: 22,
+                first: 0,
+                second: 0,
+            },
+            Term::Xor(_, _) => Head {
+                kind: 23,
+                first: 0,
+                second: 0,
+            },
+            Term::Equals(_, _) => Head {
+                kind: 24,
+                first: 0,
+                second: 0,
+            },
+            Term::Ite(_, _, _) => Head {
+                kind: 25,
+                first: 0,
+                second: 0,
+            },
+            Term::BvBitOf(i, _) => Head {
+                kind: 30,
+                first: i,
+                second: 0,
+            },
+            Term::BvBbTerm(_) => Head {
+                kind: 31,
+                first: 0,
+                second: 0,
+            },
+            Term::BvNot(_) => Head {
+                kind: 40,
+                first: 0,
+                second: 0,
+            },
+            Term::BvNeg(_) => Head {
+                kind: 41,
+                first: 0,
+                second: 0,
+            },
+            Term::BvAnd(_) => Head {
+                kind: 42,
+                first: 0,
+                second: 0,
+            },
+            Term::BvOr(_) => Head {
+                kind: 43,
+                first: 0,
+                second: 0,
+            },
+            Term::BvXor(_) => Head {
+                kind: 44,
+                first: 0,
+                second: 0,
+            },
+            Term::BvAdd(_) => Head {
+                kind: 45,
+                first: 0,
+                second: 0,
+            },
+            Term::BvMul(_) => Head {
+                kind: 46,
+                first: 0,
+                second: 0,
+            },
+            Term::BvXNor(_, _) => Head {
+                kind: 47,
+                first: 0,
+                second: 0,
+            },
+            Term::BvComp(_, _) => Head {
+                kind: 48,
+                first: 0,
+                second: 0,
+            },
+            Term::BvULt(_, _) => Head {
+                kind: 49,
+                first: 0,
+                second: 0,
+            },
+            Term::BvSLt(_, _) => Head {
+                kind: 50,
+                first: 0,
+                second: 0,
+            },
+            Term::BvShl(_, _) => Head {
+                kind: 51,
+                first: 0,
+                second: 0,
+            },
+            Term::BvLShr(_, _) => Head {
+                kind: 52,
+                first: 0,
+                second: 0,
+            },
+            Term::BvAShr(_, _) => Head {
+                kind: 53,
+                first: 0,
+                second: 0,
+            },
+            Term::BvUDiv(_, _) => Head {
+                kind: 54,
+                first: 0,
+                second: 0,
+            },
+            Term::BvURem(_, _) => Head {
+                kind: 55,
+                first: 0,
+                second: 0,
+            },
+            Term::BvConcat(_) => Head {
+                kind: 56,
+                first: 0,
+                second: 0,
+            },
+            Term::BvExtract(i, j, _) => Head {
+                kind: 57,
+                first: i,
+                second: j as u64,
+            },
+            Term::SignExtend(k, _) => Head {
+                kind: 58,
+                first: k,
+                second: 0,
+            },
+            Term::ZeroExtend(k, _) => Head {
+                kind: 60,
+                first: k,
+                second: 0,
+            },
+            Term::RotateLeft(k, _) => Head {
+                kind: 61,
+                first: k,
+                second: 0,
+            },
+            Term::RotateRight(k, _) => Head {
+                kind: 62,
+                first: k,
+                second: 0,
+            },
+            Term::Repeat(k, _) => Head {
+                kind: 63,
+                first: k,
+                second: 0,
+            },
         }
     }
 

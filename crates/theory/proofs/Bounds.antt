@@ -12,14 +12,14 @@ use Rattle.theory.specs.Kind.{Op, True, False, kind}
 use Rattle.theory.specs.Term.{Term, node, nil, from-list}
 use Rattle.theory.specs.Sort.{Sort, first, sorts-of}
 use Rattle.theory.specs.Depth.{gate-kind, depth-op, depth, deepest}
-use Rattle.theory.specs.Record.{Bytes, AllBytes, records-of, Item, term, step, back, unknown, misfit, read, is-step, step-count}
+use Rattle.theory.specs.Record.{Bytes, AllBytes, records-of, Item, term, step, back, unknown, misfit, read, is-step, step-count, chain}
 use Rattle.theory.specs.Plain.{Plain, entry, has, feed, plain-after}
 use Rattle.theory.specs.Codes.{first-fault, all-below, room, tests, fault}
 use Rattle.theory.specs.Job.{run}
 use Rattle.theory.specs.Claim.{LentEnough}
 use Rattle.theory.proofs.Basics.{or-not}
 use Rattle.theory.proofs.Places.{tree-at, tree-of}
-use Rattle.theory.proofs.Run.{step-passed, fed, ran, plain-ind, plain-next, count-next}
+use Rattle.theory.proofs.Run.{step-passed, chain-passed, fed, ran, plain-ind, plain-next, count-next}
 use Rattle.theory.proofs.Distinct.{WellKept, tree-0, tree-1, kept-at, plain-well}
 
 -- ---- the memories
@@ -52,6 +52,7 @@ step-fits work space list answered r e f = go (read r) e
   where
     go : (i : Item) → first-fault (tests work space list answered r i) ≡ 0 → answer-bytes * (answered + cond (is-step i) 1 0) ≤ space
     go (step n ks) d = let p = step-passed work space list answered r n ks d .roomy in omega arith
+    go (chain n ps k) d = let p = chain-passed work space list answered r n ps k d .roomy in omega arith
     go (term o ks) d = omega arith
     go (back n) d = omega arith
     go unknown d = omega arith

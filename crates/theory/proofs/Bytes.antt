@@ -11,7 +11,7 @@ use lib.ListN.{length, take, drop, getElem?, length-take, length-drop, take-appe
 use lib.Seq.{take-take, take-add}
 use Rattle.theory.specs.Limit.{number-bytes, value-bytes}
 use Rattle.theory.specs.Kind.{Op, kind, arity, takes}
-use Rattle.theory.specs.Record.{Bytes, AllBytes, little-endian, word, words, extent, whole, cut, records-of, kind-of, body-of, fits, arguments, Shape, plain, indexed, twice-indexed, valued, front, make, shapes, find-shape, shape-of, Item, term, step, back, misfit, read, read-term, read-step, read-back}
+use Rattle.theory.specs.Record.{Bytes, AllBytes, little-endian, word, words, extent, whole, cut, records-of, kind-of, body-of, fits, arguments, Shape, plain, indexed, twice-indexed, valued, front, make, shapes, find-shape, shape-of, Item, term, step, back, misfit, read, read-term, read-step, read-back, chain, premise-count, chain-front, chain-fits, read-chain}
 use Rattle.theory.proofs.Basics.{none-some, some-inj}
 
 -- ---- lists of bytes
@@ -152,7 +152,7 @@ pub record SaysTerm (r : Bytes) (o : Op) (ks : List ℕ) : Type 0 where
 
 pub says-term : (r : Bytes) (o : Op) (ks : List ℕ) → read r ≡ term o ks → SaysTerm r o ks
 unfolding read
-says-term r o ks e = by-kind (eqb (kind-of r) 100) (eqb (kind-of r) 101) e
+says-term r o ks e = by-kind (eqb (kind-of r) 100) (eqb (kind-of r) 104) (eqb (kind-of r) 101) e
   where
     wrong : (b : Bool) (i : Item) → (i ≡ term o ks → ⊥) → cond b i misfit ≡ term o ks → ⊥
     wrong true i f d = f d
@@ -175,13 +175,18 @@ says-term r o ks e = by-kind (eqb (kind-of r) 100) (eqb (kind-of r) 101) e
             }
         go false h c = absurd (let z : _≡_ {A = ℕ} 0 1 = cc in omega arith)
 
-    by-kind : (a b : Bool) → cond a (read-step (body-of r)) (cond b (read-back (body-of r)) (read-term (shape-of (kind-of r)) (body-of r))) ≡ term o ks
+    by-kind : (a b c : Bool)
+        → cond a (read-step (body-of r)) (cond b (read-chain (body-of r)) (cond c (read-back (body-of r)) (read-term (shape-of (kind-of r)) (body-of r)))) ≡ term o ks
         → SaysTerm r o ks
-    by-kind true b d =
+    by-kind true b c d =
         absurd (wrong (fits number-bytes (λ n. leb n 64) (body-of r)) (step (word (body-of r)) (arguments number-bytes (body-of r))) (λ c. let z : _≡_ {A = ℕ} 0 1 = cc in omega arith) d)
-    by-kind false true d =
+    by-kind false true c d =
+        let n = premise-count (body-of r) in
+        absurd (wrong (chain-fits (body-of r)) (chain (word (body-of r)) (words n (drop chain-front (body-of r))) (word (drop (chain-front + number-bytes * n) (body-of r))))
+        (λ c. let z : _≡_ {A = ℕ} 0 1 = cc in omega arith) d)
+    by-kind false false true d =
         absurd (wrong (eqb (length (body-of r)) number-bytes) (back (word (body-of r))) (λ c. let z : _≡_ {A = ℕ} 0 1 = cc in omega arith) d)
-    by-kind false false d = by-shape (shape-of (kind-of r)) refl d
+    by-kind false false false d = by-shape (shape-of (kind-of r)) refl d
 
 pub term-kind : (r : Bytes) (o : Op) (ks : List ℕ) → read r ≡ term o ks → kind-of r ≡ kind o
 term-kind r o ks e =

@@ -1,5 +1,5 @@
 -- Which codes an answer can have, and which a job can stop with.
-use mathlib.Core.Path.{_≡_, refl, sym, subst}
+use mathlib.Core.Path.{_≡_, refl}
 use mathlib.Core.Bool.{Bool, true, false}
 use mathlib.Core.List.{List, [], _∷_, map}
 use Prim.Native.Nat.{ℕ, _<_}
@@ -8,19 +8,20 @@ use lib.Dec.{T, leb, leb→le}
 use lib.ListN.{length}
 use Rattle.theory.specs.Limit.{max-job}
 use Rattle.theory.specs.Term.{Term}
-use Rattle.theory.specs.Verdict.{Verdict, held, form-only, not-one-literal, wrong-form, not-bit-vector, not-constant, bit-not-literal, other-value, terms-differ, index-not-next, code-of}
+use Rattle.theory.specs.Verdict.{Verdict, held, form-only, not-one-literal, wrong-form, not-bit-vector, not-constant, bit-not-literal, other-value, terms-differ, index-not-next, premise-broken, code-of}
 use Rattle.theory.specs.RuleTable.{Rule}
 use Rattle.theory.specs.Rule.{verdict}
-use Rattle.theory.specs.Record.{Bytes, records-of, ending}
-use Rattle.theory.specs.Plain.{start, plain-after}
+use Rattle.theory.specs.Record.{Bytes, records-of, ending, Item}
+use Rattle.theory.specs.Plain.{Plain, start}
 use Rattle.theory.specs.Answer.{Answer}
+use Rattle.theory.specs.Chain.{Earlier, premises-at, joined}
 use Rattle.theory.specs.Job.{answer-to, Outcome, outcome, run-from, run}
 use Rattle.theory.specs.Claim.{element, answer-codes, StopCodes, AnswerCodes}
 use Rattle.theory.proofs.Places.{tree-at}
-use Rattle.theory.proofs.Run.{ran}
+use Rattle.theory.proofs.Run.{AnswerOf, to-step, to-chain, ran}
 
 -- ---- answers
-abbrev Code : ℕ → Type 0
+abbrev pub Code : ℕ → Type 0
 Code c = T (element c answer-codes)
 
 verdict-code : (v : Verdict) → Code (code-of v)
@@ -34,16 +35,20 @@ verdict-code bit-not-literal = tt
 verdict-code other-value = tt
 verdict-code terms-differ = tt
 verdict-code index-not-next = tt
+verdict-code premise-broken = tt
 
 answer-code : (n : ℕ) (rule : Rule) (ts : List Term) → Code (answer-to n rule ts .code)
 answer-code n rule [] = tt
 answer-code n rule (t ∷ []) = verdict-code (verdict rule t)
 answer-code n rule (t ∷ u ∷ us) = tt
 
+pub code-known : {earlier : Earlier} {list : Plain} {i : Item} {a : Answer} → AnswerOf earlier list i a → Code (a .code)
+code-known {list = list} (to-step n rule ks f b) = answer-code n rule (map (tree-at list) ks)
+code-known {earlier = earlier} {list = list} (to-chain n rule ps k f b) = verdict-code (joined rule (premises-at earlier list ps) (tree-at list k))
+
 pub answer-codes-are : AnswerCodes
 answer-codes-are job work space k a e =
-    let h = ran job work space .exact-answers k a e in
-    subst (λ (b : Answer). Code (b .code)) (sym (h .is)) (answer-code (h .number) (h .rule) (map (tree-at (plain-after (h .m) job)) (h .literals)))
+    code-known (ran job work space .exact-answers k a e .is)
 
 -- ---- stops
 pub stop-codes-are : StopCodes
@@ -53,7 +58,7 @@ stop-codes-are job work space = ran job work space .stop-known
 pub too-long : (job : Bytes) (work space : ℕ) → max-job < length job → run job work space ≡ outcome 2 0 [] start
 unfolding run
 too-long job work space h =
-    go (leb (length job) max-job) (λ t. omega (arith, leb→le (length job) max-job t)) (run-from work space (ending job) 0 start [] (records-of job))
+    go (leb (length job) max-job) (λ t. omega (arith, leb→le (length job) max-job t)) (run-from work space (ending job) 0 [] start [] (records-of job))
   where
     go : (b : Bool) → (T b → ⊥) → (x : Outcome) → elim b as (λ z. Outcome) [ true ↦ x | false ↦ outcome 2 0 [] start ] ≡ outcome 2 0 [] start
     go true f x = absurd (f tt)

@@ -1,5 +1,5 @@
 -- Demands 1 and 2, for every job, every length of work memory and of answers.
-use mathlib.Core.Path.{_≡_, refl, sym, ap, ap₂, subst, _∙_}
+use mathlib.Core.Path.{_≡_, refl, sym, ap, ap₂, subst, subst₂, _∙_}
 use mathlib.Core.Bool.{Bool, true, false, cond}
 use mathlib.Core.List.{List, [], _∷_, map}
 use mathlib.Core.Option.{some}
@@ -8,17 +8,18 @@ use native.Mathlib.Decide.{ℕ-discrete, decLe}
 use native.Mathlib.Omega.{arith}
 use lib.Dec.{T}
 use lib.ListN.{length, take, getD, getElem?}
-use Rattle.theory.specs.Record.{Bytes, records-of, Item, step, read, is-step, step-count}
-use Rattle.theory.specs.Plain.{plain-after}
-use Rattle.theory.specs.RuleTable.{rule-at}
+use Rattle.theory.specs.Record.{Bytes, records-of, Item, step, chain, read, is-step, step-count}
+use Rattle.theory.specs.Plain.{Plain, plain-after}
+use Rattle.theory.specs.RuleTable.{Rule, rule-at, ChainRule, chain-rule-at}
 use Rattle.theory.specs.Codes.{all-below}
 use Rattle.theory.specs.Answer.{Answer}
-use Rattle.theory.specs.Job.{answer-to, run}
+use Rattle.theory.specs.Chain.{Earlier, premises-at, joined}
+use Rattle.theory.specs.Job.{judged, answer-to, run}
 use Rattle.theory.specs.Demand.{Reached}
-use Rattle.theory.specs.Demands.{Stops, too-long, at-record, at-end, Demand2}
+use Rattle.theory.specs.Demands.{Stops, too-long, at-record, at-end, earlier-after, Demand2}
 use Rattle.theory.proofs.Basics.{some-inj, getElem-of, getElem-lt}
-use Rattle.theory.proofs.Places.{tree-at, at-places-are}
-use Rattle.theory.proofs.Run.{ran, count-next}
+use Rattle.theory.proofs.Places.{tree-at, at-place-is, at-places-are}
+use Rattle.theory.proofs.Run.{AnswerOf, to-step, to-chain, answered-step, ran, count-next}
 
 -- ---- steps are counted upwards
 count-cons : (b : Bool) (k l : ℕ) → k ≤ l → cond b (suc k) k ≤ cond b (suc l) l
@@ -31,11 +32,43 @@ steps-grow rs (suc i) zero h = absurd (omega arith)
 steps-grow [] (suc i) (suc j) h = omega arith
 steps-grow (r ∷ rs) (suc i) (suc j) h = count-cons (is-step (read r)) (step-count (take i rs)) (step-count (take j rs)) (steps-grow rs i j (omega arith))
 
-same-step : (n k : ℕ) (ks ls : List ℕ) → step n ks ≡ step k ls → n ≡ k
-same-step n k ks ls e = cc
+-- an answer to a step, and to a chain
+to-that-step : {earlier : Earlier} {list : Plain} {i : Item} {a : Answer} (n : ℕ) (ks : List ℕ) → AnswerOf earlier list i a → i ≡ step n ks
+    → (rule : Rule) × (rule-at n ≡ some rule) × T (all-below (length list) ks) × (a ≡ answer-to n rule (map (tree-at list) ks))
+to-that-step {earlier} {list} n ks (to-step k rule js e b) d =
+    let x : k ≡ n = number d in
+    let y : js ≡ ks = places d in
+    (rule, ap rule-at (sym x) ∙ e, subst (λ (ls : List ℕ). T (all-below (length list) ls)) y b, ap₂ (λ (z : ℕ) (ls : List ℕ). answer-to z rule (map (tree-at list) ls)) x y)
+  where
+    number : {i j : ℕ} {is js : List ℕ} → step i is ≡ step j js → i ≡ j
+    number e = cc
 
-same-places : (n k : ℕ) (ks ls : List ℕ) → step n ks ≡ step k ls → ks ≡ ls
-same-places n k ks ls e = cc
+    places : {i j : ℕ} {is js : List ℕ} → step i is ≡ step j js → is ≡ js
+    places e = cc
+to-that-step n ks (to-chain k rule ps p e b) d = absurd (let z : _≡_ {A = ℕ} 0 1 = cc in omega arith)
+
+to-that-chain : {earlier : Earlier} {list : Plain} {i : Item} {a : Answer} (n : ℕ) (ps : List ℕ) (p : ℕ) → AnswerOf earlier list i a → i ≡ chain n ps p
+    → (rule : ChainRule) × (chain-rule-at n ≡ some rule) × (p < length list) × (a ≡ judged n (joined rule (premises-at earlier list ps) (tree-at list p)) (tree-at list p))
+to-that-chain n ps p (to-step k rule js e b) d = absurd (let z : _≡_ {A = ℕ} 0 1 = cc in omega arith)
+to-that-chain {earlier} {list} n ps p (to-chain k rule qs q e b) d =
+    let x : k ≡ n = number d in
+    let y : qs ≡ ps = premises d in
+    let z : q ≡ p = place d in (
+      rule,
+      ap chain-rule-at (sym x) ∙ e,
+      subst (λ (i : ℕ). i < length list) z b,
+      ap₂ (λ (i : ℕ) (ls : List ℕ). judged i (joined rule (premises-at earlier list ls) (tree-at list q)) (tree-at list q)) x y
+          ∙ ap (λ (i : ℕ). judged n (joined rule (premises-at earlier list ps) (tree-at list i)) (tree-at list i)) z,
+    )
+  where
+    number : {i j p q : ℕ} {is js : List ℕ} → chain i is p ≡ chain j js q → i ≡ j
+    number e = cc
+
+    premises : {i j p q : ℕ} {is js : List ℕ} → chain i is p ≡ chain j js q → is ≡ js
+    premises e = cc
+
+    place : {i j p q : ℕ} {is js : List ℕ} → chain i is p ≡ chain j js q → p ≡ q
+    place e = cc
 
 module _ (job : Bytes) (work space : ℕ) where
   -- demand 1: why the job stops
@@ -56,47 +89,59 @@ module _ (job : Bytes) (work space : ℕ) where
       go stop done (at-end s e p) = subst (λ (k : ℕ). m < k) e (getElem-lt (records-of job) m r (h .stands))
 
   -- one more step after record m
-  step-more : (m : ℕ) (r : Bytes) (n : ℕ) (ks : List ℕ) → getElem? (records-of job) m ≡ some r → read r ≡ step n ks
+  step-more : (m : ℕ) (r : Bytes) → getElem? (records-of job) m ≡ some r → is-step (read r) ≡ true
       → step-count (take (suc m) (records-of job)) ≡ step-count (take m (records-of job)) + 1
-  step-more m r n ks s e =
-      count-next job work space m r s ∙ ap (λ (i : Item). step-count (take m (records-of job)) + cond (is-step i) 1 0) e
+  step-more m r s e = count-next job work space m r s ∙ ap (λ (b : Bool). step-count (take m (records-of job)) + cond b 1 0) e
 
   -- two steps with as many steps before them are one
-  one-step : (i j : ℕ) (p q : Bytes) (n k : ℕ) (ks ls : List ℕ) → getElem? (records-of job) i ≡ some p → getElem? (records-of job) j ≡ some q → read p ≡ step n ks
-      → read q ≡ step k ls → step-count (take i (records-of job)) ≡ step-count (take j (records-of job)) → i ≡ j
-  one-step i j p q n k ks ls a b c d e = go (ℕ-discrete i j) (decLe (suc i) j)
+  one-step : (i j : ℕ) (p q : Bytes) → getElem? (records-of job) i ≡ some p → getElem? (records-of job) j ≡ some q → is-step (read p) ≡ true → is-step (read q) ≡ true
+      → step-count (take i (records-of job)) ≡ step-count (take j (records-of job)) → i ≡ j
+  one-step i j p q a b c d e = go (ℕ-discrete i j) (decLe (suc i) j)
     where
       go : Dec (i ≡ j) → Dec (suc i ≤ j) → i ≡ j
       go (yes z) w = z
-      go (no z) (yes w) = absurd (let u = step-more i p n ks a c in let v = steps-grow (records-of job) (suc i) j w in omega arith)
-      go (no z) (no w) = absurd (let u = step-more j q k ls b d in let v = steps-grow (records-of job) (suc j) i (omega arith) in omega arith)
+      go (no z) (yes w) = absurd (let u = step-more i p a c in let v = steps-grow (records-of job) (suc i) j w in omega arith)
+      go (no z) (no w) = absurd (let u = step-more j q b d in let v = steps-grow (records-of job) (suc j) i (omega arith) in omega arith)
 
-  pub demand-2 : Demand2 job work space (run job work space .answers)
-  demand-2 m r n ks h e =
+  -- a step of either kind that is reached has its answer
+  reply-at : (m : ℕ) (r : Bytes) → Reached job work space m r → is-step (read r) ≡ true
+      → (a : Answer) × (getElem? (run job work space .answers) (step-count (take m (records-of job))) ≡ some a) × AnswerOf (earlier-after m job) (plain-after m job) (read r) a
+  reply-at m r h e =
       let o = run job work space in
       let w = ran job work space in
       let k = step-count (take m (records-of job)) in
       let d : Answer = record { rule = 0; code = 0; depth = 0 } in
       let l = reached-done m r h in
-      let u = step-more m r n ks (h .stands) e in
+      let u = step-more m r (h .stands) e in
       let v = steps-grow (records-of job) (suc m) (o .records) l in
       let c = w .answers-are in
-      let f : getElem? (o .answers) k ≡ some (getD (o .answers) k d) = getElem-of (o .answers) k d (omega arith) in
-      let g = w .exact-answers k (getD (o .answers) k d) f in
-      let q : g .m ≡ m = one-step (g .m) m (g .bytes) r (g .number) n (g .literals) ks (g .stands) (h .stands) (g .is-step) e (g .kth) in
+      let a = getD (o .answers) k d in
+      let f : getElem? (o .answers) k ≡ some a = getElem-of (o .answers) k d (omega arith) in
+      let g = w .exact-answers k a f in
+      let q : g .m ≡ m = one-step (g .m) m (g .bytes) r (g .stands) (h .stands) (answered-step (g .is)) e (g .kth) in
       let b : g .bytes ≡ r = some-inj (g .bytes) r (sym (g .stands) ∙ ap (getElem? (records-of job)) q ∙ h .stands) in
-      let s : step (g .number) (g .literals) ≡ step n ks = sym (g .is-step) ∙ ap read b ∙ e in
-      let x = same-step (g .number) n (g .literals) ks s in
-      let y = same-places (g .number) n (g .literals) ks s in
-      record {
-        rule = g .rule;
-        rule-is = ap rule-at (sym x) ∙ g .rule-is;
-        literals = map (tree-at (plain-after m job)) ks;
-        literals-are = at-places-are (plain-after m job) ks
-            (subst (λ (js : List ℕ). T (all-below (length (plain-after m job)) js)) y (subst (λ (p : ℕ). T (all-below (length (plain-after p job)) (g .literals))) q (g .below)));
-        answered = f
-            ∙ ap some
-            (g .is
-            ∙ ap (λ (p : ℕ). answer-to (g .number) (g .rule) (map (tree-at (plain-after p job)) (g .literals))) q
-            ∙ ap₂ (λ (z : ℕ) (js : List ℕ). answer-to z (g .rule) (map (tree-at (plain-after m job)) js)) x y);
-      }
+      (a, f, subst₂ (λ (i : ℕ) (s : Bytes). AnswerOf (earlier-after i job) (plain-after i job) (read s) a) q b (g .is))
+
+  pub demand-2 : Demand2 job work space (run job work space .answers)
+  demand-2 = record {
+    steps = λ m r n ks h e.
+        let g = reply-at m r h (ap is-step e) in
+        let t = to-that-step n ks (g .2) e in
+        record {
+          rule = t .0;
+          rule-is = t .1;
+          literals = map (tree-at (plain-after m job)) ks;
+          literals-are = at-places-are (plain-after m job) ks (t .2);
+          answered = g .1 ∙ ap some (t .3);
+        };
+    chains = λ m r n ps p h e.
+        let g = reply-at m r h (ap is-step e) in
+        let t = to-that-chain n ps p (g .2) e in
+        record {
+          rule = t .0;
+          rule-is = t .1;
+          claim = tree-at (plain-after m job) p;
+          claim-is = at-place-is (plain-after m job) p (t .2);
+          answered = g .1 ∙ ap some (t .3);
+        };
+  }

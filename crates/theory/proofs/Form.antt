@@ -8,7 +8,7 @@ use native.Mathlib.Omega.{arith}
 use lib.Dec.{T, eqb, eqb→eq}
 use Rattle.theory.specs.Kind.{Op, True, False, Equals, kind, indices}
 use Rattle.theory.specs.Term.{Term, Terms, node, nil, cons, to-list, from-list, same-term, two}
-use Rattle.theory.specs.Verdict.{Verdict, held, form-only, not-one-literal, wrong-form, not-bit-vector, not-constant, bit-not-literal, other-value, terms-differ, index-not-next, code-of}
+use Rattle.theory.specs.Verdict.{Verdict, held, form-only, not-one-literal, wrong-form, not-bit-vector, not-constant, bit-not-literal, other-value, terms-differ, index-not-next, premise-broken, code-of}
 use Rattle.theory.specs.RuleTable.{Rule}
 use Rattle.theory.specs.Rule.{args-of, one-of, two-of, form, unary, binary, compare, on-one, on-two, on-many, literal-bit, literal-bits, on-sides, verdict}
 use Rattle.theory.proofs.Basics.{none-some, some-inj, cons-some-is}
@@ -39,6 +39,7 @@ code-held bit-not-literal e = absurd (omega arith)
 code-held other-value e = absurd (omega arith)
 code-held terms-differ e = absurd (omega arith)
 code-held index-not-next e = absurd (omega arith)
+code-held premise-broken e = absurd (omega arith)
 
 -- the test passed, and what comes after it is held
 pub then-held : (b : Bool) (v w : Verdict) → T (refusal v) → cond b w v ≡ held → T b × (w ≡ held)

@@ -19,10 +19,14 @@ pub mod NonNegative
 pub mod Form
 pub mod Slicing
 pub mod Verdict
+pub mod Chain
 pub mod Bytes
 pub mod Stops
 pub mod Places
 pub mod Run
+pub mod Premises
+pub mod Origins
+pub mod Since
 pub mod Demand
 pub mod Distinct
 pub mod Place

@@ -297,7 +297,7 @@ low-of {rule} of number list g (p ∷ q ∷ ks) ts e c =
 
 pub low-bits-held : LowBitsHeld
 low-bits-held job work space m r number places rule o a h e q of f c =
-    let s = demand-2 job work space m r number places h e in
+    let s = demand-2 job work space .steps m r number places h e in
     let l = reached-done job work space m r h in
     let i : s .rule ≡ rule = some-inj (s .rule) rule (sym (s .rule-is) ∙ q) in
     let j : answer-to number (s .rule) (s .literals) ≡ a = some-inj (answer-to number (s .rule) (s .literals)) a (sym (s .answered) ∙ f) in

@@ -12,7 +12,7 @@ use Rattle.theory.specs.Limit.{first-terms}
 use Rattle.theory.specs.Kind.{Op, True, False, kind}
 use Rattle.theory.specs.Term.{Term, Terms, node, nil, cons, fold, folds, from-list, same-numbers, same-op}
 use Rattle.theory.specs.Optional.{either, cons-some, collect}
-use Rattle.theory.specs.Record.{Item, term, step, back, unknown, misfit, read, shape-of}
+use Rattle.theory.specs.Record.{Item, term, step, chain, back, unknown, misfit, read, shape-of}
 use Rattle.theory.specs.Plain.{Entry, entry, Plain}
 use Rattle.theory.specs.Codes.{all-below}
 use Rattle.theory.proofs.Basics.{none-some, some-inj, cons-some-is, getElem-of, getElem-lt}
@@ -25,6 +25,7 @@ use Rattle.theory.proofs.Distinct.{Kept, WellKept, tree-0, tree-1, kept
 abbrev pub item-is : Item → Op → List ℕ → Bool
 item-is (term p js) o ks = same-op p o && same-numbers js ks
 item-is (step n js) o ks = false
+item-is (chain n ps k) o ks = false
 item-is (back n) o ks = false
 item-is unknown o ks = false
 item-is misfit o ks = false

@@ -9,7 +9,7 @@ use native.Mathlib.Nat.{suc-add}
 use native.Mathlib.Numerals.{add-one}
 use native.Mathlib.Omega.{arith}
 use native.Mathlib.Decide.{ℕ-discrete, decLe}
-use lib.Dec.{T, leb, leb→le, le→leb}
+use lib.Dec.{T, leb, ltb, leb→le, le→leb, ltb→lt}
 use lib.Ieee.Fits.{and-l, and-r}
 use lib.ListN.{length, take, getD, getElem?, length-append}
 use lib.Seq.{take-append-seam, take-suc}
@@ -18,16 +18,17 @@ use Rattle.theory.specs.Kind.{Op}
 use Rattle.theory.specs.Term.{Term, fold}
 use Rattle.theory.specs.Sort.{guard, good, sort-of}
 use Rattle.theory.specs.Optional.{is-some}
-use Rattle.theory.specs.RuleTable.{Rule, rule-at}
-use Rattle.theory.specs.Record.{Bytes, records-of, ending, Item, term, step, back, unknown, misfit, read, is-step, step-count}
-use Rattle.theory.specs.Plain.{Entry, entry, Plain, start, at-places, term-of, has, put, feed-item, feed, plain-after}
+use Rattle.theory.specs.RuleTable.{Rule, rule-at, ChainRule, chain-rule-at}
+use Rattle.theory.specs.Record.{Bytes, records-of, ending, Item, term, step, chain, back, unknown, misfit, read, is-step, step-count}
+use Rattle.theory.specs.Plain.{Entry, entry, Plain, start, at-place, at-places, term-of, has, put, feed-item, feed, plain-after}
 use Rattle.theory.specs.Codes.{first-fault, all-below, well-sorted, room, tests, fault}
 use Rattle.theory.specs.Answer.{Answer}
-use Rattle.theory.specs.Demands.{Stops, too-long, at-record, at-end}
-use Rattle.theory.specs.Job.{answer-to, reply, item-answers, answers-to, Outcome, outcome, run-from, run}
+use Rattle.theory.specs.Chain.{Earlier, premises-at, joined}
+use Rattle.theory.specs.Job.{answer-to, judged, reply, chain-reply, item-answers, answers-to, recall, Outcome, outcome, run-from, run}
+use Rattle.theory.specs.Demands.{Stops, too-long, at-record, at-end, earlier-from, earlier-after}
 use Rattle.theory.proofs.Basics.{none-some, some-inj, taken, foldl-append, getElem-of, getElem-lt, getElem-seam, snoc-elim}
 use Rattle.theory.proofs.Stops.{Stop, fault-code, ending-code}
-use Rattle.theory.proofs.Places.{tree-at, tree-of, at-places-are, term-of-is}
+use Rattle.theory.proofs.Places.{tree-at, tree-of, at-place-is, at-places-are, term-of-is}
 
 step-count-append : (xs : List Bytes) (r : Bytes) → step-count (xs ++ (r ∷ [])) ≡ step-count xs + cond (is-step (read r)) 1 0
 step-count-append [] r = go (is-step (read r))
@@ -104,10 +105,48 @@ step-passed work space list answered r n ks e =
     let q = there (rule-at n) (b .0) in
     record { below = a .0; rule = q .0; rule-is = q .1; roomy = leb→le (answer-bytes * suc answered) space (taken m 18 0 (b .1) .0) }
 
+pub record ChainPassed (space : ℕ) (list : Plain) (answered n k : ℕ) : Type 0 where
+  pub below : k < length list
+  pub rule : ChainRule
+  pub rule-is : chain-rule-at n ≡ some rule
+  pub roomy : answer-bytes * suc answered ≤ space
+
+pub chain-passed : (work space : ℕ) (list : Plain) (answered : ℕ) (r : Bytes) (n : ℕ) (ps : List ℕ) (k : ℕ)
+    → first-fault (tests work space list answered r (chain n ps k)) ≡ 0 → ChainPassed space list answered n k
+chain-passed work space list answered r n ps k e =
+    let m = leb (answer-bytes * suc answered) space in
+    let a = taken (all-below (length list) (k ∷ [])) 5 (cond (is-some (chain-rule-at n)) (cond m 0 19) 9) e in
+    let b = taken (is-some (chain-rule-at n)) 8 (cond m 0 19) (a .1) in
+    let q = there (chain-rule-at n) (b .0) in
+    record {
+      below = ltb→lt k (length list) (and-l (ltb k (length list)) _ (a .0));
+      rule = q .0;
+      rule-is = q .1;
+      roomy = leb→le (answer-bytes * suc answered) space (taken m 18 0 (b .1) .0);
+    }
+
 -- the answer to a step that passed
 pub step-answer : (space : ℕ) (list : Plain) (answered n : ℕ) (ks : List ℕ) (p : StepPassed space list answered n ks)
     → reply n (rule-at n) (at-places list ks) ≡ answer-to n (p .rule) (map (tree-at list) ks) ∷ []
 step-answer space list answered n ks p = ap₂ (reply n) (p .rule-is) (at-places-are list ks (p .below))
+
+-- the answer to a chain that passed
+pub chain-answer : (earlier : Earlier) (space : ℕ) (list : Plain) (answered n k : ℕ) (ps : List ℕ) (p : ChainPassed space list answered n k)
+    → chain-reply n (chain-rule-at n) (premises-at earlier list ps) (at-place list k)
+    ≡ judged n (joined (p .rule) (premises-at earlier list ps) (tree-at list k)) (tree-at list k) ∷ []
+chain-answer earlier space list answered n k ps p =
+    ap₂ (λ (rule : Option ChainRule) (claim : Option Term). chain-reply n rule (premises-at earlier list ps) claim) (p .rule-is) (at-place-is list k (p .below))
+
+-- an answer to a step of either kind that passed
+pub data AnswerOf (earlier : Earlier) (list : Plain) : Item → Answer → Type 0 where
+  to-step : (n : ℕ) (rule : Rule) (ks : List ℕ) → rule-at n ≡ some rule → T (all-below (length list) ks)
+      → AnswerOf earlier list (step n ks) (answer-to n rule (map (tree-at list) ks))
+  to-chain : (n : ℕ) (rule : ChainRule) (ps : List ℕ) (k : ℕ) → chain-rule-at n ≡ some rule → k < length list
+      → AnswerOf earlier list (chain n ps k) (judged n (joined rule (premises-at earlier list ps) (tree-at list k)) (tree-at list k))
+
+pub answered-step : {earlier : Earlier} {list : Plain} {i : Item} {a : Answer} → AnswerOf earlier list i a → is-step i ≡ true
+answered-step (to-step n rule ks e b) = refl
+answered-step (to-chain n rule ps k e b) = refl
 
 -- a new term at the end, or nothing new
 pub put-cases : (P : Plain → Type 0) (list : Plain) (r : Bytes) (t : Term) → P list → ((T (has list r) → ⊥) → P (list ++ (entry t r ∷ []))) → P (put list r (some t))
@@ -130,6 +169,7 @@ fed P work space list answered r e old new shorter = go (read r) e refl
         subst (λ (q : Option Term). P (put list r q)) (sym (term-of-is list o ks (p .below)))
         (put-cases P list r (tree-of list o ks) old (new o ks d p))
     go (step n ks) f d = old
+    go (chain n ps k) f d = old
     go (back n) f d =
         let t = taken (leb first-terms n && leb n (length list)) 17 0 f .0 in
         shorter n (leb→le first-terms n (and-l (leb first-terms n) _ t)) (leb→le n (length list) (and-r (leb first-terms n) _ t))
@@ -142,45 +182,53 @@ feed-good work space list answered r e h =
     (λ o ks d p n. good-snoc list (entry (tree-of list o ks) r) h (p .sorted)) (λ n a b. good-take n list h)
 
 -- the answers to a record without a fault: one to a step, none to any other
-pub answers-cases : (P : List Answer → Type 0) (work space : ℕ) (list : Plain) (answered : ℕ) (r : Bytes) → fault work space list answered r ≡ 0
-    → ((n : ℕ) (ks : List ℕ) → read r ≡ step n ks → (p : StepPassed space list answered n ks) → P (answer-to n (p .rule) (map (tree-at list) ks) ∷ []))
-    → (is-step (read r) ≡ false → P []) → P (answers-to list r)
+pub answers-cases : (P : List Answer → Type 0) (work space : ℕ) (earlier : Earlier) (list : Plain) (answered : ℕ) (r : Bytes) → fault work space list answered r ≡ 0
+    → ((a : Answer) → AnswerOf earlier list (read r) a → P (a ∷ []))
+    → (is-step (read r) ≡ false → P []) → P (answers-to earlier list r)
 unfolding answers-to fault
-answers-cases P work space list answered r e one other = go (read r) e refl
+answers-cases P work space earlier list answered r e one other = go (read r) e refl
   where
-    go : (i : Item) → first-fault (tests work space list answered r i) ≡ 0 → read r ≡ i → P (item-answers list i)
+    go : (i : Item) → first-fault (tests work space list answered r i) ≡ 0 → read r ≡ i → P (item-answers earlier list i)
     go (step n ks) f d =
         let p = step-passed work space list answered r n ks f in
-        subst P (sym (step-answer space list answered n ks p)) (one n ks d p)
+        let a = answer-to n (p .rule) (map (tree-at list) ks) in
+        subst P (sym (step-answer space list answered n ks p))
+        (one a (subst (λ (i : Item). AnswerOf earlier list i a) (sym d) (to-step n (p .rule) ks (p .rule-is) (p .below))))
+    go (chain n ps k) f d =
+        let p = chain-passed work space list answered r n ps k f in
+        let a = judged n (joined (p .rule) (premises-at earlier list ps) (tree-at list k)) (tree-at list k) in
+        subst P (sym (chain-answer earlier space list answered n k ps p))
+        (one a (subst (λ (i : Item). AnswerOf earlier list i a) (sym d) (to-chain n (p .rule) ps k (p .rule-is) (p .below))))
     go (term o ks) f d = other (ap is-step d)
     go (back n) f d = other (ap is-step d)
     go unknown f d = other (ap is-step d)
     go misfit f d = other (ap is-step d)
 
+-- ---- the earlier steps
+pub earlier-snoc : (earlier : Earlier) (list : Plain) (rs : List Bytes) (r : Bytes)
+    → earlier-from earlier list (rs ++ (r ∷ [])) ≡ recall (earlier-from earlier list rs) (foldl feed list rs) r
+earlier-snoc earlier list [] r = refl
+earlier-snoc earlier list (s ∷ rs) r = earlier-snoc (recall earlier list s) (feed list s) rs r
+
 module _ (job : Bytes) (work space : ℕ) where
-  -- answer k of the first `done` records is the answer to step k, from the plain list just then
+  -- answer k of the first `done` records is the answer to step k, from the plain list and the earlier steps just then
   pub record Answered (done k : ℕ) (a : Answer) : Type 0 where
     pub m : ℕ
     pub bytes : Bytes
-    pub number : ℕ
-    pub rule : Rule
-    pub literals : List ℕ
     pub m-done : m < done
     pub stands : getElem? (records-of job) m ≡ some bytes
-    pub is-step : read bytes ≡ step number literals
     pub kth : step-count (take m (records-of job)) ≡ k
-    pub rule-is : rule-at number ≡ some rule
-    pub below : T (all-below (length (plain-after m job)) literals)
     pub sorted : AllGood (plain-after m job)
-    pub is : a ≡ answer-to number rule (map (tree-at (plain-after m job)) literals)
+    pub is : AnswerOf (earlier-after m job) (plain-after m job) (read bytes) a
 
   -- record m, which is r, has no fault
   abbrev pub Passes : ℕ → Bytes → Type 0
   Passes m r = fault work space (plain-after m job) (step-count (take m (records-of job))) r ≡ 0
 
   -- after the records `pre`
-  pub record Good (pre : List Bytes) (list : Plain) (answers : List Answer) : Type 0 where
+  pub record Good (pre : List Bytes) (earlier : Earlier) (list : Plain) (answers : List Answer) : Type 0 where
     pub plain : list ≡ foldl feed start pre
+    pub recalled : earlier ≡ earlier-from [] start pre
     pub sorted : AllGood list
     pub counted : length answers ≡ step-count pre
     pub exact : (k : ℕ) (a : Answer) → getElem? answers k ≡ some a → Answered (length pre) k a
@@ -192,26 +240,23 @@ module _ (job : Bytes) (work space : ℕ) where
       record {
         m = h .m;
         bytes = h .bytes;
-        number = h .number;
-        rule = h .rule;
-        literals = h .literals;
         m-done = omega arith;
         stands = h .stands;
-        is-step = h .is-step;
         kth = h .kth;
-        rule-is = h .rule-is;
-        below = h .below;
         sorted = h .sorted;
         is = h .is;
       }
 
-  module _ (pre : List Bytes) (list : Plain) (answers : List Answer) (r : Bytes) (rs : List Bytes)
-      (all : records-of job ≡ pre ++ (r ∷ rs)) (before : Good pre list answers) (e : fault work space list (length answers) r ≡ 0) where
+  module _ (pre : List Bytes) (earlier : Earlier) (list : Plain) (answers : List Answer) (r : Bytes) (rs : List Bytes)
+      (all : records-of job ≡ pre ++ (r ∷ rs)) (before : Good pre earlier list answers) (e : fault work space list (length answers) r ≡ 0) where
     so-far : take (length pre) (records-of job) ≡ pre
     so-far = ap (take (length pre)) all ∙ take-append-seam pre (r ∷ rs)
 
     plain-now : list ≡ plain-after (length pre) job
     plain-now = before .plain ∙ ap (foldl feed start) (sym so-far)
+
+    earlier-now : earlier ≡ earlier-after (length pre) job
+    earlier-now = before .recalled ∙ ap (earlier-from [] start) (sym so-far)
 
     stands-now : getElem? (records-of job) (length pre) ≡ some r
     stands-now = ap (λ (l : List Bytes). getElem? l (length pre)) all ∙ getElem-seam pre r rs
@@ -223,38 +268,30 @@ module _ (job : Bytes) (work space : ℕ) where
     passes-now = subst₂ (λ (l : Plain) (k : ℕ). fault work space l k r ≡ 0) plain-now (sym count-now) e
 
     -- the step that comes now
-    new-answer : (n : ℕ) (ks : List ℕ) → read r ≡ step n ks → (p : StepPassed space list (length answers) n ks)
-        → Answered (suc (length pre)) (length answers) (answer-to n (p .rule) (map (tree-at list) ks))
-    new-answer n ks d p = record {
+    new-answer : (a : Answer) → AnswerOf earlier list (read r) a → Answered (suc (length pre)) (length answers) a
+    new-answer a h = record {
       m = length pre;
       bytes = r;
-      number = n;
-      rule = p .rule;
-      literals = ks;
       m-done = omega arith;
       stands = stands-now;
-      is-step = d;
       kth = count-now;
-      rule-is = p .rule-is;
-      below = subst (λ (l : Plain). T (all-below (length l) ks)) plain-now (p .below);
       sorted = subst AllGood plain-now (before .sorted);
-      is = ap (λ (l : Plain). answer-to n (p .rule) (map (tree-at l) ks)) plain-now;
+      is = subst₂ (λ (x : Earlier) (l : Plain). AnswerOf x l (read r) a) earlier-now plain-now h;
     }
 
-    after-exact : (k : ℕ) (a : Answer) → getElem? (answers ++ answers-to list r) k ≡ some a → Answered (suc (length pre)) k a
+    after-exact : (k : ℕ) (a : Answer) → getElem? (answers ++ answers-to earlier list r) k ≡ some a → Answered (suc (length pre)) k a
     after-exact k a =
-        answers-cases (λ (new : List Answer). getElem? (answers ++ new) k ≡ some a → Answered (suc (length pre)) k a) work space list (length answers) r e
-        (λ n ks d p g. snoc-elim answers (answer-to n (p .rule) (map (tree-at list) ks)) k a g
+        answers-cases (λ (new : List Answer). getElem? (answers ++ new) k ≡ some a → Answered (suc (length pre)) k a) work space earlier list (length answers) r e
+        (λ b p g. snoc-elim answers b k a g
         (λ h. later (length pre) (suc (length pre)) k a (omega arith) (before .exact k a h))
-        (λ i j. subst₂ (Answered (suc (length pre))) (sym i) j (new-answer n ks d p)))
+        (λ i j. subst₂ (Answered (suc (length pre))) (sym i) j (new-answer b p)))
         (λ d g. later (length pre) (suc (length pre)) k a (omega arith)
         (before .exact k a (ap (λ (l : List Answer). getElem? l k) (sym (append-nil answers)) ∙ g)))
 
-    after-counted : length (answers ++ answers-to list r) ≡ step-count (pre ++ (r ∷ []))
+    after-counted : length (answers ++ answers-to earlier list r) ≡ step-count (pre ++ (r ∷ []))
     after-counted =
-        answers-cases (λ (new : List Answer). length (answers ++ new) ≡ step-count (pre ++ (r ∷ []))) work space list (length answers) r e
-        (λ n ks d p. length-append answers (answer-to n (p .rule) (map (tree-at list) ks) ∷ []) ∙ ap₂ _+_ (before .counted) (ap (λ (i : Item). cond (is-step i) 1 0) (sym d))
-        ∙ sym (step-count-append pre r))
+        answers-cases (λ (new : List Answer). length (answers ++ new) ≡ step-count (pre ++ (r ∷ []))) work space earlier list (length answers) r e
+        (λ b p. length-append answers (b ∷ []) ∙ ap₂ _+_ (before .counted) (ap (λ (x : Bool). cond x 1 0) (sym (answered-step p))) ∙ sym (step-count-append pre r))
         (λ d. length-append answers [] ∙ ap₂ _+_ (before .counted) (ap (λ (b : Bool). cond b 1 0) (sym d)) ∙ sym (step-count-append pre r))
 
     after-passed : (m : ℕ) (s : Bytes) → m < suc (length pre) → getElem? (records-of job) m ≡ some s → Passes m s
@@ -264,11 +301,12 @@ module _ (job : Bytes) (work space : ℕ) where
         go (yes d) = subst₂ Passes (sym d) (some-inj r s (sym stands-now ∙ ap (getElem? (records-of job)) (sym d) ∙ f)) passes-now
         go (no d) = before .passed m s (omega arith) f
 
-    next : Good (pre ++ (r ∷ [])) (feed list r) (answers ++ answers-to list r)
+    next : Good (pre ++ (r ∷ [])) (recall earlier list r) (feed list r) (answers ++ answers-to earlier list r)
     next =
         let l : length (pre ++ (r ∷ [])) ≡ suc (length pre) = length-append pre (r ∷ []) ∙ add-one (length pre) in
         record {
           plain = ap (λ (p : Plain). feed p r) (before .plain) ∙ sym (foldl-append feed start pre (r ∷ []));
+          recalled = ap₂ (λ (x : Earlier) (l : Plain). recall x l r) (before .recalled) (before .plain) ∙ sym (earlier-snoc [] start pre r);
           sorted = feed-good work space list (length answers) r e (before .sorted);
           counted = after-counted;
           exact = λ k a f. subst (λ (n : ℕ). Answered n k a) (sym l) (after-exact k a f);
@@ -287,9 +325,9 @@ module _ (job : Bytes) (work space : ℕ) where
     pub exact-answers : (k : ℕ) (a : Answer) → getElem? (o .answers) k ≡ some a → Answered (o .records) k a
     pub why : Stops job work space (o .stop) (o .records)
 
-  stopped : (stop : ℕ) (pre rs : List Bytes) (list : Plain) (answers : List Answer) → records-of job ≡ pre ++ rs → Good pre list answers
+  stopped : (stop : ℕ) (pre rs : List Bytes) (earlier : Earlier) (list : Plain) (answers : List Answer) → records-of job ≡ pre ++ rs → Good pre earlier list answers
       → ((m : ℕ) → m < length pre → length job ≤ max-job) → Stop stop → Stops job work space stop (length pre) → Ran (outcome stop (length pre) answers list)
-  stopped stop pre rs list answers all g short code why =
+  stopped stop pre rs earlier list answers all g short code why =
       let t : take (length pre) (records-of job) ≡ pre = ap (take (length pre)) all ∙ take-append-seam pre rs in
       let p : list ≡ plain-after (length pre) job = g .plain ∙ ap (foldl feed start) (sym t) in
       let l : length (records-of job) ≡ length pre + length rs = ap length all ∙ length-append pre rs in
@@ -311,35 +349,38 @@ module _ (job : Bytes) (work space : ℕ) where
   by-fault (suc c) x y p q = q c refl
 
   -- why it stops at record r, or where none is left
-  why-fault : (pre : List Bytes) (list : Plain) (answers : List Answer) (r : Bytes) (rs : List Bytes) → length job ≤ max-job → records-of job ≡ pre ++ (r ∷ rs)
-      → Good pre list answers → (c : ℕ) → fault work space list (length answers) r ≡ suc c → Stops job work space (suc c) (length pre)
-  why-fault pre list answers r rs short all g c e =
+  why-fault : (pre : List Bytes) (earlier : Earlier) (list : Plain) (answers : List Answer) (r : Bytes) (rs : List Bytes) → length job ≤ max-job → records-of job ≡ pre ++ (r ∷ rs)
+      → Good pre earlier list answers → (c : ℕ) → fault work space list (length answers) r ≡ suc c → Stops job work space (suc c) (length pre)
+  why-fault pre earlier list answers r rs short all g c e =
       let t : take (length pre) (records-of job) ≡ pre = ap (take (length pre)) all ∙ take-append-seam pre (r ∷ rs) in
       at-record short (ap (λ (l : List Bytes). getElem? l (length pre)) all ∙ getElem-seam pre r rs)
       (subst₂ (λ (l : Plain) (k : ℕ). fault work space l k r ≡ suc c) (g .plain ∙ ap (foldl feed start) (sym t)) (g .counted ∙ ap step-count (sym t)) e)
       (g .passed)
 
-  why-end : (pre : List Bytes) (list : Plain) (answers : List Answer) → length job ≤ max-job → records-of job ≡ pre ++ [] → Good pre list answers
+  why-end : (pre : List Bytes) (earlier : Earlier) (list : Plain) (answers : List Answer) → length job ≤ max-job → records-of job ≡ pre ++ [] → Good pre earlier list answers
       → Stops job work space (ending job) (length pre)
-  why-end pre list answers short all g = at-end short (ap length (all ∙ append-nil pre)) (g .passed)
+  why-end pre earlier list answers short all g = at-end short (ap length (all ∙ append-nil pre)) (g .passed)
 
   module _ (short : length job ≤ max-job) where
-    runs : (rs pre : List Bytes) (list : Plain) (answers : List Answer) (done : ℕ) → done ≡ length pre → records-of job ≡ pre ++ rs → Good pre list answers
-        → Ran (run-from work space (ending job) done list answers rs)
+    runs : (rs pre : List Bytes) (earlier : Earlier) (list : Plain) (answers : List Answer) (done : ℕ) → done ≡ length pre → records-of job ≡ pre ++ rs → Good pre earlier list answers
+        → Ran (run-from work space (ending job) done earlier list answers rs)
     unfolding run-from
-    runs [] pre list answers done d all g =
-        subst (λ (n : ℕ). Ran (outcome (ending job) n answers list)) (sym d) (stopped (ending job) pre [] list answers all g (λ m l. short) (ending-code job) (why-end pre list answers short all g))
-    runs (r ∷ rs) pre list answers done d all g =
-        by-fault (fault work space list (length answers) r) (run-from work space (ending job) (suc done) (feed list r) (answers ++ answers-to list r) rs) (λ c. outcome (suc c) done answers list)
-        (λ e. runs rs (pre ++ (r ∷ [])) (feed list r) (answers ++ answers-to list r) (suc done)
+    runs [] pre earlier list answers done d all g =
+        subst (λ (n : ℕ). Ran (outcome (ending job) n answers list)) (sym d)
+        (stopped (ending job) pre [] earlier list answers all g (λ m l. short) (ending-code job) (why-end pre earlier list answers short all g))
+    runs (r ∷ rs) pre earlier list answers done d all g =
+        by-fault (fault work space list (length answers) r)
+        (run-from work space (ending job) (suc done) (recall earlier list r) (feed list r) (answers ++ answers-to earlier list r) rs) (λ c. outcome (suc c) done answers list)
+        (λ e. runs rs (pre ++ (r ∷ [])) (recall earlier list r) (feed list r) (answers ++ answers-to earlier list r) (suc done)
         (ap suc d ∙ sym (length-append pre (r ∷ []) ∙ add-one (length pre)))
         (all ∙ sym (append-assoc pre (r ∷ []) rs))
-        (next pre list answers r rs all g e))
+        (next pre earlier list answers r rs all g e))
         (λ c e. subst (λ (n : ℕ). Ran (outcome (suc c) n answers list)) (sym d)
-        (stopped (suc c) pre (r ∷ rs) list answers all g (λ m l. short) (subst Stop e (fault-code work space list (length answers) r)) (why-fault pre list answers r rs short all g c e)))
+        (stopped (suc c) pre (r ∷ rs) earlier list answers all g (λ m l. short) (subst Stop e (fault-code work space list (length answers) r))
+        (why-fault pre earlier list answers r rs short all g c e)))
 
-  good-start : Good [] start []
-  good-start = record { plain = refl; sorted = start-good; counted = refl; exact = λ k a f. absurd (none-some a f); passed = λ m r l f. absurd (omega arith) }
+  good-start : Good [] [] start []
+  good-start = record { plain = refl; recalled = refl; sorted = start-good; counted = refl; exact = λ k a f. absurd (none-some a f); passed = λ m r l f. absurd (omega arith) }
 
   by-length : (b : Bool) → leb (length job) max-job ≡ b → (x y : Outcome) → (length job ≤ max-job → Ran x) → (max-job < length job → Ran y)
       → Ran (elim b as (λ z. Outcome) [ true ↦ x | false ↦ y ])
@@ -353,9 +394,9 @@ module _ (job : Bytes) (work space : ℕ) where
   pub ran : Ran (run job work space)
   unfolding run
   ran =
-      by-length (leb (length job) max-job) refl (run-from work space (ending job) 0 start [] (records-of job)) (outcome 2 0 [] start)
-      (λ s. runs s (records-of job) [] start [] 0 refl refl good-start)
-      (λ h. stopped 2 [] (records-of job) start [] refl good-start (λ m l. absurd (omega arith)) tt (too-long h))
+      by-length (leb (length job) max-job) refl (run-from work space (ending job) 0 [] start [] (records-of job)) (outcome 2 0 [] start)
+      (λ s. runs s (records-of job) [] [] start [] 0 refl refl good-start)
+      (λ h. stopped 2 [] (records-of job) [] start [] refl good-start (λ m l. absurd (omega arith)) tt (too-long h))
 
   take-next : (m : ℕ) (r : Bytes) → getElem? (records-of job) m ≡ some r → take (suc m) (records-of job) ≡ take m (records-of job) ++ (r ∷ [])
   take-next m r e =
@@ -363,9 +404,12 @@ module _ (job : Bytes) (work space : ℕ) where
       take-suc (records-of job) m [] l
       ∙ ap (λ (x : Bytes). take m (records-of job) ++ (x ∷ [])) (some-inj (getD (records-of job) m []) r (sym (getElem-of (records-of job) m [] l) ∙ e))
 
-  -- the list and the steps after one more record
+  -- the list, the earlier steps and their number after one more record
   pub plain-next : (m : ℕ) (r : Bytes) → getElem? (records-of job) m ≡ some r → plain-after (suc m) job ≡ feed (plain-after m job) r
   plain-next m r e = ap (foldl feed start) (take-next m r e) ∙ foldl-append feed start (take m (records-of job)) (r ∷ [])
+
+  pub earlier-next : (m : ℕ) (r : Bytes) → getElem? (records-of job) m ≡ some r → earlier-after (suc m) job ≡ recall (earlier-after m job) (plain-after m job) r
+  earlier-next m r e = ap (earlier-from [] start) (take-next m r e) ∙ earlier-snoc [] start (take m (records-of job)) r
 
   pub count-next : (m : ℕ) (r : Bytes) → getElem? (records-of job) m ≡ some r
       → step-count (take (suc m) (records-of job)) ≡ step-count (take m (records-of job)) + cond (is-step (read r)) 1 0

@@ -1,13 +1,14 @@
 -- `same-term` is equality of terms, and a kind is its number and the numbers in it.
-use mathlib.Core.Path.{_≡_, refl, sym, ap₂, subst, _∙_}
+use mathlib.Core.Path.{_≡_, refl, sym, ap, ap₂, subst, _∙_}
 use mathlib.Core.List.{List, [], _∷_}
 use Prim.Native.Nat.{ℕ, _-_}
 use lib.Dec.{T, leb, eqb, eqb→eq, eqb-refl}
 use lib.ListN.{getD}
-use mathlib.Core.Bool.{cond}
+use mathlib.Core.Bool.{_&&_, cond}
 use Rattle.theory.specs.Kind.{Op, True, False, Not, And, Or, Xor, Equals, Ite, BoolVar, BvVar, Const, BvBitOf, BvBbTerm, BvNot, BvNeg, BvAnd, BvOr, BvXor, BvAdd, BvMul, BvXNor, BvComp, BvULt, BvSLt, BvShl, BvLShr, BvAShr, BvUDiv, BvURem, BvConcat, BvExtract, SignExtend, ZeroExtend, RotateLeft, RotateRight, Repeat, kind, indices}
 use Rattle.theory.specs.Term.{Term, Terms, node, nil, cons, same-numbers, same-op, same-term, same-terms}
 use Rattle.theory.specs.Rule.{nth}
+use Rattle.theory.proofs.Basics.{T-same}
 use lib.Ieee.Fits.{and-l, and-r, and-i}
 
 -- ---- the kind of a number and of the numbers in it; of no use where there is none
@@ -103,3 +104,20 @@ mutual
 
 pub eq-same : (t u : Term) → t ≡ u → T (same-term t u)
 eq-same t u e = subst (λ (v : Term). T (same-term t v)) e (same-self t)
+
+-- ---- a kind by its number and the first two numbers in it: none has more
+decode-two : (k : ℕ) (is js : List ℕ) → nth 0 is ≡ nth 0 js → nth 1 is ≡ nth 1 js → decode k is ≡ decode k js
+decode-two k is js e f = ap₂ (λ (i j : ℕ). decode k (i ∷ j ∷ [])) e f
+
+pub same-op-two : (o p : Op) → same-op o p ≡ (eqb (kind o) (kind p) && (eqb (nth 0 (indices o)) (nth 0 (indices p)) && eqb (nth 1 (indices o)) (nth 1 (indices p))))
+same-op-two o p =
+    T-same (same-op o p) _
+    (λ t. subst (λ (q : Op). T (eqb (kind o) (kind q) && (eqb (nth 0 (indices o)) (nth 0 (indices q)) && eqb (nth 1 (indices o)) (nth 1 (indices q))))) (same-op-eq o p t)
+    (and-i (eqb (kind o) (kind o)) _ (eqb-refl (kind o)) (and-i (eqb (nth 0 (indices o)) (nth 0 (indices o))) _ (eqb-refl (nth 0 (indices o))) (eqb-refl (nth 1 (indices o))))))
+    (λ t.
+    let a = eqb→eq (kind o) (kind p) (and-l (eqb (kind o) (kind p)) _ t) in
+    let r = and-r (eqb (kind o) (kind p)) _ t in
+    let b = eqb→eq (nth 0 (indices o)) (nth 0 (indices p)) (and-l (eqb (nth 0 (indices o)) (nth 0 (indices p))) _ r) in
+    let c = eqb→eq (nth 1 (indices o)) (nth 1 (indices p)) (and-r (eqb (nth 0 (indices o)) (nth 0 (indices p))) _ r) in
+    let e : o ≡ p = sym (decode-kind o) ∙ ap (λ (k : ℕ). decode k (indices o)) a ∙ decode-two (kind p) (indices o) (indices p) b c ∙ decode-kind p in
+    subst (λ (q : Op). T (same-op o q)) e (same-op-refl o))

@@ -10,7 +10,7 @@ use lib.ListN.{getElem?}
 use Rattle.theory.specs.Kind.{True, False, Equals}
 use Rattle.theory.specs.Term.{Term, node, nil, two, fold}
 use Rattle.theory.specs.Value.{Assign, Val, truth, value, meaning}
-use Rattle.theory.specs.Record.{Bytes, records-of, Item, term, step, read, cut, shape-of}
+use Rattle.theory.specs.Record.{Bytes, records-of, read, cut, shape-of, claim-of}
 use Rattle.theory.specs.Plain.{plain-after, at-place, feed}
 use Rattle.theory.specs.Answer.{Answer}
 use Rattle.theory.specs.Demand.{Held, Demand3}
@@ -33,8 +33,8 @@ never : (ρ : Assign) → value ρ (node True nil) ≡ value ρ (node False nil)
 unfolding fold meaning
 never ρ e = let z : _≡_ {A = ℕ} 0 1 = cc in omega arith
 
-literals-are : (n : ℕ) (ks : List ℕ) → step 2 (2 ∷ []) ≡ step n ks → 2 ∷ [] ≡ ks
-literals-are n ks e = cc
+literals-are : (n : ℕ) (ks : List ℕ) → _≡_ {A = Option (ℕ × List ℕ)} (some (2, 2 ∷ [])) (some (n, ks)) → 2 ∷ [] ≡ ks
+literals-are n ks e = ap (λ (p : ℕ × List ℕ). p .1) (some-inj (2, 2 ∷ []) (n, ks) e)
 
 place-is : (p : ℕ) → 2 ∷ [] ≡ p ∷ [] → 2 ≡ p
 place-is p e = cc
@@ -48,14 +48,12 @@ not-held h =
     let ρ = x-and-y 0 0 in
     never ρ (ap (value ρ) (left-is _ _ _ _ f) ∙ h .equal ρ ∙ sym (ap (value ρ) (right-is _ _ _ _ f)))
 
-at-step : (m : ℕ) (bytes : Bytes) (n : ℕ) (ks : List ℕ) → m < 2 → getElem? (records-of job) m ≡ some bytes → read bytes ≡ step n ks → Held (plain-after m job) ks → ⊥
+at-step : (m : ℕ) (bytes : Bytes) (n : ℕ) (ks : List ℕ) → m < 2 → getElem? (records-of job) m ≡ some bytes → claim-of (read bytes) ≡ some (n, ks)
+    → Held (plain-after m job) ks → ⊥
 unfolding cut shape-of read
-at-step zero bytes n ks l s r h =
-    let q : term Equals (0 ∷ 1 ∷ []) ≡ step n ks = ap read (some-inj _ _ s) ∙ r in
-    let z : _≡_ {A = ℕ} 0 1 = cc in omega arith
+at-step zero bytes n ks l s r h = none-some (n, ks) (ap (λ (b : Bytes). claim-of (read b)) (some-inj _ _ s) ∙ r)
 at-step (suc zero) bytes n ks l s r h =
-    let q : step 2 (2 ∷ []) ≡ step n ks = ap read (some-inj _ _ s) ∙ r in
-    not-held (subst (Held (plain-after 1 job)) (sym (literals-are n ks q)) h)
+    not-held (subst (Held (plain-after 1 job)) (sym (literals-are n ks (ap (λ (b : Bytes). claim-of (read b)) (some-inj _ _ s) ∙ r))) h)
 at-step (suc (suc m)) bytes n ks l s r h = absurd (omega arith)
 
 pub shut-out-held : (a : Answer) → a .code ≡ 0 → Demand3 job 64 64 2 (a ∷ []) → ⊥

@@ -4,7 +4,7 @@ use mathlib.Core.List.{List, [], _∷_}
 use Prim.Native.Nat.{ℕ}
 use lib.Dec.{T, eqb}
 use lib.ListN.{length}
-use Rattle.theory.specs.Record.{Bytes, records-of, total-length, ending, Item, term, step, back, unknown, misfit, read}
+use Rattle.theory.specs.Record.{Bytes, records-of, total-length, ending, Item, term, step, chain, back, unknown, misfit, read}
 use Rattle.theory.specs.Plain.{Plain}
 use Rattle.theory.specs.Codes.{first-fault, tests, fault}
 use Rattle.theory.specs.Claim.{element, stop-codes}
@@ -29,6 +29,7 @@ tests-stop work space list answered r unknown = (tt, tt)
 tests-stop work space list answered r misfit = (tt, tt)
 tests-stop work space list answered r (term o ks) = (tt, (tt, (tt, tt)))
 tests-stop work space list answered r (step n ks) = (tt, (tt, (tt, tt)))
+tests-stop work space list answered r (chain n ps k) = (tt, (tt, (tt, tt)))
 tests-stop work space list answered r (back n) = (tt, tt)
 
 pub fault-code : (work space : ℕ) (list : Plain) (answered : ℕ) (r : Bytes) → Stop (fault work space list answered r)

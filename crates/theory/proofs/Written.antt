@@ -2,37 +2,39 @@
 use mathlib.Core.Path.{_≡_, refl, sym, ap, ap₂, subst, _∙_}
 use mathlib.Core.Bool.{Bool, true, false, _||_, cond}
 use mathlib.Core.List.{List, [], _∷_, _++_, map, append-assoc}
-use mathlib.Core.Option.{some}
+use mathlib.Core.Option.{none, some}
 use Prim.Native.Nat.{ℕ, zero, suc, _-_, _*_, _<_, _≤_}
 use native.Mathlib.Omega.{arith}
-use lib.Dec.{T, eqb, ltb, ltb→lt, eqb→eq}
+use lib.Dec.{T, eqb, leb, ltb, ltb→lt, eqb→eq}
 use lib.Ieee.Fits.{and-l, and-r}
 use lib.ListN.{length, drop, getElem?, length-append, length-drop}
 use lib.Seq.{drop-at}
-use Rattle.theory.specs.Limit.{answer-bytes}
+use Rattle.theory.specs.Limit.{answer-bytes, max-terms}
 use Rattle.theory.specs.Term.{Term}
 use Rattle.theory.specs.Depth.{depth}
 use Rattle.theory.specs.Optional.{either}
 use Rattle.theory.specs.Verdict.{accepted}
-use Rattle.theory.specs.RuleTable.{Rule, rules, rule-at}
+use Rattle.theory.specs.RuleTable.{Rule, rules, rule-at, ChainRule, first-chain-rule, chain-rules, chain-rule-at}
 use Rattle.theory.specs.Rule.{verdict}
-use Rattle.theory.specs.Record.{Bytes, AllBytes, word, word-bytes}
+use Rattle.theory.specs.Record.{Bytes, AllBytes, word, word-bytes, Item}
 use Rattle.theory.specs.Plain.{Plain, plain-after}
-use Rattle.theory.specs.Codes.{all-below}
+use Rattle.theory.specs.Codes.{all-below, fault}
 use Rattle.theory.specs.Answer.{Answer, encode-answer, encode-answers, decode-answer, decode-answers}
-use Rattle.theory.specs.Job.{right-depth, answer-to, run, answers-after, call}
+use Rattle.theory.specs.Chain.{Earlier, premises-at, joined}
+use Rattle.theory.specs.Job.{right-depth, answer-to, answers-to, run, answers-after, call}
 use Rattle.theory.specs.Demand.{Demand3}
 use Rattle.theory.specs.Demands.{Demand2}
 use Rattle.theory.specs.Claim.{element, answer-codes}
-use Rattle.theory.proofs.Basics.{none-some, getElem-lt}
+use Rattle.theory.proofs.Basics.{none-some, some-inj, getElem-lt}
 use Rattle.theory.proofs.Blast.{to-from-list}
 use Rattle.theory.proofs.Places.{tree-at}
-use Rattle.theory.proofs.Run.{ran}
-use Rattle.theory.proofs.Demand.{demand-3, answer-rule}
+use Rattle.theory.proofs.Run.{ran, AnswerOf, to-step, to-chain, answers-cases}
+use Rattle.theory.proofs.Demand.{demand-3}
 use Rattle.theory.proofs.Demands.{demand-2}
+use Rattle.theory.proofs.Premises.{answer-rule}
 use Rattle.theory.proofs.Distinct.{WellKept, kept-at, tree-0, tree-1, plain-well}
 use Rattle.theory.proofs.Bounds.{terms-fit, run-fits, place-depth}
-use Rattle.theory.proofs.Codes.{answer-codes-are}
+use Rattle.theory.proofs.Codes.{code-known}
 
 -- ---- a number of two bytes reads back
 pub word-exact : (n : ℕ) → n < 65536 → word (word-bytes n) ≡ n
@@ -44,7 +46,7 @@ pub record Small (a : Answer) : Type 0 where
   pub code-small : a .code < 65536
   pub depth-small : a .depth < 65536
 
-abbrev AllSmall : List Answer → Type 0
+abbrev pub AllSmall : List Answer → Type 0
 AllSmall answers = (k : ℕ) (a : Answer) → getElem? answers k ≡ some a → Small a
 
 decode-one : (a : Answer) (more : Bytes) → Small a → decode-answer (encode-answer a ++ more) ≡ a
@@ -69,6 +71,13 @@ bytes-length (a ∷ rest) = omega (arith, bytes-length rest)
 rule-small : (n : ℕ) (rule : Rule) → rule-at n ≡ some rule → n < 65536
 rule-small zero rule e = absurd (none-some rule e)
 rule-small (suc k) rule e = let l : k < length rules = getElem-lt rules k rule e in omega arith
+
+chain-rule-small : (n : ℕ) (rule : ChainRule) → chain-rule-at n ≡ some rule → n < 65536
+chain-rule-small n rule e = go (leb first-chain-rule n) e
+  where
+    go : (b : Bool) → cond b (getElem? chain-rules (n - first-chain-rule)) none ≡ some rule → n < 65536
+    go true d = let l : n - first-chain-rule < 3 = getElem-lt chain-rules (n - first-chain-rule) rule d in omega arith
+    go false d = absurd (none-some rule d)
 
 element-below : (b : ℕ) (ks : List ℕ) → T (all-below b ks) → (c : ℕ) → T (element c ks) → c < b
 element-below b [] h c t = absurd t
@@ -110,6 +119,30 @@ depth-small list w n rule (p ∷ []) b =
     let h = right-small list w p l in
     judged-depth (accepted (verdict rule (tree-at list p))) (right-depth (tree-at list p)) (length list) (omega arith)
 
+-- of an answer to a step of either kind: its rule, and its depth
+parts-small : {earlier : Earlier} (list : Plain) → WellKept list → {i : Item} {a : Answer} → AnswerOf earlier list i a → (a .rule < 65536) × (a .depth ≤ length list)
+parts-small list w (to-step n rule ks e b) =
+    (subst (λ (m : ℕ). m < 65536) (sym (answer-rule n rule (map (tree-at list) ks))) (rule-small n rule e), depth-small list w n rule ks b)
+parts-small {earlier} list w (to-chain n rule ps k e b) =
+    let h = right-small list w k b in
+    (chain-rule-small n rule e, judged-depth (accepted (joined rule (premises-at earlier list ps) (tree-at list k))) (right-depth (tree-at list k)) (length list) (omega arith))
+
+one-small : {earlier : Earlier} (list : Plain) → WellKept list → length list ≤ max-terms → {i : Item} {a : Answer} → AnswerOf earlier list i a → Small a
+one-small list w n {a = a} h =
+    let d = parts-small list w h in
+    record { rule-small = d .0; code-small = element-below 65536 answer-codes tt (a .code) (code-known h); depth-small = omega (arith, d .1) }
+
+-- those of the answers to a record that no code stops
+pub new-small : (work space : ℕ) (earlier : Earlier) (list : Plain) (answered : ℕ) (r : Bytes) → fault work space list answered r ≡ 0 → WellKept list → length list ≤ max-terms
+    → AllSmall (answers-to earlier list r)
+new-small work space earlier list answered r e w n =
+    answers-cases AllSmall work space earlier list answered r e
+    (λ a h k b f. only k f (one-small list w n h)) (λ d k b f. absurd (none-some b f))
+  where
+    only : {a b : Answer} (k : ℕ) → getElem? (a ∷ []) k ≡ some b → Small a → Small b
+    only {a} {b} zero f s = subst Small (some-inj a b f) s
+    only {a} {b} (suc k) f s = absurd (none-some b f)
+
 module _ (job : Bytes) (bytes : AllBytes job) (work space : ℕ) where
   pub answers-small : AllSmall (run job work space .answers)
   answers-small k a e =
@@ -118,13 +151,7 @@ module _ (job : Bytes) (bytes : AllBytes job) (work space : ℕ) where
       let l = h .m-done in
       let w = plain-well job bytes work space (h .m) (omega arith) in
       let n = terms-fit job work space (h .m) (omega arith) .numbers-fit in
-      let ts = map (tree-at list) (h .literals) in
-      let d : a .depth ≤ length list = subst (λ (b : Answer). b .depth ≤ length list) (sym (h .is)) (depth-small list w (h .number) (h .rule) (h .literals) (h .below)) in
-      record {
-        rule-small = subst (λ (m : ℕ). m < 65536) (sym (ap (λ (b : Answer). b .rule) (h .is) ∙ answer-rule (h .number) (h .rule) ts)) (rule-small (h .number) (h .rule) (h .rule-is));
-        code-small = element-below 65536 answer-codes tt (a .code) (answer-codes-are job work space k a e);
-        depth-small = omega arith;
-      }
+      one-small list w (omega arith) (h .is)
 
   -- the answers' memory reads back as the answers
   pub answers-read : (old : Bytes) → let o = run job work space in decode-answers (length (o .answers)) (answers-after (o .answers) old) ≡ o .answers

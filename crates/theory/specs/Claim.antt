@@ -20,7 +20,7 @@ use Rattle.theory.specs.Job.{answer-to, Outcome, run, call}
 use Rattle.theory.specs.Demand.{Reached}
 use Rattle.theory.specs.Tally.{Tally, max-tally, tally-of}
 
--- ---- "Codes 2 to 9, 18 and 19 stop the job; 10 to 17 are answers", beside 0 and 1
+-- ---- "Codes 2 to 9, 18 and 19 stop the job; 10 to 17 are answers", beside 0 and 1, and 24 of a chain
 -- n is in the list
 abbrev pub element : ℕ → List ℕ → Bool
 element n [] = false
@@ -32,7 +32,7 @@ stop-codes = 0 ∷ 2 ∷ 3 ∷ 4 ∷ 5 ∷ 6 ∷ 7 ∷ 8 ∷ 9 ∷ 18 ∷ 19 ∷
 
 -- what an answer can have
 abbrev pub answer-codes : List ℕ
-answer-codes = 0 ∷ 1 ∷ 10 ∷ 11 ∷ 12 ∷ 13 ∷ 14 ∷ 15 ∷ 16 ∷ 17 ∷ []
+answer-codes = 0 ∷ 1 ∷ 10 ∷ 11 ∷ 12 ∷ 13 ∷ 14 ∷ 15 ∷ 16 ∷ 17 ∷ 24 ∷ []
 
 -- every job stops with one of these
 abbrev pub StopCodes : Type 0

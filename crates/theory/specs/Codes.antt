@@ -9,8 +9,8 @@ use Rattle.theory.specs.Limit.{max-terms, first-terms, term-bytes, answe
 use Rattle.theory.specs.Term.{Term}
 use Rattle.theory.specs.Sort.{good, sort-of}
 use Rattle.theory.specs.Optional.{is-some, either}
-use Rattle.theory.specs.RuleTable.{rule-at}
-use Rattle.theory.specs.Record.{Bytes, Item, term, step, back, unknown, misfit, read}
+use Rattle.theory.specs.RuleTable.{rule-at, chain-rule-at}
+use Rattle.theory.specs.Record.{Bytes, Item, term, step, chain, back, unknown, misfit, read}
 use Rattle.theory.specs.Plain.{Plain, term-of, has}
 
 -- tests in their order, each with the code where it fails
@@ -31,10 +31,11 @@ well-sorted = either false (λ t. good (sort-of t))
 abbrev pub room : ℕ → Plain → Bool
 room work list = leb (term-bytes * (suc (length list) - first-terms)) work && ltb (length list) max-terms
 
--- the tests of a step, where that many terms are kept; `space` is the bytes lent for answers, `answered` the answers written so far
-abbrev pub step-tests : ℕ → ℕ → ℕ → ℕ → List ℕ → List (Bool × ℕ)
-step-tests terms space answered n ks =
-    (all-below terms ks, 6) ∷ (is-some (rule-at n), 9) ∷ (leb (answer-bytes * suc answered) space, 19) ∷ []
+-- the tests of a step of either kind, where that many terms are kept; `known` says that it has such a rule, `space` is the bytes lent for
+-- answers, `answered` the answers written so far
+abbrev pub step-tests : ℕ → ℕ → ℕ → Bool → List ℕ → List (Bool × ℕ)
+step-tests terms space answered known ks =
+    (all-below terms ks, 6) ∷ (known, 9) ∷ (leb (answer-bytes * suc answered) space, 19) ∷ []
 
 -- the tests of a record; `work` is the bytes lent for terms
 abbrev pub tests : ℕ → ℕ → Plain → ℕ → Bytes → Item → List (Bool × ℕ)
@@ -42,7 +43,8 @@ tests work space list answered r unknown = (false, 4) ∷ []
 tests work space list answered r misfit = (false, 5) ∷ []
 tests work space list answered r (term o ks) =
     (all-below (length list) ks, 6) ∷ (well-sorted (term-of list o ks), 7) ∷ (has list r || room work list, 8) ∷ []
-tests work space list answered r (step n ks) = step-tests (length list) space answered n ks
+tests work space list answered r (step n ks) = step-tests (length list) space answered (is-some (rule-at n)) ks
+tests work space list answered r (chain n ps k) = step-tests (length list) space answered (is-some (chain-rule-at n)) (k ∷ [])
 tests work space list answered r (back n) = (leb first-terms n && leb n (length list), 18) ∷ []
 
 -- the code that stops the job at record r, or 0

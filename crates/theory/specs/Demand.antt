@@ -9,7 +9,7 @@ use Rattle.theory.specs.Limit.{max-job}
 use Rattle.theory.specs.Kind.{Equals}
 use Rattle.theory.specs.Term.{Term, two}
 use Rattle.theory.specs.Value.{Assign, value}
-use Rattle.theory.specs.Record.{Bytes, records-of, step, read, step-count}
+use Rattle.theory.specs.Record.{Bytes, records-of, read, claim-of, step-count}
 use Rattle.theory.specs.Plain.{Plain, plain-after, at-place}
 use Rattle.theory.specs.Codes.{fault}
 use Rattle.theory.specs.Answer.{Answer}
@@ -30,7 +30,7 @@ pub record Held (list : Plain) (places : List ℕ) : Type 0 where
   pub on-list : at-place list place ≡ some (two Equals left right)
   pub equal : (ρ : Assign) → value ρ left ≡ value ρ right
 
--- answer k, counted from 0, belongs to the step before which k steps stand; it carries its rule, and with code 0 the step holds
+-- answer k, counted from 0, belongs to the step, of either kind, before which k steps stand; it carries its rule, and with code 0 the step holds
 pub record Answers (job : Bytes) (work space done k : ℕ) (a : Answer) : Type 0 where
   pub m : ℕ
   pub bytes : Bytes
@@ -38,7 +38,7 @@ pub record Answers (job : Bytes) (work space done k : ℕ) (a : Answer) : Type 0
   pub m-done : m < done
   pub reached : Reached job work space m bytes
   pub kth : step-count (take m (records-of job)) ≡ k
-  pub is-step : read bytes ≡ step (a .rule) literals
+  pub is-step : claim-of (read bytes) ≡ some (a .rule, literals)
   pub held : a .code ≡ 0 → Held (plain-after m job) literals
 
 -- of a job's bytes, the lent lengths, the records done and the answers written

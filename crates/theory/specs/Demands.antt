@@ -1,17 +1,18 @@
--- Demands 1 and 2 over a whole job, in the words of Demand.antt: why a job stops, and what each step that it reaches is answered.
+-- Demands 1 and 2 over a whole job, in the words of Demand.antt: why a job stops, and what each step, of either kind, that it reaches is answered.
 use mathlib.Core.Path.{_≡_}
-use mathlib.Core.List.{List}
+use mathlib.Core.List.{List, [], _∷_}
 use mathlib.Core.Option.{some}
 use Prim.Native.Nat.{ℕ, suc, _<_, _≤_}
 use lib.ListN.{length, take, getElem?}
 use Rattle.theory.specs.Limit.{max-job}
 use Rattle.theory.specs.Term.{Term}
-use Rattle.theory.specs.RuleTable.{Rule, rule-at}
-use Rattle.theory.specs.Record.{Bytes, records-of, ending, step, read, step-count}
-use Rattle.theory.specs.Plain.{plain-after, at-places}
+use Rattle.theory.specs.RuleTable.{Rule, rule-at, ChainRule, chain-rule-at}
+use Rattle.theory.specs.Record.{Bytes, records-of, ending, step, chain, back, read, claim-of, step-count}
+use Rattle.theory.specs.Plain.{Plain, start, feed, plain-after, at-place, at-places}
 use Rattle.theory.specs.Codes.{fault}
 use Rattle.theory.specs.Answer.{Answer}
-use Rattle.theory.specs.Job.{answer-to}
+use Rattle.theory.specs.Chain.{Earlier, premises-at, joined}
+use Rattle.theory.specs.Job.{judged, answer-to, answers-to, recall, run}
 use Rattle.theory.specs.Demand.{Reached}
 
 -- the code that stops the job at record m, which is r, from the plain list just then; 0 where none does
@@ -35,7 +36,53 @@ pub record StepAnswer (job : Bytes) (m n : ℕ) (ks : List ℕ) (answers : List 
   pub literals-are : at-places (plain-after m job) ks ≡ some literals
   pub answered : getElem? answers (step-count (take m (records-of job))) ≡ some (answer-to n rule literals)
 
+-- the earlier steps after more records
+abbrev pub earlier-from : Earlier → Plain → List Bytes → Earlier
+earlier-from earlier list [] = earlier
+earlier-from earlier list (r ∷ rs) = earlier-from (recall earlier list r) (feed list r) rs
+
+-- those before record m of the job
+abbrev pub earlier-after : ℕ → Bytes → Earlier
+earlier-after m job = earlier-from [] start (take m (records-of job))
+
+-- record m is a chain of rule n with these premises, on the term at place p, and answer k, k being the steps before it, is the rule's on the premises
+-- and that term
+pub record ChainAnswer (job : Bytes) (m n : ℕ) (premises : List ℕ) (p : ℕ) (answers : List Answer) : Type 0 where
+  pub rule : ChainRule
+  pub rule-is : chain-rule-at n ≡ some rule
+  pub claim : Term
+  pub claim-is : at-place (plain-after m job) p ≡ some claim
+  pub answered : getElem? answers (step-count (take m (records-of job)))
+      ≡ some (judged n (joined rule (premises-at (earlier-after m job) (plain-after m job) premises) claim) claim)
+
 -- every step that the job reaches is answered so
-abbrev pub Demand2 : Bytes → ℕ → ℕ → List Answer → Type 0
-Demand2 job work space answers =
-    (m : ℕ) (r : Bytes) (n : ℕ) (ks : List ℕ) → Reached job work space m r → read r ≡ step n ks → StepAnswer job m n ks answers
+pub record Demand2 (job : Bytes) (work space : ℕ) (answers : List Answer) : Type 0 where
+  pub steps : (m : ℕ) (r : Bytes) (n : ℕ) (ks : List ℕ) → Reached job work space m r → read r ≡ step n ks → StepAnswer job m n ks answers
+  pub chains : (m : ℕ) (r : Bytes) (n : ℕ) (ps : List ℕ) (p : ℕ) → Reached job work space m r → read r ≡ chain n ps p → ChainAnswer job m n ps p answers
+
+-- ---- document 02, P12: a premise is an earlier step that is held, whose literal no back has dropped since
+-- record i, before record m, is the step with k steps before it; it claims p and is held; and each back since has a count above p
+pub record Kept (job : Bytes) (m k p : ℕ) : Type 0 where
+  pub i : ℕ
+  pub bytes : Bytes
+  pub rule : ℕ
+  pub literals : List ℕ
+  pub answer : Answer
+  pub earlier : i < m
+  pub stands : getElem? (records-of job) i ≡ some bytes
+  pub claims : claim-of (read bytes) ≡ some (rule, literals)
+  pub kth : step-count (take i (records-of job)) ≡ k
+  pub answered : answers-to (earlier-after i job) (plain-after i job) bytes ≡ answer ∷ []
+  pub held : answer .code ≡ 0
+  pub first : getElem? literals 0 ≡ some p
+  pub since : (j : ℕ) (s : Bytes) (n : ℕ) → i < j → j < m → getElem? (records-of job) j ≡ some s → read s ≡ back n → p < n
+
+-- what `Earlier` says, and as many places as steps
+pub record Tells (job : Bytes) (m : ℕ) (earlier : Earlier) : Type 0 where
+  pub counted : length earlier ≡ step-count (take m (records-of job))
+  pub only : (k p : ℕ) → getElem? earlier k ≡ some (some p) → Kept job m k p
+  pub all : (k p : ℕ) → Kept job m k p → getElem? earlier k ≡ some (some p)
+
+-- all through a run `Earlier` says just that
+abbrev pub PremisesTold : Type 0
+PremisesTold = (job : Bytes) (work space m : ℕ) → m ≤ run job work space .records → Tells job m (earlier-after m job)

@@ -10,12 +10,13 @@ use Rattle.theory.specs.Term.{Term, node, to-list}
 use Rattle.theory.specs.Depth.{depth}
 use Rattle.theory.specs.Optional.{either}
 use Rattle.theory.specs.Verdict.{Verdict, not-one-literal, code-of, accepted}
-use Rattle.theory.specs.RuleTable.{Rule, rule-at}
+use Rattle.theory.specs.RuleTable.{Rule, rule-at, ChainRule, chain-rule-at}
 use Rattle.theory.specs.Rule.{verdict}
-use Rattle.theory.specs.Record.{Bytes, records-of, ending, Item, term, step, back, unknown, misfit, read}
-use Rattle.theory.specs.Plain.{Plain, start, feed, at-places}
+use Rattle.theory.specs.Record.{Bytes, records-of, ending, Item, term, step, chain, back, unknown, misfit, read}
+use Rattle.theory.specs.Plain.{Plain, start, feed, at-place, at-places}
 use Rattle.theory.specs.Codes.{fault}
 use Rattle.theory.specs.Answer.{Answer, encode-answers}
+use Rattle.theory.specs.Chain.{Earlier, recall-item, premises-at, joined}
 
 -- ---- a step's answer
 -- the depth of the right side; 0 where there is none
@@ -42,17 +43,28 @@ reply n none q = []
 reply n (some rule) none = []
 reply n (some rule) (some literals) = answer-to n rule literals ∷ []
 
--- a step is answered from the plain list just then; no other record has an answer
-abbrev pub item-answers : Plain → Item → List Answer
-item-answers list (step n ks) = reply n (rule-at n) (at-places list ks)
-item-answers list (term o ks) = []
-item-answers list (back n) = []
-item-answers list unknown = []
-item-answers list misfit = []
+-- one answer to a chain, where the rule and the literal are there
+abbrev pub chain-reply : ℕ → Option ChainRule → Option (List Term) → Option Term → List Answer
+chain-reply n none premises q = []
+chain-reply n (some rule) premises none = []
+chain-reply n (some rule) premises (some claim) = judged n (joined rule premises claim) claim ∷ []
+
+-- a step is answered from the plain list just then, a chain from that and the earlier steps; no other record has an answer
+abbrev pub item-answers : Earlier → Plain → Item → List Answer
+item-answers earlier list (step n ks) = reply n (rule-at n) (at-places list ks)
+item-answers earlier list (chain n ps k) = chain-reply n (chain-rule-at n) (premises-at earlier list ps) (at-place list k)
+item-answers earlier list (term o ks) = []
+item-answers earlier list (back n) = []
+item-answers earlier list unknown = []
+item-answers earlier list misfit = []
 
 -- the answers to a record: one or none
-unfoldable pub answers-to : Plain → Bytes → List Answer
-answers-to list r = item-answers list (read r)
+unfoldable pub answers-to : Earlier → Plain → Bytes → List Answer
+answers-to earlier list r = item-answers earlier list (read r)
+
+-- the earlier steps after one more record, `list` being the plain list before it
+unfoldable pub recall : Earlier → Plain → Bytes → Earlier
+recall earlier list r = recall-item earlier (read r) (answers-to earlier list r)
 
 -- ---- the run: stop code, records done (the stopping one not counted), answers, terms kept
 -- the answers here are a list; in the memory they are bytes
@@ -67,11 +79,11 @@ abbrev pub outcome : ℕ → ℕ → List Answer → Plain → Outcome
 outcome stop done answers list = record { stop = stop; records = done; answers = answers; terms = length list }
 
 -- from `done` records on; `end` is the code where no record is left
-unfoldable pub run-from : ℕ → ℕ → ℕ → ℕ → Plain → List Answer → List Bytes → Outcome
-run-from work space end done list answers [] = outcome end done answers list
-run-from work space end done list answers (r ∷ rs) =
+unfoldable pub run-from : ℕ → ℕ → ℕ → ℕ → Earlier → Plain → List Answer → List Bytes → Outcome
+run-from work space end done earlier list answers [] = outcome end done answers list
+run-from work space end done earlier list answers (r ∷ rs) =
     elim (fault work space list (length answers) r) [
-      | zero ↦ run-from work space end (suc done) (feed list r) (answers ++ answers-to list r) rs
+      | zero ↦ run-from work space end (suc done) (recall earlier list r) (feed list r) (answers ++ answers-to earlier list r) rs
       | suc code ↦ outcome (suc code) done answers list
     ]
 
@@ -79,7 +91,7 @@ run-from work space end done list answers (r ∷ rs) =
 unfoldable pub run : Bytes → ℕ → ℕ → Outcome
 run job work space =
     elim (leb (length job) max-job) [
-      | true ↦ run-from work space (ending job) 0 start [] (records-of job)
+      | true ↦ run-from work space (ending job) 0 [] start [] (records-of job)
       | false ↦ outcome 2 0 [] start
     ]
 

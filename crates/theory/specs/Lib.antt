@@ -19,6 +19,7 @@ pub mod Record
 pub mod Plain
 pub mod Codes
 pub mod Answer
+pub mod Chain
 pub mod Job
 pub mod Tally
 pub mod Program

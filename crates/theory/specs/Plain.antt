@@ -7,7 +7,7 @@ use lib.ListN.{take, getElem?}
 use Rattle.theory.specs.Kind.{Op, True, False}
 use Rattle.theory.specs.Term.{Term, node, nil, from-list, same-numbers}
 use Rattle.theory.specs.Optional.{either, collect}
-use Rattle.theory.specs.Record.{Bytes, records-of, Item, term, step, back, unknown, misfit, read}
+use Rattle.theory.specs.Record.{Bytes, records-of, Item, term, step, chain, back, unknown, misfit, read}
 
 -- a place of the list: a term, and the bytes of its record
 pub record Entry : Type 0 where
@@ -52,6 +52,7 @@ put list r (some t) = cond (has list r) list (list ++ (entry t r ∷ []))
 abbrev pub feed-item : Plain → Bytes → Item → Plain
 feed-item list r (term o ks) = put list r (term-of list o ks)
 feed-item list r (step n ks) = list
+feed-item list r (chain n ps k) = list
 feed-item list r (back n) = take n list
 feed-item list r unknown = list
 feed-item list r misfit = list

@@ -7,7 +7,7 @@ use Prim.Native.Nat.{ℕ, zero, suc, _+_, _-_, _*_, _/_, _%_, _<_}
 use lib.Dec.{leb, eqb}
 use lib.ListN.{length, take, drop}
 use Rattle.theory.specs.Limit.{max-arguments, number-bytes, value-bytes}
-use Rattle.theory.specs.Kind.{Op, Not, And, Or, Xor, Equals, Ite, BoolVar, BvVar, Const, BvBitOf, BvBbTerm, BvNot, BvNeg, BvAnd, BvOr, BvXor, BvAdd, BvMul, BvXNor, BvComp, BvULt, BvSLt, BvShl, BvLShr, BvAShr, BvUDiv, BvURem, BvConcat, BvExtract, SignExtend, ZeroExtend, RotateLeft, RotateRight, Repeat, kind, arity, takes}
+use Rattle.theory.specs.Kind.{Op, Not, And, Or, Xor, Equals, Ite, BoolVar, BvVar, Const, BvBitOf, BvBbTerm, BvNot, BvNeg, BvAnd, BvOr, BvXor, BvAdd, BvMul, BvXNor, BvComp, BvULt, BvSLt, BvShl, BvLShr, BvAShr, BvUDiv, BvURem, BvConcat, BvExtract, SignExtend, ZeroExtend, RotateLeft, RotateRight, Repeat, kind, arity, many, takes}
 
 -- bytes; a record too is its bytes
 abbrev pub Bytes : Type 0
@@ -129,16 +129,22 @@ unfoldable pub shape-of : ℕ → Option Shape
 shape-of k = find-shape k shapes
 
 -- ---- what a record says
--- a term's kind and arguments; a step's rule and literals; a back's count; a kind that is unknown; a body that has not the kind's length
+-- a term's kind and arguments; a step's rule and literals; a chain's rule, premises and literal; a back's count; a kind that is unknown;
+-- a body that has not the kind's length
 pub data Item : Type 0 where
   term : Op → List ℕ → Item
   step : ℕ → List ℕ → Item
+  chain : ℕ → List ℕ → ℕ → Item
   back : ℕ → Item
   unknown misfit : Item
 
 -- the kind of a step
 abbrev pub step-kind : ℕ
 step-kind = 100
+
+-- the kind of a chain
+abbrev pub chain-kind : ℕ
+chain-kind = 104
 
 -- the kind of a back
 abbrev pub back-kind : ℕ
@@ -154,6 +160,27 @@ read-term (some s) body =
 abbrev pub read-step : Bytes → Item
 read-step body = cond (fits number-bytes (λ n. leb n max-arguments) body) (step (word body) (arguments number-bytes body)) misfit
 
+-- the bytes of a chain's body before its premises: the rule, and the number of premises
+abbrev pub chain-front : ℕ
+chain-front = number-bytes + number-bytes
+
+-- the number of premises
+abbrev pub premise-count : Bytes → ℕ
+premise-count body = word (drop number-bytes body)
+
+-- rule and number of premises stand there, there are 1 to 64 premises, and after them one literal
+abbrev pub chain-fits : Bytes → Bool
+chain-fits body =
+    leb chain-front (length body)
+    && (takes many (premise-count body) && eqb (length body) (chain-front + number-bytes * premise-count body + number-bytes))
+
+-- a chain: its rule, the number of premises, the premises, the literal
+abbrev pub read-chain : Bytes → Item
+read-chain body =
+    cond (chain-fits body)
+    (chain (word body) (words (premise-count body) (drop chain-front body)) (word (drop (chain-front + number-bytes * premise-count body) body)))
+    misfit
+
 -- a back: its count
 abbrev pub read-back : Bytes → Item
 read-back body = cond (eqb (length body) number-bytes) (back (word body)) misfit
@@ -162,16 +189,27 @@ read-back body = cond (eqb (length body) number-bytes) (back (word body)) misfit
 unfoldable pub read : Bytes → Item
 read r =
     cond (eqb (kind-of r) step-kind) (read-step (body-of r))
+    (cond (eqb (kind-of r) chain-kind) (read-chain (body-of r))
     (cond (eqb (kind-of r) back-kind) (read-back (body-of r))
-    (read-term (shape-of (kind-of r)) (body-of r)))
+    (read-term (shape-of (kind-of r)) (body-of r))))
 
--- it is a step
+-- it is a step, of either kind
 abbrev pub is-step : Item → Bool
 is-step (term o ks) = false
 is-step (step n ks) = true
+is-step (chain n ps k) = true
 is-step (back n) = false
 is-step unknown = false
 is-step misfit = false
+
+-- the rule and the literals of a step of either kind
+abbrev pub claim-of : Item → Option (ℕ × List ℕ)
+claim-of (term o ks) = none
+claim-of (step n ks) = some (n, ks)
+claim-of (chain n ps k) = some (n, k ∷ [])
+claim-of (back n) = none
+claim-of unknown = none
+claim-of misfit = none
 
 -- how many of the records are steps
 abbrev pub step-count : List Bytes → ℕ

@@ -1,7 +1,9 @@
 //! `bbhost bench`: how long jobs take.
 use super::{Failure, Status, about, grouped, number, progress::Progress, unknown, value};
 use bitblast_host::{
-    Answers, jobs, run_job,
+    Answers,
+    jobs::{self, CONG},
+    run_job,
     words::{self, ORIGINAL_RULES, RULES},
 };
 use std::{
@@ -22,7 +24,7 @@ pub const USAGE: &str = "  bbhost bench [--work BYTES] [--against COMMAND] [--wr
 
 /// The memory lent: work unless an option says otherwise, and answers.
 const WORK: usize = 1 << 20;
-const ANSWERS: usize = 1 << 16;
+const ANSWERS: usize = 1 << 20;
 
 /// Each job is run for this long, and at least so often.
 const TIME: Duration = Duration::from_millis(200);
@@ -55,6 +57,9 @@ fn jobs() -> Vec<Measured> {
     add("mixed_all", jobs::mixed(50_000, RULES.len()), RULES.len());
     add("terms60000", jobs::many_terms(60_000), 0);
     add("backs20000", jobs::many_backs(20_000), 0);
+    for count in [25_000, 50_000, 100_000] {
+        add(&format!("chains{count}"), jobs::many_chains(count), CONG.into());
+    }
     list
 }
 

@@ -186,7 +186,7 @@ impl Counts {
             write!(out, "{code:>9}")?;
         }
         writeln!(out)?;
-        for (rule, name) in (1..).zip(words::RULES) {
+        for (rule, name) in words::rules() {
             write!(out, "{rule:>2} {name:<15}")?;
             for (code, _) in words::ANSWERS {
                 let n = self.answers.get(&(rule, code)).copied().unwrap_or(0);
@@ -211,10 +211,10 @@ impl Counts {
 
     fn missed(&self) -> Vec<String> {
         let mut missed = Vec::new();
-        for rule in 1..=words::RULES.len() as u16 {
+        for (rule, name) in words::rules() {
             for (code, _) in words::ANSWERS {
                 if reachable(rule, code) && !self.answers.contains_key(&(rule, code)) {
-                    missed.push(format!("rule {rule} ({}) with code {code}", words::rule_name(rule)));
+                    missed.push(format!("rule {rule} ({name}) with code {code}"));
                 }
             }
         }

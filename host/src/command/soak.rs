@@ -41,6 +41,7 @@ fn large_jobs() -> Vec<Right> {
         Right { job: jobs::right_claim(25, 20), codes: vec![0] },
         Right { job: jobs::many_terms(65_533), codes: vec![] },
         Right { job: jobs::many_backs(2_000), codes: vec![] },
+        Right { job: jobs::many_chains(100), codes: vec![0; 101] },
     ]
 }
 
@@ -274,6 +275,7 @@ fn possible(answer: &Answer) -> bool {
         0 => !matches!(answer.rule, 21 | 22),
         1 => matches!(answer.rule, 20..=22),
         10..=17 => answer.depth == 0,
+        24 => matches!(answer.rule, 31..=33) && answer.depth == 0,
         _ => false,
     }
 }

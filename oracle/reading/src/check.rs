@@ -1,16 +1,17 @@
 //! What a batch of cases reaches, and a look at their answers that needs no other program: sides of held steps have equal values,
 //! and the claims that the generator knows to be right or wrong are answered so.
+use crate::chain::CONG;
 use crate::generate::Case;
 use crate::job::{Step, run};
-use crate::kind::{BOOL, VARIABLE};
+use crate::kind::{BOOL, VARIABLE, shape, terms};
 use crate::pool::{Id, Pool};
 use crate::rng::Rng;
-use crate::rule::RULES;
+use crate::rule::{RULES, STEP_RULES};
 use crate::value::fill;
-use std::collections::BTreeMap;
+use std::collections::{BTreeMap, BTreeSet};
 use std::fmt::Write as _;
 
-const CODES: [u16; 10] = [0, 1, 10, 11, 12, 13, 14, 15, 16, 17];
+const CODES: [u16; 11] = [0, 1, 10, 11, 12, 13, 14, 15, 16, 17, 24];
 const STOPS: [u16; 11] = [0, 2, 3, 4, 5, 6, 7, 8, 9, 18, 19];
 
 /// Up to so many bits of variables every assignment is tried.
@@ -20,6 +21,8 @@ const FEW_BITS: usize = 10;
 pub struct Summary {
     answers: BTreeMap<(u16, u16), usize>,
     stops: BTreeMap<u16, usize>,
+    /// The kinds of the operations that a held cong joined.
+    joined: BTreeSet<u16>,
     assignments: usize,
     exhaustive: usize,
     right: usize,
@@ -49,6 +52,9 @@ impl Summary {
         }
         if step.answer.code == 0 && !self.sides_agree(step.pool, step.literals[0], name as u64) {
             return Some("the sides of a held step differ");
+        }
+        if step.answer.rule == CONG && step.answer.code == 0 {
+            self.joined.insert(step.pool.kind(step.pool.args(step.literals[0])[0]));
         }
         None
     }
@@ -87,6 +93,8 @@ impl Summary {
         let mut missing: Vec<String> = absent.map(|(rule, code)| format!("rule {rule} code {code}")).collect();
         let stops = STOPS.iter().filter(|stop| !self.stops.contains_key(stop));
         missing.extend(stops.map(|stop| format!("stop {stop}")));
+        let kinds = terms().filter(|&kind| shape(kind).is_some_and(|s| s.least > 0) && !self.joined.contains(&kind));
+        missing.extend(kinds.map(|kind| format!("cong over kind {kind}")));
         missing
     }
 
@@ -120,6 +128,9 @@ impl Summary {
 
 /// Whether a rule's step can have a code.
 fn can_end(rule: u16, code: u16) -> bool {
+    if rule > STEP_RULES {
+        return matches!(code, 0 | 11 | 24);
+    }
     match code {
         0 => !matches!(rule, 21 | 22),
         1 => matches!(rule, 20..=22),

@@ -1,7 +1,8 @@
 //! A job: records in their order, the plain list of terms, the codes, the answers.
-use crate::kind::{BACK, CONSTANT, STEP, shape};
+use crate::chain::{CONG, SYMM, joins};
+use crate::kind::{BACK, CHAIN, CONSTANT, STEP, shape};
 use crate::pool::{Id, NO, Pool, YES};
-use crate::rule::{RULES, verdict};
+use crate::rule::{STEP_RULES, verdict};
 use std::collections::HashSet;
 
 pub const LONGEST: usize = 16_777_216;
@@ -38,13 +39,22 @@ pub struct Step<'a> {
     pub answer: Answer,
 }
 
+/// What a chain asks of an earlier step: whether it was held, its literal and that one's number, and whether a back has dropped
+/// the literal since.
+struct Answered {
+    held: bool,
+    literal: Option<Id>,
+    number: usize,
+    dropped: bool,
+}
+
 struct Run<'a> {
     pool: Pool,
     list: Vec<Id>,
     /// The records of the list, from place 2 on, in order and as a set.
     records: Vec<&'a [u8]>,
     kept: HashSet<&'a [u8]>,
-    answers: Vec<Answer>,
+    steps: Vec<Answered>,
     lent: Lent,
 }
 
@@ -55,8 +65,8 @@ pub fn run(job: &[u8], lent: Lent, mut seen: impl FnMut(Step)) -> Outcome {
         outcome.stop = 2;
         return outcome;
     }
-    let (records, kept, answers) = Default::default();
-    let mut run = Run { pool: Pool::default(), list: vec![YES, NO], records, kept, answers, lent };
+    let (records, kept, steps) = Default::default();
+    let mut run = Run { pool: Pool::default(), list: vec![YES, NO], records, kept, steps, lent };
     let mut rest = job;
     while !rest.is_empty() {
         match cut(rest).and_then(|(record, after)| run.record(record, &mut seen).map(|()| after)) {
@@ -68,7 +78,7 @@ pub fn run(job: &[u8], lent: Lent, mut seen: impl FnMut(Step)) -> Outcome {
         }
         outcome.records += 1;
     }
-    outcome.answers = run.answers.len();
+    outcome.answers = run.steps.len();
     outcome.terms = run.list.len();
     outcome
 }
@@ -95,6 +105,7 @@ impl<'a> Run<'a> {
         match word(record) {
             STEP => self.step(&record[2..], seen),
             BACK => self.back(&record[2..]),
+            CHAIN => self.chain(&record[2..], seen),
             _ => self.term(record),
         }
     }
@@ -131,27 +142,59 @@ impl<'a> Run<'a> {
         if !body.len().is_multiple_of(2) || !(2..=2 + 2 * 64).contains(&body.len()) {
             return Err(5);
         }
-        let literals = self.named(&words(&body[2..]))?;
+        let numbers = words(&body[2..]);
+        let literals = self.named(&numbers)?;
         let rule = word(body);
-        if !(1..=RULES.len()).contains(&usize::from(rule)) {
+        if !(1..=STEP_RULES).contains(&rule) {
             return Err(9);
         }
         self.room_left()?;
         let code = verdict(&mut self.pool, rule, &literals);
-        self.answer(rule, code, &literals, seen);
+        self.answer(rule, code, &numbers, seen);
         Ok(())
     }
 
-    fn room_left(&self) -> Result<(), u16> {
-        if (self.answers.len() + 1) * ANSWER > self.lent.room { Err(19) } else { Ok(()) }
+    /// A rule, a count of premises, so many premises, and a literal.
+    fn chain(&mut self, body: &[u8], seen: &mut impl FnMut(Step)) -> Result<(), u16> {
+        let count = if body.len() < 4 { 0 } else { usize::from(word(&body[2..])) };
+        if !(1..=64).contains(&count) || body.len() != 2 * (count + 3) {
+            return Err(5);
+        }
+        let (premises, literal) = (words(&body[4..4 + 2 * count]), words(&body[4 + 2 * count..]));
+        let conclusion = self.named(&literal)?[0];
+        let rule = word(body);
+        if !(SYMM..=CONG).contains(&rule) {
+            return Err(9);
+        }
+        self.room_left()?;
+        let premises: Option<Vec<Id>> = premises.iter().map(|&place| self.premise(place)).collect();
+        let code = match premises {
+            None => 24,
+            Some(premises) if joins(&self.pool, rule, &premises, conclusion) => 0,
+            Some(_) => 11,
+        };
+        self.answer(rule, code, &literal, seen);
+        Ok(())
     }
 
-    fn answer(&mut self, rule: u16, code: u16, literals: &[Id], seen: &mut impl FnMut(Step)) {
+    /// The literal of the step at a place, from 1, if it can be a premise now.
+    fn premise(&self, place: usize) -> Option<Id> {
+        let step = self.steps.get(place.checked_sub(1)?)?;
+        if step.held && !step.dropped { step.literal } else { None }
+    }
+
+    fn room_left(&self) -> Result<(), u16> {
+        if (self.steps.len() + 1) * ANSWER > self.lent.room { Err(19) } else { Ok(()) }
+    }
+
+    fn answer(&mut self, rule: u16, code: u16, numbers: &[usize], seen: &mut impl FnMut(Step)) {
+        let literals: Vec<Id> = numbers.iter().map(|&number| self.list[number]).collect();
         let accepted = (code <= 1).then(|| self.pool.sides(literals[0])).flatten();
         let depth = accepted.map_or(0, |(_, right)| self.pool.depth(right));
         let answer = Answer { rule, code, depth };
-        self.answers.push(answer);
-        seen(Step { pool: &self.pool, literals, answer });
+        let number = numbers.first().copied().unwrap_or(0);
+        self.steps.push(Answered { held: code == 0, literal: literals.first().copied(), number, dropped: false });
+        seen(Step { pool: &self.pool, literals: &literals, answer });
     }
 
     fn back(&mut self, body: &[u8]) -> Result<(), u16> {
@@ -165,6 +208,9 @@ impl<'a> Run<'a> {
         self.list.truncate(count);
         for dropped in self.records.drain(count - 2..) {
             self.kept.remove(dropped);
+        }
+        for step in self.steps.iter_mut().filter(|step| step.number >= count) {
+            step.dropped = true;
         }
         Ok(())
     }

@@ -39,6 +39,7 @@ pub const ROTATE_RIGHT: u16 = 62;
 pub const REPEAT: u16 = 63;
 pub const STEP: u16 = 100;
 pub const BACK: u16 = 101;
+pub const CHAIN: u16 = 104;
 
 /// The body of a term: bytes of its own numbers, then from `least` to `most` arguments.
 pub struct Shape {

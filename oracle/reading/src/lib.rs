@@ -1,5 +1,6 @@
 //! A plain reading of documents 01 and 02, written from their words alone: the job, the terms, the rules' circuits, the values.
 //! It shares no code with the library. See ../README.md.
+pub mod chain;
 pub mod check;
 pub mod circuit;
 pub mod divide;

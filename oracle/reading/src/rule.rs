@@ -4,7 +4,10 @@ use crate::kind::*;
 use crate::pool::{Id, NO, Pool, YES};
 use crate::sort::Sort;
 
-pub const RULES: [&str; 30] = [
+/// Rules 1 to this are a step's; those above it join steps to a chain.
+pub const STEP_RULES: u16 = 30;
+
+pub const RULES: [&str; 33] = [
     "value",
     "var",
     "and",
@@ -35,6 +38,9 @@ pub const RULES: [&str; 30] = [
     "rotate_left",
     "rotate_right",
     "repeat",
+    "symm",
+    "trans",
+    "cong",
 ];
 
 /// The kind of the left side; rules 1 and 2 ask for none.

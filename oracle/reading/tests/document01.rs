@@ -179,9 +179,9 @@ fn the_standards_circuits() {
     for width in 1..=5 {
         let end = 1u64 << width;
         for (x, y) in (0..end).flat_map(|x| (0..end).map(move |y| (x, y))) {
-            let quotient = if y == 0 { end - 1 } else { x / y };
+            let quotient = x.checked_div(y).unwrap_or(end - 1);
             assert_eq!(both(24, BV_UDIV, width, x, y), (quotient, quotient), "{x} by {y}, width {width}");
-            let rest = if y == 0 { x } else { x % y };
+            let rest = x.checked_rem(y).unwrap_or(x);
             assert_eq!(both(25, BV_UREM, width, x, y), (rest, rest), "{x} by {y}, width {width}");
             let below = if x >= end / 2 { end - 1 } else { 0 };
             let shifted = (0..y).fold(x, |x, _| (x >> 1) | (below & (end / 2)));
@@ -271,4 +271,78 @@ fn cases_reach_everything() {
     let mut summary = Summary::default();
     (0..3_000).for_each(|i| summary.look(i, &case(7, i)));
     assert_eq!((summary.faults.clone(), summary.missing()), (vec![], vec![]));
+}
+
+/// A job with x and y of width 1, and the held steps 1: (= x bb(x0)), 2: (= y bb(y0)) of rule 2.
+fn two_premises() -> (Maker, [Id; 4]) {
+    let mut maker = Maker::new(0);
+    let [x, y] = [0, 1].map(|name| maker.variable(1, name));
+    let [a, b] = [x, y].map(|v| expected(&mut maker.pool, 2, v));
+    for (v, bits) in [(x, a), (y, b)] {
+        let claim = maker.equals(v, bits);
+        maker.step(2, &[claim], None);
+    }
+    (maker, [x, a, y, b])
+}
+
+/// The code of one chain after the two premises.
+fn chained(rule: u16, places: &[u16], conclusion: impl FnOnce(&mut Maker, [Id; 4]) -> Id) -> u16 {
+    let (mut maker, terms) = two_premises();
+    let literal = conclusion(&mut maker, terms);
+    maker.chain(rule, places, literal, None);
+    answers(&maker.bytes)[2].0
+}
+
+#[test]
+fn chains_join() {
+    let turned = |m: &mut Maker, [x, a, _, _]: [Id; 4]| m.equals(a, x);
+    assert_eq!(chained(31, &[1], turned), 0);
+    assert_eq!(chained(31, &[1, 1], turned), 11);
+    assert_eq!(chained(31, &[1], |m, [x, a, _, _]| m.equals(x, a)), 11);
+    for place in [0, 3, 4, 65_535] {
+        assert_eq!(chained(31, &[place], turned), 24);
+    }
+    assert_eq!(chained(32, &[1], |m, [x, a, _, _]| m.equals(x, a)), 11);
+    assert_eq!(chained(32, &[1, 2], |m, [x, _, _, b]| m.equals(x, b)), 11);
+    let sum = |m: &mut Maker, left: [Id; 2], right: [Id; 2]| {
+        let sides = [left, right].map(|args| m.pool.op(BV_ADD, &args));
+        m.equals(sides[0], sides[1])
+    };
+    assert_eq!(chained(33, &[1, 2], |m, [x, a, y, b]| sum(m, [x, y], [a, b])), 0);
+    assert_eq!(chained(33, &[2, 1], |m, [x, a, y, b]| sum(m, [x, y], [a, b])), 11);
+    assert_eq!(chained(33, &[1], |m, [x, a, y, b]| sum(m, [x, y], [a, b])), 11);
+    let rotated = |m: &mut Maker, [x, a, _, _]: [Id; 4], k: u64| {
+        let sides = [(0, x), (k, a)].map(|(k, v)| m.pool.add(ROTATE_LEFT, &[k], &[v]));
+        m.equals(sides[0], sides[1])
+    };
+    assert_eq!(chained(33, &[1], |m, terms| rotated(m, terms, 0)), 0);
+    assert_eq!(chained(33, &[1], |m, terms| rotated(m, terms, 1)), 11);
+}
+
+/// A premise whose literal a back has dropped is none, even where the same term is there again under the same number.
+#[test]
+fn a_dropped_premise() {
+    let code = |count: usize| {
+        let (mut maker, [x, a, _, _]) = two_premises();
+        let (premise, turned) = (maker.equals(x, a), maker.equals(a, x));
+        maker.back(count);
+        maker.emit(premise);
+        maker.chain(31, &[1], turned, None);
+        answers(&maker.bytes)[2].0
+    };
+    let (maker, [x, a, _, _]) = two_premises();
+    let place = maker.list.iter().position(|&id| maker.pool.sides(id) == Some((x, a))).unwrap();
+    assert_eq!((code(place), code(place + 1)), (24, 0));
+}
+
+#[test]
+fn the_order_of_tests_in_a_chain() {
+    // Count, literal, rule, room: 5, 6, 9, 19.
+    assert_eq!(stop(&hex("0A 00 68 00 63 00 00 00 01 00 09 00"), 0, 0), 5);
+    assert_eq!(stop(&hex("0A 00 68 00 63 00 02 00 01 00 09 00"), 0, 0), 5);
+    assert_eq!(stop(&hex("0A 00 68 00 63 00 01 00 01 00 09 00"), 0, 0), 6);
+    assert_eq!(stop(&hex("0A 00 68 00 1E 00 01 00 01 00 00 00"), 0, 0), 9);
+    assert_eq!(stop(&hex("0A 00 68 00 1F 00 01 00 01 00 00 00"), 0, 9), 19);
+    assert_eq!(answers(&hex("0A 00 68 00 1F 00 01 00 01 00 00 00")), [(24, 0)]);
+    assert_eq!(stop(&hex("06 00 64 00 1F 00 00 00"), 0, 0), 9);
 }

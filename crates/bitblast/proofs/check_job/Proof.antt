@@ -1,6 +1,6 @@
--- `check_job`: a job that is too long is not read, and any other is walked.
+-- `check_job`: a job that is too long is not read, and any other is walked, and its answers sealed.
 use borrow.Author.Needs.{needs}
-use mathlib.Core.Path.{sym, ap}
+use mathlib.Core.Path.{sym, ap, _∙_}
 use lib.ListN.{length}
 use denote.Ref.{now}
 use Rattle.theory.specs.Job.{Outcome, returned, answers-after}
@@ -15,13 +15,17 @@ returns c =
     (ap returned (sym e), ap (λ (o : Outcome). answers-after (o .answers) (now (a .answers))) (sym e))
 
 returns-2 : tie.Need-returns-2
-returns-2 c = let w = c .before .before .before .before .before .before .before .walk .ensures in (w .result-is, w .answers-are)
+returns-2 c =
+    let e = c .before .before .before .before .before in
+    let w = e .before .before .before .before .before .before .walk .ensures in
+    (w .result-is, e .seal .ensures ∙ w .answers-are)
 
 pub check-job-spec : {M : Type 1} → statement M
 check-job-spec =
     tie.close
     (tie.spec
     returns
+    (λ c κs. search needs)
     (λ c κs. search needs)
     (λ c. search needs)
     (λ c. search needs)

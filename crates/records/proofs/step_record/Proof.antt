@@ -15,18 +15,19 @@ answer-requires c κs =
     let s = c .before .before .before .before .before in
     step-literals (s .pre .0) (now (s .args .answers)) (s .args .answered) (c .before .step-fault .ensures) (c .if1 .left)
 
-put-answer-requires : tie.Need-put-answer-requires
-put-answer-requires c κs =
+answered-turn-requires : tie.Need-answered-turn-requires
+answered-turn-requires c κs =
     let e = c .before .before in
     let s = e .before .before .before .before .before in
     step-right (s .pre .0) (now (s .args .answers)) (s .args .answered) (e .before .step-fault .ensures) (e .if1 .left) .roomy
 
 returns-2 : tie.Need-returns-2
 returns-2 c =
-    let e = c .before .before .before .before .before in
+    let t = c .before .before in
+    let e = t .before .before .before in
     let s = e .before .before .before .before .before in
     step-turned (s .pre .0) (now (s .args .answers)) (s .args .answered) (e .before .step-fault .ensures) (e .if1 .left)
-    (c .before .before .before .before .answer .ensures) (c .before .before .put-answer .ensures)
+    (t .before .before .answer .ensures) (t .answered-turn .ensures .0) (t .answered-turn .ensures .1)
 
 pub step-record-spec : {M : Type 1} → statement M
 step-record-spec =
@@ -35,7 +36,6 @@ step-record-spec =
     (λ c κs. search needs)
     returns
     answer-requires
-    put-answer-requires
-    (λ c. search needs)
+    answered-turn-requires
     (λ c. search needs)
     returns-2)

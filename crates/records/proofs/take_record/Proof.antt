@@ -14,40 +14,47 @@ term-record-requires c κs =
     let k = c .before .before in
     let r = k .before .before in
     let s = r .before .before .before .before in
-    reading (s .pre .0) (s .pre .2) (r .read .ensures .0) (r .read .ensures .1) (k .item .given .1)
+    reading (s .pre .0 .store) (s .pre .1) (r .read .ensures .0) (r .read .ensures .1) (k .item .given .1)
 
 step-record-requires : tie.Need-step-record-requires
 step-record-requires c κs =
     let k = c .before .before .before in
     let r = k .before .before in
     let s = r .before .before .before .before in
-    (reading (s .pre .0) (s .pre .2) (r .read .ensures .0) (r .read .ensures .1) (k .item2 .given .1), s .pre .1)
+    (reading (s .pre .0 .store) (s .pre .1) (r .read .ensures .0) (r .read .ensures .1) (k .item2 .given .1), s .pre .0 .roomy)
+
+chain-record-requires : tie.Need-chain-record-requires
+chain-record-requires c κs =
+    let k = c .before .before .before in
+    let r = k .before .before in
+    let s = r .before .before .before .before in
+    (reading (s .pre .0 .store) (s .pre .1) (r .read .ensures .0) (r .read .ensures .1) (k .item3 .given .1), s .pre .0)
 
 back-record-requires : tie.Need-back-record-requires
 back-record-requires c κs =
     let k = c .before .before in
     let r = k .before .before in
     let s = r .before .before .before .before in
-    reading (s .pre .0) (s .pre .2) (r .read .ensures .0) (r .read .ensures .1) (k .item3 .given .1)
+    reading (s .pre .0 .store) (s .pre .1) (r .read .ensures .0) (r .read .ensures .1) (k .item4 .given .1)
 
 returns : tie.Need-returns
 returns c = c .before .before .term-record .ensures (now (c .before .before .before .before .before .before .before .before .before .before .before .args .answers))
 
-returns-3 : tie.Need-returns-3
-returns-3 c = c .before .before .back-record .ensures (now (c .before .before .before .before .before .before .before .before .before .before .before .args .answers))
-
 returns-4 : tie.Need-returns-4
-returns-4 c =
-    let r = c .before .before in
-    let s = r .before .before .before .before in
-    let g : Reading (now (s .args .job)) (now (s .args .work)) (s .args .rows) (s .args .at) I.Unknown = reading (s .pre .0) (s .pre .2) (r .read .ensures .0) (r .read .ensures .1) (c .enum-told .given .1) in
-    stopped g (now (s .args .answers)) (s .args .answered) 4 (λ z. omega arith) refl
+returns-4 c = c .before .before .back-record .ensures (now (c .before .before .before .before .before .before .before .before .before .before .before .args .answers))
 
 returns-5 : tie.Need-returns-5
 returns-5 c =
     let r = c .before .before in
     let s = r .before .before .before .before in
-    let g : Reading (now (s .args .job)) (now (s .args .work)) (s .args .rows) (s .args .at) I.Misfit = reading (s .pre .0) (s .pre .2) (r .read .ensures .0) (r .read .ensures .1) (c .enum-told2 .given .1) in
+    let g : Reading (now (s .args .job)) (now (s .args .work)) (s .args .rows) (s .args .at) I.Unknown = reading (s .pre .0 .store) (s .pre .1) (r .read .ensures .0) (r .read .ensures .1) (c .enum-told .given .1) in
+    stopped g (now (s .args .answers)) (s .args .answered) 4 (λ z. omega arith) refl
+
+returns-6 : tie.Need-returns-6
+returns-6 c =
+    let r = c .before .before in
+    let s = r .before .before .before .before in
+    let g : Reading (now (s .args .job)) (now (s .args .work)) (s .args .rows) (s .args .at) I.Misfit = reading (s .pre .0 .store) (s .pre .1) (r .read .ensures .0) (r .read .ensures .1) (c .enum-told2 .given .1) in
     stopped g (now (s .args .answers)) (s .args .answered) 5 (λ z. omega arith) refl
 
 pub take-record-spec : {M : Type 1} → statement M
@@ -60,6 +67,8 @@ take-record-spec =
     (λ c. search needs)
     step-record-requires
     (λ c. search needs)
+    chain-record-requires
+    (λ c. search needs)
     back-record-requires
     (λ c. search needs)
     (λ c. search needs)
@@ -69,6 +78,9 @@ take-record-spec =
     (λ c. search needs)
     (λ c. search needs)
     (λ c. search needs)
-    returns-3
+    (λ c. search needs)
+    (λ c. search needs)
+    (λ c. search needs)
     returns-4
-    returns-5)
+    returns-5
+    returns-6)

@@ -2,13 +2,13 @@
 use borrow.Author.Needs.{needs}
 use mathlib.Core.Path.{ap, _∙_}
 use Rattle.terms.specs.Decoded.{operands-of}
-use Rattle.operand_rules.proofs.Forms.{no-equation, right-below}
-use Rattle.steps.proofs.Judging.{wrong-refused, right-of}
+use Rattle.operand_rules.proofs.Forms.{right-below}
+use Rattle.steps.proofs.Equations.{no-depth, right-of}
 use Rattle.steps.proofs.right_depth.Statement.{statement}
 use Rattle.steps.proofs.right_depth.Tie as tie
 
 returns : tie.Need-returns
-returns c = λ rule a. absurd (wrong-refused (no-equation (c .before .term-at .ensures) rule (c .match .keys2)) a)
+returns c = no-depth (c .before .term-at .ensures) (c .match .keys2)
 
 depth-at-requires : tie.Need-depth-at-requires
 depth-at-requires c κs =
@@ -19,7 +19,7 @@ depth-at-requires c κs =
 returns-2 : tie.Need-returns-2
 returns-2 c =
     let l = c .before .before in
-    λ rule a. c .depth-at .ensures .value ∙ right-of (l .before .before .term-at .ensures) (l .r .given .1)
+    c .depth-at .ensures .value ∙ right-of (l .before .before .term-at .ensures) (l .r .given .1)
 
 pub right-depth-spec : {M : Type 1} → statement M
 right-depth-spec =

@@ -14,6 +14,16 @@ pub struct Maker {
     /// The most terms that were kept at any time.
     pub peak: usize,
     pub claims: Vec<Option<bool>>,
+    /// The steps, as a chain sees them.
+    pub premises: Vec<Premise>,
+}
+
+/// A step's literal and its number, and whether a chain may name it, where that is known.
+#[derive(Debug, Clone, Copy)]
+pub struct Premise {
+    pub literal: Id,
+    pub number: u16,
+    pub usable: Option<bool>,
 }
 
 impl Maker {
@@ -26,6 +36,7 @@ impl Maker {
             numbers: HashMap::from([(YES, 0), (NO, 1)]),
             peak: 2,
             claims: Vec::new(),
+            premises: Vec::new(),
         }
     }
 
@@ -78,16 +89,36 @@ impl Maker {
 
     /// A step; `right` says whether its claim is right, where that is known.
     pub fn step(&mut self, rule: u16, literals: &[Id], right: Option<bool>) {
-        let mut body = vec![rule];
-        body.extend(literals.iter().map(|&literal| self.emit(literal)).collect::<Vec<_>>());
-        self.words(STEP, &body);
+        let numbers: Vec<u16> = literals.iter().map(|&literal| self.emit(literal)).collect();
+        self.words(STEP, &[&[rule], &numbers[..]].concat());
+        // A right claim of rules 21 and 22 is form only, and one of rule 20 may be.
+        let held = match rule {
+            20 => right.filter(|&right| !right),
+            21 | 22 => Some(false),
+            _ => right,
+        };
+        self.answered(literals.first().copied().unwrap_or(YES), right, held);
+    }
+
+    /// A step of kind 104; places count from 1.
+    pub fn chain(&mut self, rule: u16, places: &[u16], literal: Id, right: Option<bool>) {
+        let number = self.emit(literal);
+        self.words(CHAIN, &[&[rule, places.len() as u16], places, &[number]].concat());
+        self.answered(literal, right, right);
+    }
+
+    fn answered(&mut self, literal: Id, right: Option<bool>, usable: Option<bool>) {
         self.claims.push(right);
+        self.premises.push(Premise { literal, number: self.numbers.get(&literal).copied().unwrap_or(0), usable });
     }
 
     pub fn back(&mut self, count: usize) {
         self.words(BACK, &[count as u16]);
         for dropped in self.list.drain(count..) {
             self.numbers.remove(&dropped);
+        }
+        for premise in self.premises.iter_mut().filter(|premise| usize::from(premise.number) >= count) {
+            premise.usable = Some(false);
         }
     }
 

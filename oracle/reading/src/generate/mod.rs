@@ -1,4 +1,5 @@
 //! Jobs made from a seed: right and wrong claims of every rule, bad records of every kind, lent memory around what is needed.
+mod chains;
 mod claims;
 mod large;
 mod maker;
@@ -10,7 +11,7 @@ pub use maker::Maker;
 
 use crate::check::Summary;
 use crate::job::{ANSWER, Lent, ROW, expect_text};
-use crate::rule::RULES;
+use crate::rule::STEP_RULES;
 use std::fs::{self, File};
 use std::path::Path;
 
@@ -36,15 +37,16 @@ pub fn case(seed: u64, i: usize) -> Case {
     let Some(i) = i.checked_sub(large::COUNT) else {
         return large::case(&mut maker, i);
     };
-    let rule = (i / 4 % RULES.len()) as u16 + 1;
-    match i % 4 {
+    let rule = (i / 5) as u16 % STEP_RULES + 1;
+    match i % 5 {
         0 => maker.claims_of(rule),
         1 => maker.mixture(),
         2 => maker.stopped(),
+        3 => maker.chains(),
         _ => maker.small_steps(rule),
     }
     let mut case = Case::of(&mut maker);
-    if i % 4 == 3 || maker.rng.chance(15) {
+    if i % 5 == 4 || maker.rng.chance(15) {
         lend_around(&mut maker, &mut case);
     } else {
         case.lent.work += maker.rng.below(40);

@@ -1,17 +1,19 @@
 //! Random records, good ones and those that stop a job.
 use super::Maker;
+use crate::chain::{CONG, SYMM};
 use crate::kind::*;
 use crate::pool::Id;
-use crate::rule::RULES;
+use crate::rule::STEP_RULES;
 
 /// Kinds that no record has.
 const NO_KIND: [u16; 20] = [0, 1, 2, 9, 13, 19, 26, 29, 32, 39, 59, 64, 99, 102, 105, 200, 255, 266, 356, 65_535];
 
-const NO_RULE: [u16; 6] = [0, 99, 256, 257, 512, 65_535];
+/// Rules that no step has; the first three are a chain's.
+const NO_RULE: [u16; 9] = [31, 32, 33, 0, 34, 99, 256, 257, 65_535];
 
 impl Maker {
     pub fn any_rule(&mut self) -> u16 {
-        self.rng.range(1, RULES.len()) as u16
+        self.rng.range(1, usize::from(STEP_RULES)) as u16
     }
 
     /// Numbers and arguments of the kind's shape, with some chance that they fit each other.
@@ -75,7 +77,7 @@ impl Maker {
 
     /// Most likely code 5: a body of any length.
     fn odd_body(&mut self) {
-        let kinds: Vec<u16> = terms().chain([STEP, BACK]).collect();
+        let kinds: Vec<u16> = terms().chain([STEP, BACK, CHAIN]).collect();
         let kind = self.rng.pick(&kinds);
         let length = if self.rng.chance(60) { self.rng.below(16) } else { self.rng.range(120, 140) };
         let body: Vec<u8> = (0..length).map(|i| if i % 2 == 0 { self.rng.below(3) as u8 } else { 0 }).collect();
@@ -85,7 +87,7 @@ impl Maker {
     /// A record that most likely stops the job.
     pub fn bad_record(&mut self) {
         let kept = self.list.len() as u16;
-        match self.rng.below(8) {
+        match self.rng.below(10) {
             0 => {
                 let tail: &[u8] = self.rng.pick(&[&[6], &[0, 0], &[1, 0, 20], &[255, 255, 20, 0], &[4, 0, 20, 0, 0]]);
                 self.bytes.extend(tail);
@@ -103,11 +105,32 @@ impl Maker {
                 body[0] = rule;
                 self.words(STEP, &body);
             }
+            7 => self.bad_chain(),
             _ => {
                 let count = self.rng.pick(&[0, 1, kept + 1, 65_535]);
                 self.words(BACK, &[count]);
             }
         }
+    }
+
+    /// A chain with a wrong count, length, literal or rule, in that order of tests; more than one may be wrong.
+    fn bad_chain(&mut self) {
+        let kept = self.list.len() as u16;
+        let count = self.rng.pick(&[1, 1, 1, 2, 64]);
+        let rule = self.rng.range(usize::from(SYMM), usize::from(CONG)) as u16;
+        let mut body = vec![1; count + 3];
+        body[..2].copy_from_slice(&[rule, count as u16]);
+        let which = self.rng.below(5);
+        match which {
+            0 => body[1] = self.rng.pick(&[0, 65, 256, 65_535, count as u16 + 1, count as u16 - 1]),
+            1 => body = vec![1; self.rng.pick(&[0, 1, 2, 3, 68])],
+            2 => body[count + 2] = self.rng.pick(&[kept, kept + 1, 65_535]),
+            _ => {}
+        }
+        if which > 2 || (which > 1 && self.rng.chance(30)) {
+            body[0] = self.rng.pick(&[0, 1, 30, 34, 99, 287, 65_535]);
+        }
+        self.words(CHAIN, &body);
     }
 
     /// A few records, then one that stops the job, then more that are not read.
@@ -137,6 +160,7 @@ impl Maker {
                     self.step(rule, &[literal], None);
                 }
                 7 => self.maybe_back(50),
+                8 if self.rng.chance(30) => self.any_chain(),
                 _ => {
                     let rule = self.any_rule();
                     let width = self.rng.range(1, 5);
@@ -150,7 +174,7 @@ impl Maker {
     }
 
     /// A kept Equals, where there is one.
-    fn any_literal(&mut self) -> Id {
+    pub fn any_literal(&mut self) -> Id {
         let equals: Vec<Id> = self.list.iter().copied().filter(|&id| self.pool.kind(id) == EQUALS).collect();
         let all = if equals.is_empty() || self.rng.chance(10) { &self.list } else { &equals };
         self.rng.pick(all)

@@ -10,7 +10,7 @@ use std::collections::HashMap;
 impl Maker {
     /// A step whose claim is most likely wrong, beside the right claim of the same left side.
     pub fn wrong_step(&mut self, rule: u16, left: Id, right_claim: Id) {
-        if self.rng.chance(6) {
+        if self.rng.chance(10) {
             let count = self.rng.pick(&[0, 2, 3, 64]);
             return self.step(rule, &vec![right_claim; count], Some(false));
         }

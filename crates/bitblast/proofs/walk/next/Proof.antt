@@ -22,7 +22,7 @@ take-record-requires c κs =
     let k = c .before .before .before in
     let f = k .before .before in
     let s = f .before .before .before .before in
-    (s .pre .store, s .pre .roomy, whole-learnt (drop (s .args .s .at) (now (s .args .job))) (sym (k .size .given .1) ∙ f .frame .ensures) .0)
+    (s .pre .noted, whole-learnt (drop (s .args .s .at) (now (s .args .job))) (sym (k .size .given .1) ∙ f .frame .ensures) .0)
 
 returns-2 : tie.Need-returns-2
 returns-2 c =

@@ -46,6 +46,9 @@ returns-6 c = never (c .before .before) _ (c .enum-told3 .given .1) (λ o ks d. 
 returns-7 : tie.Need-returns-7
 returns-7 c = never (c .before .before) _ (c .enum-told4 .given .1) (λ o ks d. let z : _≡_ {A = ℕ} 0 1 = cc in omega arith) _
 
+returns-8 : tie.Need-returns-8
+returns-8 c = never (c .before .before) _ (c .enum-told5 .given .1) (λ o ks d. let z : _≡_ {A = ℕ} 0 1 = cc in omega arith) _
+
 pub term-at-spec : {M : Type 1} → statement M
 term-at-spec =
     tie.close
@@ -60,8 +63,10 @@ term-at-spec =
     (λ c. search needs)
     (λ c. search needs)
     (λ c. search needs)
+    (λ c. search needs)
     returns-3
     returns-4
     returns-5
     returns-6
-    returns-7)
+    returns-7
+    returns-8)

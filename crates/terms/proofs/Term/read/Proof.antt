@@ -4,7 +4,7 @@ use native.Mathlib.Omega.{arith}
 use borrow.Author.Needs.{needs}
 use denote.Ref.{now}
 use Rattle.terms.specs.Framing.{record-at}
-use Rattle.terms.proofs.Reading.{Stands, stands, kind-there, body-there, read-as-step, read-as-back, read-as-term}
+use Rattle.terms.proofs.Reading.{Stands, stands, kind-there, body-there, read-as-step, read-as-back, read-as-chain, read-as-term}
 use Rattle.terms.proofs.Term.read.Statement.{statement}
 use Rattle.terms.proofs.Term.read.Tie as tie
 
@@ -27,6 +27,9 @@ read-step-requires c κs = omega (arith, there (c .before .before .before .befor
 read-back-requires : tie.Need-read-back-requires
 read-back-requires c κs = omega (arith, there (c .before .before .before .before) .low, there (c .before .before .before .before) .end, c .before .before .number .ensures .0)
 
+read-chain-requires : tie.Need-read-chain-requires
+read-chain-requires c κs = omega (arith, there (c .before .before .before .before) .low, there (c .before .before .before .before) .end, c .before .before .number .ensures .0)
+
 read-term-requires : tie.Need-read-term-requires
 read-term-requires c κs = omega (arith, there (c .before .before .before .before) .low, there (c .before .before .before .before) .end, c .before .before .number .ensures .0)
 
@@ -39,8 +42,12 @@ returns-2 c = let a = c .before .before .before .before .before .args in let s =
     (e .says ∙ read-as-back (record-at (now (a .job)) (a .at)) (body-there s (c .before .before .before .number .ensures .0)) (kind-there s (c .before .before .number2 .ensures .0) ∙ c .before .match .keys2), e .placed)
 
 returns-3 : tie.Need-returns-3
-returns-3 c = let a = c .before .before .before .before .before .args in let s = there (c .before .before .before .before .before) in let e = c .read-term .ensures in
-    (e .says ∙ read-as-term (record-at (now (a .job)) (a .at)) (body-there s (c .before .before .before .number .ensures .0)) (kind-there s (c .before .before .number2 .ensures .0)) (c .before .match .rest .0 .1) (c .before .match .rest .1), e .placed)
+returns-3 c = let a = c .before .before .before .before .before .args in let s = there (c .before .before .before .before .before) in let e = c .read-chain .ensures in
+    (e .says ∙ read-as-chain (record-at (now (a .job)) (a .at)) (body-there s (c .before .before .before .number .ensures .0)) (kind-there s (c .before .before .number2 .ensures .0) ∙ c .before .match .keys3), e .placed)
+
+returns-4 : tie.Need-returns-4
+returns-4 c = let a = c .before .before .before .before .before .args in let s = there (c .before .before .before .before .before) in let e = c .read-term .ensures in
+    (e .says ∙ read-as-term (record-at (now (a .job)) (a .at)) (body-there s (c .before .before .before .number .ensures .0)) (kind-there s (c .before .before .number2 .ensures .0)) (c .before .match .rest .0 .0 .1) (c .before .match .rest .0 .1) (c .before .match .rest .1), e .placed)
 
 pub read-spec : {M : Type 1} → statement M
 read-spec =
@@ -55,7 +62,9 @@ read-spec =
     add-body
     read-step-requires
     read-back-requires
+    read-chain-requires
     read-term-requires
     returns
     returns-2
-    returns-3)
+    returns-3
+    returns-4)

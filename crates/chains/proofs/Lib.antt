@@ -1,0 +1,3 @@
+pub mod Standing
+pub mod Joins
+pub mod Verdicts
