@@ -31,6 +31,22 @@ fn main() {
     println!("cargo::rustc-link-lib=static={LIBRARY}");
     // For the test that links the archive into a C program.
     println!("cargo::rustc-env=BITBLAST_ARCHIVE={}", copy.display());
+    println!("cargo::rustc-env=BITBLAST_KIT={}", kit());
+}
+
+/// The kit that proved the library, as `rt version` names it.
+fn kit() -> String {
+    match Command::new(rt()).arg("version").output() {
+        Ok(done) if done.status.success() => {
+            String::from_utf8_lossy(&done.stdout).lines().next().unwrap_or("unknown").to_owned()
+        }
+        _ => "unknown".to_owned(),
+    }
+}
+
+/// The command that proves.
+fn rt() -> PathBuf {
+    env::var_os("RT").unwrap_or_else(|| "rt".into()).into()
 }
 
 /// A folder that cargo names in the environment.
@@ -50,10 +66,9 @@ fn lock(target: &Path) -> File {
 
 /// Has the library proved and built, and gives the archive's path.
 fn prove(root: &Path, target: &Path) -> PathBuf {
-    let rt = env::var_os("RT").unwrap_or_else(|| "rt".into());
-    let rt = Path::new(&rt);
+    let rt = rt();
     let archive = target.join("staticlib").join(format!("lib{LIBRARY}.a"));
-    match Command::new(rt).args(["staticlib", LIBRARY]).current_dir(root).output() {
+    match Command::new(&rt).args(["staticlib", LIBRARY]).current_dir(root).output() {
         Err(error) => fail(&format!(
             "cannot run {}: {error}. It proves and builds the library; put it on the PATH, or name it in the environment variable RT.",
             rt.display()

@@ -24,6 +24,10 @@
 extern "C" {
 #endif
 
+/* The number of the interface that is declared here. It grows with each change of a function or struct below: a program that is
+ * compiled with this header must be linked with a library whose bb_version() gives the same number. */
+#define BB_VERSION 1
+
 /* The longest job, in bytes. */
 #define BB_MAX_JOB 16777216
 
@@ -52,6 +56,9 @@ typedef struct BbTally {
     uint64_t form_only;
     uint64_t refused;
 } BbTally;
+
+/* The number of the library's interface. */
+uint32_t bb_version(void);
 
 /* Checks a job. Both lent memories may be of any length and content; afterwards all of `work` is zero, the answers stand at
  * the start of `answers`, and the bytes past the last answer are as they were. */

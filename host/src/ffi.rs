@@ -1,10 +1,11 @@
 //! The functions of the static library, declared by hand: nothing checks these declarations against the Rattle source
-//! (`bb_job` and `Outcome` in crates/bitblast, `Tally` in crates/tally). tests/ffi.rs does what can be done: it compares
-//! the text of both, and sizes, offsets and the bytes around each lent slice.
+//! (`bb_job`, `bb_version` and `Outcome` in crates/bitblast, `Tally` in crates/tally). tests/ffi.rs does what can be done: it
+//! compares the text of both, the interface's number, and sizes, offsets and the bytes around each lent slice.
 
-/// What a job came to.
+/// What a job came to. Later interfaces may add numbers.
 #[repr(C)]
-#[derive(Clone, Copy, Debug, PartialEq, Eq)]
+#[non_exhaustive]
+#[derive(Clone, Copy, Debug, Default, PartialEq, Eq)]
 pub struct Outcome {
     /// 0 where the job ran to its end, else the code that stopped it.
     pub stop: u32,
@@ -16,8 +17,9 @@ pub struct Outcome {
     pub terms: u32,
 }
 
-/// What the jobs of a service came to. Each number holds at its largest value.
+/// What the jobs of a service came to. Each number holds at its largest value. Later interfaces may add numbers.
 #[repr(C)]
+#[non_exhaustive]
 #[derive(Clone, Copy, Debug, Default, PartialEq, Eq)]
 pub struct Tally {
     pub jobs: u64,
@@ -37,6 +39,31 @@ unsafe extern "C" {
     ) -> Outcome;
 
     fn bb_tally(tally: *mut Tally, answers: *const u8, answers_len: usize, count: u32);
+
+    safe fn bb_version() -> u32;
+}
+
+impl Outcome {
+    /// All numbers in their order, for comparisons that shall notice a new one.
+    #[doc(hidden)]
+    pub fn numbers(&self) -> [u32; 4] {
+        let Outcome { stop, records, answers, terms } = *self;
+        [stop, records, answers, terms]
+    }
+}
+
+impl Tally {
+    /// All numbers in their order, for comparisons that shall notice a new one.
+    #[doc(hidden)]
+    pub fn numbers(&self) -> [u64; 4] {
+        let Tally { jobs, held, form_only, refused } = *self;
+        [jobs, held, form_only, refused]
+    }
+}
+
+/// The number of the interface that the linked library has; these declarations are written for [`INTERFACE`](crate::INTERFACE).
+pub fn interface() -> u32 {
+    bb_version()
 }
 
 /// Checks a job on lent memory of any length and content. Afterwards all of `work` is zero, the answers stand at the start

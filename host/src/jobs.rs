@@ -9,7 +9,8 @@ pub struct Term(u32);
 pub const TRUE: Term = Term(0);
 pub const FALSE: Term = Term(1);
 
-/// The kinds of terms, by their numbers in a record.
+/// The kinds of terms, by their numbers in a record. Later versions may add kinds.
+#[non_exhaustive]
 #[derive(Clone, Copy, Debug, PartialEq, Eq, Hash)]
 #[repr(u16)]
 pub enum Kind {

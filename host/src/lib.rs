@@ -19,8 +19,11 @@ pub mod rng;
 pub mod service;
 pub mod words;
 
-pub use ffi::{Outcome, Tally, run_job, tally_answers};
+pub use ffi::{Outcome, Tally, interface, run_job, tally_answers};
 pub use service::{Answer, Answers, Report, Service, Verdict};
+
+/// The number of the library's interface that this crate is written for.
+pub const INTERFACE: u32 = 1;
 
 /// The longest job, in bytes; a longer one is answered with stop code 2.
 pub const MAX_JOB_BYTES: usize = 16_777_216;

@@ -1,7 +1,7 @@
 //! The command line `bbhost`.
 mod command;
 
-use bitblast_host::words::RULES;
+use bitblast_host::{interface, words::RULES};
 use command::{Failure, Status, bench, check, compare, soak};
 use std::{
     env,
@@ -29,7 +29,7 @@ A job that is ill-formed stops at the first bad record, with a code that is name
     )
 }
 
-const USAGE: &str = "  bbhost --help, bbhost COMMAND --help";
+const USAGE: &str = "  bbhost --help, bbhost COMMAND --help, bbhost --version";
 
 fn main() -> ExitCode {
     let words: Vec<OsString> = env::args_os().skip(1).collect();
@@ -71,6 +71,11 @@ fn run(words: &[OsString], out: &mut impl Write) -> Result<Status, Failure> {
         Some("--help" | "-h" | "help") => {
             out.write_all(about().as_bytes())?;
             print(&[check::USAGE, soak::USAGE, bench::USAGE, compare::USAGE, USAGE], out)
+        }
+        Some("--version" | "-V") => {
+            let (version, kit) = (env!("CARGO_PKG_VERSION"), env!("BITBLAST_KIT"));
+            writeln!(out, "bbhost {version}, interface {}, proved with {kit}", interface())?;
+            Ok(Status::Fine)
         }
         _ => Err(Failure::Usage(format!("there is no command {}", command.display()))),
     }

@@ -102,7 +102,8 @@ impl Verdict {
     }
 }
 
-/// The answer to a step.
+/// The answer to a step. Later versions may add fields.
+#[non_exhaustive]
 #[derive(Clone, Copy, Debug, PartialEq, Eq)]
 pub struct Answer {
     /// The step's place among the steps of the job, from 1.

@@ -83,6 +83,7 @@ static void tally(void) {
 }
 
 int main(void) {
+    expect(bb_version() == BB_VERSION, "the interface's number");
     expect(sizeof(BbOutcome) == 16 && offsetof(BbOutcome, records) == 4 && offsetof(BbOutcome, answers) == 8 &&
                offsetof(BbOutcome, terms) == 12,
            "layout of BbOutcome");

@@ -1,5 +1,8 @@
 //! The command line: exit statuses, what it prints, and JSON that a reader of JSON takes.
-use bitblast_host::jobs::{self, CONG, JobWriter, Kind, SYMM, TRANS};
+use bitblast_host::{
+    INTERFACE,
+    jobs::{self, CONG, JobWriter, Kind, SYMM, TRANS},
+};
 use std::{
     fs,
     io::Write,
@@ -246,6 +249,12 @@ fn usage() {
         }
     }
     assert_eq!(status(&["check", "--", "-h"], b""), 2);
+    for word in ["--version", "-V"] {
+        let output = bbhost(&[word], b"");
+        assert_eq!(output.status.code(), Some(0));
+        let known = format!("bbhost {}, interface {INTERFACE}, proved with ", env!("CARGO_PKG_VERSION"));
+        assert!(text(&output.stdout).starts_with(&known), "{}", text(&output.stdout));
+    }
 }
 
 #[test]

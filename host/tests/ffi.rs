@@ -1,7 +1,7 @@
 //! What can be tested of declarations that nothing checks: the text of the Rattle source, the layout of the structs, and the
 //! bytes around each lent slice.
 use bitblast_host::{
-    Outcome, Tally,
+    INTERFACE, Outcome, Tally, interface,
     jobs::{self, SPECIMEN_ANSWER},
     lent::Lent,
     run_job, tally_answers,
@@ -51,13 +51,23 @@ fn the_source_says_the_same() {
     source(&Path::new(env!("CARGO_MANIFEST_DIR")).join("../crates"), &mut text);
     for declared in [
         "#[no_mangle] pub extern \"C\" fn bb_job(job: &[u8], work: &mut [u8], answers: &mut [u8]) -> Outcome ",
+        "#[no_mangle] pub extern \"C\" fn bb_version() -> u32 ",
         "#[no_mangle] pub extern \"C\" fn bb_tally(tally: &mut Tally, answers: &[u8], count: u32) ",
         "#[repr(C)] pub struct Outcome { pub stop: u32, pub records: u32, pub answers: u32, pub terms: u32, }",
         "#[repr(C)] pub struct Tally { pub jobs: u64, pub held: u64, pub form_only: u64, pub refused: u64, }",
     ] {
         assert!(text.contains(declared), "crates/ has no `{declared}`: does src/ffi.rs still fit?");
     }
-    assert_eq!(text.matches("pub extern \"C\" fn").count(), 2, "src/ffi.rs declares two functions");
+    assert_eq!(text.matches("pub extern \"C\" fn").count(), 3, "src/ffi.rs declares three functions");
+}
+
+/// Declarations here, the header and the linked library are of one interface.
+#[test]
+fn one_interface() {
+    assert_eq!(interface(), INTERFACE);
+    let header = Path::new(env!("CARGO_MANIFEST_DIR")).join("../include/bitblast.h");
+    let header = fs::read_to_string(header).unwrap();
+    assert!(header.contains(&format!("#define BB_VERSION {INTERFACE}\n")));
 }
 
 /// The specimen with every length of work memory and answers around what it needs: 64 and 10 bytes.
@@ -69,11 +79,11 @@ fn fences_around_every_length() {
         for room in 0..=40 {
             let outcome = run_job(&job, work.ready(work_size, room as u64), answers.ready(room, work_size as u64));
             let expected = match (work_size / 8, room) {
-                (rows @ 0..=7, _) => Outcome { stop: 8, records: rows as u32, answers: 0, terms: 2 + rows as u32 },
-                (_, 0..=9) => Outcome { stop: 19, records: 8, answers: 0, terms: 10 },
-                _ => Outcome { stop: 0, records: 9, answers: 1, terms: 10 },
+                (rows @ 0..=7, _) => [8, rows as u32, 0, 2 + rows as u32],
+                (_, 0..=9) => [19, 8, 0, 10],
+                _ => [0, 9, 1, 10],
             };
-            assert_eq!(outcome, expected, "work {work_size}, answers {room}");
+            assert_eq!(outcome.numbers(), expected, "work {work_size}, answers {room}");
             assert!(work.is_zero() && work.fences_stand(), "work {work_size}, answers {room}");
             let written = 10 * outcome.answers as usize;
             assert_eq!(answers.bytes()[..written], SPECIMEN_ANSWER[..written]);
@@ -97,7 +107,7 @@ fn slices_at_any_address() {
             &mut work[shift + 1..shift + 101],
             &mut answers[shift + 3..shift + 33],
         );
-        assert_eq!(outcome, Outcome { stop: 0, records: 9, answers: 1, terms: 10 });
+        assert_eq!(outcome.numbers(), [0, 9, 1, 10]);
         assert_eq!(job, before);
         for (k, byte) in work.iter().enumerate() {
             assert_eq!(*byte, if (shift + 1..shift + 101).contains(&k) { 0 } else { 0xEE });
@@ -123,7 +133,7 @@ fn fences_around_a_tally() {
     for count in [0, 1, 2, u32::MAX] {
         tally_answers(&mut fenced.tally, answers.bytes(), count);
     }
-    assert_eq!(fenced.tally, Tally { jobs: 4, held: 3, form_only: 0, refused: 0 });
+    assert_eq!(fenced.tally.numbers(), [4, 3, 0, 0]);
     assert_eq!((fenced.before, fenced.behind), ([7; 8], [7; 8]));
     assert_eq!(answers.bytes(), SPECIMEN_ANSWER);
     assert!(answers.fences_stand());

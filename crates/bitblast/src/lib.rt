@@ -15,6 +15,9 @@ use steps::answers::seal;
 // The longest job, in bytes.
 pub const MAX_JOB: usize = 16777216;
 
+// The number of the interface. It grows with each change of an exported function, or of a struct that one takes or returns.
+pub const VERSION: u32 = 1;
+
 // What a job comes to: the code that stopped it or 0, the records done, the answers written, and the terms kept at the end.
 #[repr(C)]
 pub struct Outcome {
@@ -71,4 +74,12 @@ pub extern "C" fn bb_job(job: &[u8], work: &mut [u8], answers: &mut [u8]) -> Out
     let outcome = check_job(job, &mut work[..n], answers);
     table::wipe(work);
     outcome
+}
+
+// The number of the interface, for a host to compare with the one that it was written for.
+#[no_mangle]
+pub extern "C" fn bb_version() -> u32
+    ensures { λ r. ⌜ r ≡ 1 ⌝ }
+{
+    VERSION
 }

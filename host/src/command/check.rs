@@ -129,7 +129,7 @@ fn sum(options: &Options, tally: Tally, all_held: bool, out: &mut impl Write) ->
     match options.form {
         Form::Table if options.files.len() > 1 => writeln!(out, "{}: {}", counted(tally.jobs, "job"), classes(tally)),
         Form::Json => {
-            let Tally { jobs, held, form_only, refused } = tally;
+            let Tally { jobs, held, form_only, refused, .. } = tally;
             writeln!(
                 out,
                 "],\"tally\":{{\"jobs\":{jobs},\"held\":{held},\"form_only\":{form_only},\"refused\":{refused}}},\
@@ -146,7 +146,8 @@ fn classes(tally: Tally) -> String {
 
 /// The answers of one report by class.
 fn tally_of(report: &Report) -> Tally {
-    let mut tally = Tally { jobs: 1, ..Tally::default() };
+    let mut tally = Tally::default();
+    tally.jobs = 1;
     for answer in report.answers() {
         *match answer.verdict() {
             Verdict::Held => &mut tally.held,

@@ -97,7 +97,7 @@ pub fn run(words: &[OsString], out: &mut impl Write) -> Result<Status, Failure> 
         grouped(soak.turns[2]),
         grouped(soak.turns[3])
     )?;
-    let Tally { jobs, held, form_only, refused } = soak.tally;
+    let Tally { jobs, held, form_only, refused, .. } = soak.tally;
     writeln!(
         out,
         "tally, as counted by the host too: {} jobs, {} held, {} form only, {} refused",
@@ -218,7 +218,7 @@ impl Soak {
     fn known(&mut self) -> Result<(), String> {
         self.job.clone_from(&self.specimen);
         let outcome = self.run(64, 10 + 5)?;
-        if outcome != (Outcome { stop: 0, records: 9, answers: 1, terms: 10 }) {
+        if outcome.numbers() != [0, 9, 1, 10] {
             return Err(format!("the specimen came to {outcome:?}"));
         }
         if self.answers.bytes()[..ANSWER_BYTES] != SPECIMEN_ANSWER {
