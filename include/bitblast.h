@@ -26,7 +26,7 @@ extern "C" {
 
 /* The number of the interface that is declared here. It grows with each change of a function or struct below: a program that is
  * compiled with this header must be linked with a library whose bb_version() gives the same number. */
-#define BB_VERSION 1
+#define BB_VERSION 2
 
 /* The longest job, in bytes. */
 #define BB_MAX_JOB 16777216
@@ -47,6 +47,7 @@ typedef struct BbOutcome {
     uint32_t records; /* records done, the stopping one not counted */
     uint32_t answers; /* answers written */
     uint32_t terms;   /* terms kept at the end, `true` and `false` among them */
+    uint32_t repeats; /* term records done whose term was there already; no back lowers it */
 } BbOutcome;
 
 /* What the jobs of a service came to. Each number holds at its largest value. */

@@ -7,7 +7,7 @@ prover (crates/theory/proofs/Computed.antt); the program `replay` runs all of th
   listed_jobs.py compare ORACLE [requests]   asks a program that answers jobs (`ORACLE case FILE WORK ROOM`) about every job; about those of
                                              the requests, which the original does not know, only where `requests` is said
 
-A line of listed_jobs.txt: name; work bytes; answer bytes; the job in hex; stop, records, terms; rule:code:depth of each answer."""
+A line of listed_jobs.txt: name; work bytes; answer bytes; the job in hex; stop, records, terms, repeats; rule:code:depth of each answer."""
 import os, subprocess, sys, tempfile
 
 from replay_jobs import GENERATED, JOBS, STDOUT, head, printed
@@ -29,7 +29,7 @@ UNFOLD = {
     'Bits': 'select get-term-bits fold-terms add-bits concat-bits',
     'Rule': 'args-of literal-bits slices-verdict on-sides verdict',
     'Record': 'cut shape-of read',
-    'Plain': 'feed',
+    'Plain': 'feed repeat-of',
     'Codes': 'fault',
     'Answer': '',
     'Chain': 'joins chain-verdict',
@@ -52,12 +52,12 @@ record Case : Type 0 where
 abbrev answer : ℕ → ℕ → ℕ → Answer
 answer rule code depth = record { rule = rule; code = code; depth = depth }
 
-abbrev case : Bytes → ℕ → ℕ → ℕ → ℕ → List Answer → ℕ → Case
-case job work space stop done answers terms = record {
+abbrev case : Bytes → ℕ → ℕ → ℕ → ℕ → List Answer → ℕ → ℕ → Case
+case job work space stop done answers terms repeats = record {
   job = job;
   work = work;
   space = space;
-  outcome = record { stop = stop; records = done; answers = answers; terms = terms };
+  outcome = record { stop = stop; records = done; answers = answers; terms = terms; repeats = repeats };
 }
 
 -- each comes to its outcome
@@ -75,21 +75,21 @@ def jobs():
         line = line.strip()
         if line and not line.startswith('#'):
             name, work, room, text, numbers, answers = [part.strip() for part in line.split(';')]
-            stop, records, terms = map(int, numbers.split())
-            yield name, int(work), int(room), bytes.fromhex(text), stop, records, terms, [tuple(map(int, a.split(':'))) for a in answers.split()]
+            stop, records, terms, repeats = map(int, numbers.split())
+            yield name, int(work), int(room), bytes.fromhex(text), stop, records, terms, repeats, [tuple(map(int, a.split(':'))) for a in answers.split()]
 
 
 def antt():
     types = {'Record': 'Bytes', 'Answer': 'Answer', 'Job': 'Outcome'}
     uses = ''.join('use Rattle.theory.specs.%s.{%s}\n' % (m, ', '.join((types.get(m, '') + ' ' + names).split())) for m, names in UNFOLD.items())
     out, count = [HEAD % uses], 0
-    for name, work, room, job, stop, records, terms, answers in jobs():
+    for name, work, room, job, stop, records, terms, repeats, answers in jobs():
         if not name.startswith(COMPUTED):
             continue
         listed = lambda items: ' ∷ '.join(items + ['[]']) if items else '[]'
         given = listed([str(b) for b in job])
         got = listed(['answer %d %d %d' % a for a in answers])
-        out.append('    -- %s\n    %scase (%s) %d %d %d %d (%s) %d\n' % (name, '∷ ' if count else '', given, work, room, stop, records, got, terms))
+        out.append('    -- %s\n    %scase (%s) %d %d %d %d (%s) %d %d\n' % (name, '∷ ' if count else '', given, work, room, stop, records, got, terms, repeats))
         count += 1
     out.append('    ∷ []\n\npub computed : Computed cases\nunfolding %s\n' % ' '.join(' '.join(UNFOLD.values()).split()))
     out.append('computed = %stt%s\n' % ('(refl, ' * count, ')' * count))
@@ -98,7 +98,7 @@ def antt():
 
 def compare(oracle, requests):
     wrong = total = 0
-    for name, work, room, job, stop, records, terms, answers in jobs():
+    for name, work, room, job, stop, records, terms, repeats, answers in jobs():
         if name.startswith(REQUEST) and not requests:
             continue
         with tempfile.NamedTemporaryFile(suffix='.job') as f:
@@ -109,7 +109,7 @@ def compare(oracle, requests):
         data = bytes.fromhex(got.get('bytes', '').strip())
         said = [tuple(int.from_bytes(data[k + 4 + 2 * i:k + 6 + 2 * i], 'little') for i in range(3)) for k in range(0, len(data), 10)]
         total += 1
-        if (int(got['stop']), int(got['records']), int(got['terms']), said) != (stop, records, terms, answers):
+        if (int(got['stop']), int(got['records']), int(got['terms']), int(got['repeats']), said) != (stop, records, terms, repeats, answers):
             wrong += 1
             print('differs:', name, got, said)
     print('%d jobs, %d differ' % (total, wrong))
@@ -119,9 +119,9 @@ def compare(oracle, requests):
 def replayed():
     """The two files of crates/replay with the listed jobs after the generated ones, by their paths."""
     heads, lines = [], []
-    for name, work, room, job, stop, records, terms, answers in jobs():
+    for name, work, room, job, stop, records, terms, repeats, answers in jobs():
         data = b''.join(b''.join(n.to_bytes(2, 'little') for n in (8, 200) + a) for a in answers)
-        fields = {'stop': stop, 'records': records, 'answers': len(answers), 'terms': terms, 'bytes': data.hex()}
+        fields = {'stop': stop, 'records': records, 'answers': len(answers), 'terms': terms, 'repeats': repeats, 'bytes': data.hex()}
         heads.append(head(work, room, job))
         lines.append(printed(fields))
     generated = lambda path: open(path).read().splitlines(keepends=True)[:GENERATED]

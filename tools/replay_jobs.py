@@ -38,7 +38,7 @@ def answered(fields):
 
 
 def printed(fields):
-    return " ".join(str(fields[k]) for k in ("stop", "records", "answers", "terms", "bytes")) + "\n"
+    return " ".join(str(fields[k]) for k in ("stop", "records", "answers", "terms", "repeats", "bytes")) + "\n"
 
 
 def head(work, room, job):

@@ -15,6 +15,8 @@ pub struct Outcome {
     pub answers: u32,
     /// Terms kept at the end, `true` and `false` among them.
     pub terms: u32,
+    /// Term records done whose term was there already. No back lowers it.
+    pub repeats: u32,
 }
 
 /// What the jobs of a service came to. Each number holds at its largest value. Later interfaces may add numbers.
@@ -46,9 +48,9 @@ unsafe extern "C" {
 impl Outcome {
     /// All numbers in their order, for comparisons that shall notice a new one.
     #[doc(hidden)]
-    pub fn numbers(&self) -> [u32; 4] {
-        let Outcome { stop, records, answers, terms } = *self;
-        [stop, records, answers, terms]
+    pub fn numbers(&self) -> [u32; 5] {
+        let Outcome { stop, records, answers, terms, repeats } = *self;
+        [stop, records, answers, terms, repeats]
     }
 }
 

@@ -23,7 +23,7 @@ pub use ffi::{Outcome, Tally, interface, run_job, tally_answers};
 pub use service::{Answer, Answers, Report, Service, Verdict};
 
 /// The number of the library's interface that this crate is written for.
-pub const INTERFACE: u32 = 1;
+pub const INTERFACE: u32 = 2;
 
 /// The longest job, in bytes; a longer one is answered with stop code 2.
 pub const MAX_JOB_BYTES: usize = 16_777_216;

@@ -20,7 +20,7 @@ fn check(job: &[u8]) -> (Outcome, Vec<(u16, u16, u16)>) {
 fn the_specimen() {
     let mut service = Service::new(64, 10);
     let report = service.check(&jobs::specimen());
-    assert_eq!(report.outcome().numbers(), [0, 9, 1, 10]);
+    assert_eq!(report.outcome().numbers(), [0, 9, 1, 10, 0]);
     assert_eq!(report.stop_meaning(), "the job ran to its end");
     assert!(report.all_held());
     let answers: Vec<_> = report.answers().collect();
@@ -37,7 +37,7 @@ fn the_specimen() {
 fn codes_that_stop_a_job() {
     let stop = |text: &str| check(&hex(text)).0.stop;
     let too_long = vec![0; MAX_JOB_BYTES + 1];
-    assert_eq!(check(&too_long).0.numbers(), [2, 0, 0, 2]);
+    assert_eq!(check(&too_long).0.numbers(), [2, 0, 0, 2, 0]);
     assert_eq!(check(&too_long[1..]).0.stop, 3);
     assert_eq!(stop("06 00 0B"), 3);
     assert_eq!(stop("02 00 63 00"), 4);

@@ -43,6 +43,7 @@ static void every_length(void) {
             BbOutcome o = bb_job(specimen, sizeof specimen, work + FENCE, work_len, answers + FENCE, room);
             uint32_t stop = work_len < 64 ? 8 : room < 10 ? 19 : 0;
             expect(o.stop == stop, "stop code");
+            expect(o.repeats == 0, "no repeats");
             expect(o.answers == (stop == 0), "number of answers");
             expect(stop == 8 || (o.terms == 10 && o.records == 8 + o.answers), "terms and records");
             expect(all(work, FENCE, FENCE + work_len, 0), "work memory is zero");
@@ -59,9 +60,27 @@ static void stopped(void) {
     static const uint8_t cut[] = {0x06, 0, 0x0B};
     uint8_t work[8], answers[10];
     BbOutcome o = bb_job(cut, sizeof cut, work, sizeof work, answers, sizeof answers);
-    expect(o.stop == 3 && o.records == 0 && o.answers == 0 && o.terms == 2, "a cut record");
+    expect(o.stop == 3 && o.records == 0 && o.answers == 0 && o.terms == 2 && o.repeats == 0, "a cut record");
     o = bb_job(cut, 0, work, 0, answers, 0);
-    expect(o.stop == 0 && o.records == 0 && o.answers == 0 && o.terms == 2, "an empty job");
+    expect(o.stop == 0 && o.records == 0 && o.answers == 0 && o.terms == 2 && o.repeats == 0, "an empty job");
+}
+
+/* A variable three times, a back that drops it, the variable twice, and a back that stops the job: three repeats, of which the first back
+ * takes none away. All five numbers are read, with fences around the struct. */
+static void repeats(void) {
+    static const uint8_t job[] = {
+        0x06, 0, 0x0B, 0, 1, 0, 0, 0, 0x06, 0, 0x0B, 0, 1, 0, 0, 0, 0x06, 0, 0x0B, 0, 1, 0, 0, 0,
+        0x04, 0, 0x65, 0, 2, 0, 0x06, 0, 0x0B, 0, 1, 0, 0, 0, 0x06, 0, 0x0B, 0, 1, 0, 0, 0, 0x04, 0, 0x65, 0, 9, 0};
+    uint8_t work[64], answers[10];
+    struct {
+        uint32_t before;
+        BbOutcome outcome;
+        uint32_t behind[4];
+    } o;
+    memset(&o, POST, sizeof o);
+    o.outcome = bb_job(job, sizeof job, work, sizeof work, answers, sizeof answers);
+    expect(o.outcome.stop == 18 && o.outcome.records == 6 && o.outcome.answers == 0 && o.outcome.terms == 3 && o.outcome.repeats == 3, "repeats");
+    expect(all((const uint8_t *)&o.before, 0, sizeof o.before, POST) && all((const uint8_t *)o.behind, 0, sizeof o.behind, POST), "fences of the outcome");
 }
 
 static void tally(void) {
@@ -84,14 +103,15 @@ static void tally(void) {
 
 int main(void) {
     expect(bb_version() == BB_VERSION, "the interface's number");
-    expect(sizeof(BbOutcome) == 16 && offsetof(BbOutcome, records) == 4 && offsetof(BbOutcome, answers) == 8 &&
-               offsetof(BbOutcome, terms) == 12,
+    expect(sizeof(BbOutcome) == 20 && offsetof(BbOutcome, records) == 4 && offsetof(BbOutcome, answers) == 8 &&
+               offsetof(BbOutcome, terms) == 12 && offsetof(BbOutcome, repeats) == 16,
            "layout of BbOutcome");
     expect(sizeof(BbTally) == 32 && offsetof(BbTally, held) == 8 && offsetof(BbTally, form_only) == 16 &&
                offsetof(BbTally, refused) == 24,
            "layout of BbTally");
     every_length();
     stopped();
+    repeats();
     tally();
     if (failures == 0) {
         printf("ok\n");

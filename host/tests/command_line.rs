@@ -124,6 +124,10 @@ fn exit_statuses_of_check() {
     assert!(table.contains("STOPPED at record 9 (code 3): the record is cut"), "{table}");
     assert!(table.contains("3 jobs: 1 held, 0 form only, 1 refused"), "{table}");
     assert!(bbhost(&["check", "-q", &held, &refused], b"").stdout.is_empty());
+    // The specimen's first variable once more at its end.
+    let repeated = bbhost(&["check", "-"], &[&jobs::specimen()[..], &jobs::specimen()[..8]].concat());
+    let repeated = text(&repeated.stdout);
+    assert!(repeated.starts_with("-: 78 bytes, 10 records, 10 terms kept, 1 repeat, 1 step\n"), "{repeated}");
 
     let all = bbhost(&["check", "--json", &held, &missing, &form_only, &refused, &cut], b"");
     assert_eq!(all.status.code(), Some(2));
@@ -138,7 +142,7 @@ fn exit_statuses_of_check() {
     assert_eq!(one.status.code(), Some(0));
     assert_eq!(
         text(&one.stdout),
-        "{\"files\":[{\"file\":\"-\",\"bytes\":70,\"stop\":0,\"stop_meaning\":\"the job ran to its end\",\"records\":9,\"terms\":10,\
+        "{\"files\":[{\"file\":\"-\",\"bytes\":70,\"stop\":0,\"stop_meaning\":\"the job ran to its end\",\"records\":9,\"terms\":10,\"repeats\":0,\
          \"all_held\":true,\"steps\":[\n{\"step\":1,\"rule\":9,\"name\":\"slt\",\"verdict\":\"held\",\"code\":0,\"meaning\":\"held\",\
          \"depth\":2}]}],\"tally\":{\"jobs\":1,\"held\":1,\"form_only\":0,\"refused\":0},\"all_held\":true}\n"
     );
@@ -287,7 +291,7 @@ fn compare_finds_differences() {
     let arguments = ["compare", folder.to_str().unwrap(), "--counts", counts.to_str().unwrap()];
     let expect = |text: &str| fs::write(folder.join("00000.expect"), text).unwrap();
     fs::write(folder.join("00000.job"), jobs::specimen()).unwrap();
-    let right = "work 64\nroom 10\nstop 0\nrecords 9\nanswers 1\nterms 10\nbytes 0800c800090000000200\n";
+    let right = "work 64\nroom 10\nstop 0\nrecords 9\nanswers 1\nterms 10\nrepeats 0\nbytes 0800c800090000000200\n";
     expect(right);
     let output = bbhost(&arguments, b"");
     assert_eq!(output.status.code(), Some(0), "{}", text(&output.stdout));

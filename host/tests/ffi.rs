@@ -14,15 +14,16 @@ use std::{
 
 #[test]
 fn layout() {
-    assert_eq!((size_of::<Outcome>(), align_of::<Outcome>()), (16, 4));
+    assert_eq!((size_of::<Outcome>(), align_of::<Outcome>()), (20, 4));
     assert_eq!(
         [
             offset_of!(Outcome, stop),
             offset_of!(Outcome, records),
             offset_of!(Outcome, answers),
-            offset_of!(Outcome, terms)
+            offset_of!(Outcome, terms),
+            offset_of!(Outcome, repeats)
         ],
-        [0, 4, 8, 12]
+        [0, 4, 8, 12, 16]
     );
     assert_eq!((size_of::<Tally>(), align_of::<Tally>()), (32, 8));
     assert_eq!(
@@ -53,7 +54,7 @@ fn the_source_says_the_same() {
         "#[no_mangle] pub extern \"C\" fn bb_job(job: &[u8], work: &mut [u8], answers: &mut [u8]) -> Outcome ",
         "#[no_mangle] pub extern \"C\" fn bb_version() -> u32 ",
         "#[no_mangle] pub extern \"C\" fn bb_tally(tally: &mut Tally, answers: &[u8], count: u32) ",
-        "#[repr(C)] pub struct Outcome { pub stop: u32, pub records: u32, pub answers: u32, pub terms: u32, }",
+        "#[repr(C)] pub struct Outcome { pub stop: u32, pub records: u32, pub answers: u32, pub terms: u32, pub repeats: u32, }",
         "#[repr(C)] pub struct Tally { pub jobs: u64, pub held: u64, pub form_only: u64, pub refused: u64, }",
     ] {
         assert!(text.contains(declared), "crates/ has no `{declared}`: does src/ffi.rs still fit?");
@@ -79,9 +80,9 @@ fn fences_around_every_length() {
         for room in 0..=40 {
             let outcome = run_job(&job, work.ready(work_size, room as u64), answers.ready(room, work_size as u64));
             let expected = match (work_size / 8, room) {
-                (rows @ 0..=7, _) => [8, rows as u32, 0, 2 + rows as u32],
-                (_, 0..=9) => [19, 8, 0, 10],
-                _ => [0, 9, 1, 10],
+                (rows @ 0..=7, _) => [8, rows as u32, 0, 2 + rows as u32, 0],
+                (_, 0..=9) => [19, 8, 0, 10, 0],
+                _ => [0, 9, 1, 10, 0],
             };
             assert_eq!(outcome.numbers(), expected, "work {work_size}, answers {room}");
             assert!(work.is_zero() && work.fences_stand(), "work {work_size}, answers {room}");
@@ -90,6 +91,25 @@ fn fences_around_every_length() {
             assert!(answers.untouched_from(written) && answers.fences_stand(), "work {work_size}, answers {room}");
         }
     }
+}
+
+/// A variable three times, a back that drops it, the variable twice, and a back that stops the job: three repeats, of which the first back takes
+/// none away. The outcome is returned through memory: nothing around it is written.
+#[test]
+fn repeats_and_fences_around_the_outcome() {
+    #[repr(C)]
+    struct Fenced {
+        before: u32,
+        outcome: Outcome,
+        behind: [u32; 4],
+    }
+    let (variable, drop_all, wrong) = ([6, 0, 11, 0, 1, 0, 0, 0], [4, 0, 101, 0, 2, 0], [4, 0, 101, 0, 9, 0]);
+    let job = [&variable[..], &variable, &variable, &drop_all, &variable, &variable, &wrong].concat();
+    let (mut work, mut answers) = ([0xEE; 64], [0xDD; 10]);
+    let mut fenced = Fenced { before: 7, outcome: Outcome::default(), behind: [7; 4] };
+    fenced.outcome = run_job(&job, &mut work, &mut answers);
+    assert_eq!(fenced.outcome.numbers(), [18, 6, 0, 3, 3]);
+    assert_eq!((fenced.before, fenced.behind), (7, [7; 4]));
 }
 
 /// Slices that begin at odd addresses, and a job with other bytes right behind it.
@@ -107,7 +127,7 @@ fn slices_at_any_address() {
             &mut work[shift + 1..shift + 101],
             &mut answers[shift + 3..shift + 33],
         );
-        assert_eq!(outcome.numbers(), [0, 9, 1, 10]);
+        assert_eq!(outcome.numbers(), [0, 9, 1, 10, 0]);
         assert_eq!(job, before);
         for (k, byte) in work.iter().enumerate() {
             assert_eq!(*byte, if (shift + 1..shift + 101).contains(&k) { 0 } else { 0xEE });

@@ -23,7 +23,10 @@ fn stored_jobs() {
         let outcome = run_job(&job, work.ready(work_size, k as u64), answers.ready(room, 3 * k as u64));
         let written = 10 * outcome.answers as usize;
         let hex: String = answers.bytes()[..written].iter().map(|byte| format!("{byte:02x}")).collect();
-        let found = format!("{} {} {} {} {hex}", outcome.stop, outcome.records, outcome.answers, outcome.terms);
+        let found = format!(
+            "{} {} {} {} {} {hex}",
+            outcome.stop, outcome.records, outcome.answers, outcome.terms, outcome.repeats
+        );
         assert_eq!(found.trim_end(), expected.trim_end(), "line {}", k + 1);
         assert!(work.is_zero() && work.fences_stand(), "line {}", k + 1);
         assert!(answers.untouched_from(written) && answers.fences_stand(), "line {}", k + 1);

@@ -28,6 +28,7 @@ pub struct Outcome {
     pub records: usize,
     pub answers: usize,
     pub terms: usize,
+    pub repeats: usize,
 }
 
 /// A term of the plain list.
@@ -112,7 +113,7 @@ pub fn run(job: &[u8], work: &mut [u8], answers: &mut [u8]) -> Outcome {
 /// The same with lengths only; `on_step` gets every answered step in order.
 pub fn run_traced(job: &[u8], work: usize, room: usize, mut on_step: impl FnMut(Step)) -> Outcome {
     let mut list = List::new();
-    let mut done = Outcome { stop: 0, records: 0, answers: 0, terms: 2 };
+    let mut done = Outcome { stop: 0, records: 0, answers: 0, terms: 2, repeats: 0 };
     if job.len() > MAX_JOB {
         done.stop = 2;
         return done;
@@ -202,6 +203,8 @@ fn record(
                 let term = rust_term(list, kind, &args, &numbers);
                 list.by_bytes.insert(bytes.to_vec(), count);
                 list.terms.push(Kept { record: bytes.to_vec(), sort, depth, term });
+            } else {
+                done.repeats += 1;
             }
         }
     }
@@ -423,8 +426,8 @@ pub fn expect_text(job: &[u8], work: usize, room: usize) -> (String, Outcome, Ve
     answers.truncate(written);
     let hex: String = answers.iter().map(|b| format!("{:02x}", b)).collect();
     let text = format!(
-        "work {}\nroom {}\nstop {}\nrecords {}\nanswers {}\nterms {}\nbytes {}\n",
-        work, room, out.stop, out.records, out.answers, out.terms, hex
+        "work {}\nroom {}\nstop {}\nrecords {}\nanswers {}\nterms {}\nrepeats {}\nbytes {}\n",
+        work, room, out.stop, out.records, out.answers, out.terms, out.repeats, hex
     );
     (text, out, answers)
 }
@@ -441,5 +444,5 @@ pub fn bbcheck(job: &[u8]) -> String {
         place += 1;
         lines += &format!("{} {} {} {}\n", place, s.rule, s.code, s.depth);
     });
-    format!("steps {} terms {} stop {}\n{}", out.answers, out.terms, out.stop, lines)
+    format!("steps {} terms {} repeats {} stop {}\n{}", out.answers, out.terms, out.repeats, out.stop, lines)
 }

@@ -52,16 +52,16 @@ fn two(w: usize) -> Two {
 #[test]
 fn hex_specimen() {
     let bytes = hex(cases::SPECIMEN);
-    assert_eq!(job::bbcheck(&bytes), "steps 1 terms 10 stop 0\n1 9 0 2\n");
+    assert_eq!(job::bbcheck(&bytes), "steps 1 terms 10 repeats 0 stop 0\n1 9 0 2\n");
     let (text, out, _) = expect_text(&bytes, 64, 10);
-    assert_eq!(out, Outcome { stop: 0, records: 9, answers: 1, terms: 10 });
+    assert_eq!(out, Outcome { stop: 0, records: 9, answers: 1, terms: 10, repeats: 0 });
     assert!(text.ends_with("bytes 0800c800090000000200\n"));
 }
 
 #[test]
 fn bbcheck_limits() {
-    assert_eq!(job::bbcheck(&[]), "steps 0 terms 2 stop 0\n");
-    assert_eq!(job::bbcheck(&vec![0; 65_536]), "steps 0 terms 2 stop 3\n");
+    assert_eq!(job::bbcheck(&[]), "steps 0 terms 2 repeats 0 stop 0\n");
+    assert_eq!(job::bbcheck(&vec![0; 65_536]), "steps 0 terms 2 repeats 0 stop 3\n");
     assert_eq!(job::bbcheck(&vec![0; 65_537]), "too long\n");
     // 8,192 rows of work
     let mut m = Maker::new(0);
@@ -69,14 +69,14 @@ fn bbcheck_limits() {
         let v = m.bool_var(n);
         m.emit(&v);
     }
-    assert_eq!(job::bbcheck(&m.bytes), "steps 0 terms 8194 stop 8\n");
+    assert_eq!(job::bbcheck(&m.bytes), "steps 0 terms 8194 repeats 0 stop 8\n");
     // 6,553 answers
     let mut m = Maker::new(0);
     for _ in 0..6_554 {
         m.step(1, &[0]);
     }
     let text = job::bbcheck(&m.bytes);
-    assert!(text.starts_with("steps 6553 terms 2 stop 19\n1 1 11 0\n"));
+    assert!(text.starts_with("steps 6553 terms 2 repeats 0 stop 19\n1 1 11 0\n"));
 }
 
 #[test]
@@ -147,7 +147,7 @@ fn specimens_table_values() {
 #[test]
 fn codes_table() {
     let (_, out) = answers(&vec![0; 16_777_217]);
-    assert_eq!(out, Outcome { stop: 2, records: 0, answers: 0, terms: 2 });
+    assert_eq!(out, Outcome { stop: 2, records: 0, answers: 0, terms: 2, repeats: 0 });
     assert_eq!(stop("06 00 0B"), 3);
     assert_eq!(stop("02 00 63 00"), 4);
     assert_eq!(stop("06 00 14 00 00 00 01 00"), 5);
@@ -217,11 +217,11 @@ fn order_of_tests() {
     // a repeated record needs no memory
     let twice = hex("04 00 0A 00 07 00 04 00 0A 00 07 00");
     let out = expect_text(&twice, 8, 0).1;
-    assert_eq!(out, Outcome { stop: 0, records: 2, answers: 0, terms: 3 });
+    assert_eq!(out, Outcome { stop: 0, records: 2, answers: 0, terms: 3, repeats: 1 });
     // back: space is used again, and the number stands for another term
     let again = hex("04 00 0A 00 07 00 04 00 65 00 02 00 04 00 0A 00 08 00 04 00 14 00 02 00");
     let out = expect_text(&again, 15, 0).1;
-    assert_eq!(out, Outcome { stop: 8, records: 3, answers: 0, terms: 3 });
+    assert_eq!(out, Outcome { stop: 8, records: 3, answers: 0, terms: 3, repeats: 0 });
     // rule 1: 14 wins over 15 also where the wrong bit is lower
     let mut m = Maker::new(0);
     let c = m.constant(2, 0);

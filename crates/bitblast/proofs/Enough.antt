@@ -13,7 +13,7 @@ use borrow.Author.Tests.{le-leb}
 use Rattle.theory.specs.Limit.{max-job, max-terms, first-terms, term-bytes}
 use Rattle.theory.specs.Term.{Term}
 use Rattle.theory.specs.Record.{Bytes, extent, whole, cut, records-of, ending, Item, term, step, chain, back, unknown, misfit, read}
-use Rattle.theory.specs.Plain.{Plain, entry, start, term-of, has, put, feed-item, feed}
+use Rattle.theory.specs.Plain.{Plain, entry, start, term-of, has, put, feed-item, feed, repeat-of}
 use Rattle.theory.specs.Codes.{first-fault, all-below, well-sorted, room, tests, fault}
 use Rattle.theory.specs.Answer.{Answer}
 use Rattle.theory.specs.Chain.{Earlier}
@@ -79,16 +79,16 @@ by-fault : (c : ℕ) {x y : Outcome} (f : ℕ → Outcome) → x ≡ y
 by-fault zero f e = e
 by-fault (suc code) f e = refl
 
-run-from-same : (more less space end : ℕ) → less ≤ more → (rs : List Bytes) (done : ℕ) (earlier : Earlier) (list : Plain) (given : List Answer)
-    → term-bytes * (length list + length rs - first-terms) ≤ less → run-from less space end done earlier list given rs ≡ run-from more space end done earlier list given rs
+run-from-same : (more less space end : ℕ) → less ≤ more → (rs : List Bytes) (done repeats : ℕ) (earlier : Earlier) (list : Plain) (given : List Answer)
+    → term-bytes * (length list + length rs - first-terms) ≤ less → run-from less space end done repeats earlier list given rs ≡ run-from more space end done repeats earlier list given rs
 unfolding run-from
-run-from-same more less space end k [] done earlier list given h = refl
-run-from-same more less space end k (r ∷ rs) done earlier list given h =
+run-from-same more less space end k [] done repeats earlier list given h = refl
+run-from-same more less space end k (r ∷ rs) done repeats earlier list given h =
     let s = feed-short list r in
-    let stop : ℕ → Outcome = λ code. outcome (suc code) done given list in
-    ap (λ (c : ℕ). elim c as (λ w. Outcome) [ zero ↦ run-from less space end (suc done) (recall earlier list r) (feed list r) (given ++ answers-to earlier list r) rs | suc code ↦ stop code ])
+    let stop : ℕ → Outcome = λ code. outcome (suc code) done repeats given list in
+    ap (λ (c : ℕ). elim c as (λ w. Outcome) [ zero ↦ run-from less space end (suc done) (repeats + repeat-of list r) (recall earlier list r) (feed list r) (given ++ answers-to earlier list r) rs | suc code ↦ stop code ])
     (fault-same more less space list (length given) r (room-same more less list (omega arith) k))
-    ∙ by-fault (fault more space list (length given) r) stop (run-from-same more less space end k rs (suc done) (recall earlier list r) (feed list r) (given ++ answers-to earlier list r) (omega arith))
+    ∙ by-fault (fault more space list (length given) r) stop (run-from-same more less space end k rs (suc done) (repeats + repeat-of list r) (recall earlier list r) (feed list r) (given ++ answers-to earlier list r) (omega arith))
 
 by-length : (b : Bool) {x y : Outcome} (z : Outcome) → x ≡ y
     → _≡_ {A = Outcome} (elim b as (λ w. Outcome) [ true ↦ x | false ↦ z ]) (elim b as (λ w. Outcome) [ true ↦ y | false ↦ z ])
@@ -100,7 +100,7 @@ run-same : (job : Bytes) (more less space : ℕ) → less ≤ more → 4 * lengt
 unfolding run
 run-same job more less space k h =
     let f = few-cut (length job) job in
-    by-length (leb (length job) max-job) (outcome 2 0 [] start) (run-from-same more less space (ending job) k (records-of job) 0 [] start [] (omega arith))
+    by-length (leb (length job) max-job) (outcome 2 0 0 [] start) (run-from-same more less space (ending job) k (records-of job) 0 0 [] start [] (omega arith))
 
 -- the first bytes of a work memory, where they are enough
 pub run-enough : (job work : Bytes) (used space : ℕ) → Enough (length job) (length work) used → run job (length (take used work)) space ≡ run job (length work) space

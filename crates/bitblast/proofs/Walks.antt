@@ -1,6 +1,6 @@
 -- The walk over the records: what holds between two of them, and where the job stops.
 use mathlib.Core.Path.{_≡_, refl, sym, ap, ap₂, subst, subst₂, _∙_}
-use mathlib.Core.Bool.{Bool, true, false}
+use mathlib.Core.Bool.{Bool, true, false, cond}
 use mathlib.Core.Logic.{_⊎_, inl, inr, ⊎-elim}
 use mathlib.Core.List.{List, [], _∷_, _++_, append-nil}
 use Prim.Native.Nat.{ℕ, zero, suc, _+_, _-_, _*_, _<_, _≤_}
@@ -11,8 +11,8 @@ use lib.ListN.{length, drop, length-drop, length-append, length-map}
 use lib.Seq.{drop-drop, length-take-le}
 use borrow.Author.Tests.{le-leb, lt-leb}
 use Rattle.theory.specs.Limit.{first-terms, max-job, answer-bytes}
-use Rattle.theory.specs.Record.{Bytes, extent, whole, records-of, total-length, ending, read}
-use Rattle.theory.specs.Plain.{Plain, start, feed}
+use Rattle.theory.specs.Record.{Bytes, extent, whole, records-of, total-length, ending, Item, term, step, chain, back, unknown, misfit, read}
+use Rattle.theory.specs.Plain.{Plain, start, feed, has, repeat-item, repeat-of}
 use Rattle.theory.specs.Codes.{fault}
 use Rattle.theory.specs.Answer.{Answer}
 use Rattle.theory.specs.Chain.{Earlier}
@@ -34,40 +34,64 @@ use Rattle.steps.proofs.Writing.{Note, written-fits, one-answer}
 use Rattle.bitblast.proofs.Notes.{answers-of, at-record, notes-after, answers-more, notes-more, notes-sealed, marks-more, places-more}
 use Rattle.bitblast.proofs.Positions.{records-whole, records-broken, none-left, ends-whole, ends-broken}
 
+-- ---- a record is one repeat or none
+one-item : (list : Plain) (r : Bytes) (i : Item) → repeat-item list r i ≤ 1
+one-item list r (term o ks) = go (has list r)
+  where
+    go : (b : Bool) → cond b 1 0 ≤ 1
+    go true = omega arith
+    go false = omega arith
+one-item list r (step n ks) = omega arith
+one-item list r (chain n ps k) = omega arith
+one-item list r (back n) = omega arith
+one-item list r unknown = omega arith
+one-item list r misfit = omega arith
+
+one-repeat : (list : Plain) (r : Bytes) → repeat-of list r ≤ 1
+unfolding repeat-of
+one-repeat list r = one-item list r (read r)
+
+pub turn-repeats : {job work answers work′ answers′ : Bytes} {rows answered at : ℕ} {t : Turn} → Turned job work answers rows answered at work′ answers′ t → t .repeats ≤ 1
+turn-repeats {job} {work} {answers} {work′} {answers′} {rows} {answered} {at} {t} h = subst (λ (n : ℕ). n ≤ 1) (sym (h .repeats-is)) (go (t .code))
+  where
+    go : (c : ℕ) → passed c (repeat-of (listed job work rows) (record-at job at)) 0 ≤ 1
+    go zero = one-repeat (listed job work rows) (record-at job at)
+    go (suc c) = omega arith
+
 -- ---- the run, record by record
-module _ (work space end done : ℕ) (earlier : Earlier) (list : Plain) (answers : List Answer) where
+module _ (work space end done repeats : ℕ) (earlier : Earlier) (list : Plain) (answers : List Answer) where
   -- what it comes to with one more record, by the record's code
   abbrev by-code : Bytes → List Bytes → ℕ → Outcome
   by-code r rs f =
       elim f as (λ z. Outcome) [
-        | zero ↦ run-from work space end (suc done) (recall earlier list r) (feed list r) (answers ++ answers-to earlier list r) rs
-        | suc code ↦ outcome (suc code) done answers list
+        | zero ↦ run-from work space end (suc done) (repeats + repeat-of list r) (recall earlier list r) (feed list r) (answers ++ answers-to earlier list r) rs
+        | suc code ↦ outcome (suc code) done repeats answers list
       ]
 
   -- one more record
   run-record : (r : Bytes) (rs : List Bytes) {f : ℕ} → fault work space list (length answers) r ≡ f
-      → run-from work space end done earlier list answers (r ∷ rs) ≡ by-code r rs f
+      → run-from work space end done repeats earlier list answers (r ∷ rs) ≡ by-code r rs f
   unfolding run-from
   run-record r rs e = ap (by-code r rs) e
 
   -- no record is left
-  run-ends : {rs : List Bytes} → rs ≡ [] → run-from work space end done earlier list answers rs ≡ outcome end done answers list
+  run-ends : {rs : List Bytes} → rs ≡ [] → run-from work space end done repeats earlier list answers rs ≡ outcome end done repeats answers list
   unfolding run-from
-  run-ends e = ap (run-from work space end done earlier list answers) e
+  run-ends e = ap (run-from work space end done repeats earlier list answers) e
 
 -- the run, by the test of the job's length
 module _ (job : Bytes) (work space : ℕ) where
   by-length : {b : Bool} → leb (length job) max-job ≡ b
-      → run job work space ≡ elim b as (λ z. Outcome) [ true ↦ run-from work space (ending job) 0 [] start [] (records-of job) | false ↦ outcome 2 0 [] start ]
+      → run job work space ≡ elim b as (λ z. Outcome) [ true ↦ run-from work space (ending job) 0 0 [] start [] (records-of job) | false ↦ outcome 2 0 0 [] start ]
   unfolding run
-  by-length e = ap (λ (b : Bool). elim b as (λ z. Outcome) [ true ↦ run-from work space (ending job) 0 [] start [] (records-of job) | false ↦ outcome 2 0 [] start ]) e
+  by-length e = ap (λ (b : Bool). elim b as (λ z. Outcome) [ true ↦ run-from work space (ending job) 0 0 [] start [] (records-of job) | false ↦ outcome 2 0 0 [] start ]) e
 
   -- a job that is not too long
-  run-short : length job ≤ max-job → run job work space ≡ run-from work space (ending job) 0 [] start [] (records-of job)
+  run-short : length job ≤ max-job → run job work space ≡ run-from work space (ending job) 0 0 [] start [] (records-of job)
   run-short h = by-length (le-leb (length job) max-job h)
 
   -- a job that is too long
-  pub run-long : max-job < length job → run job work space ≡ outcome 2 0 [] start
+  pub run-long : max-job < length job → run job work space ≡ outcome 2 0 0 [] start
   run-long h = by-length (lt-leb (length job) max-job h)
 
 -- ---- what holds between two records
@@ -83,6 +107,7 @@ pub record Holding (job : Bytes) (size : ℕ) (old work answers : Bytes) (s : St
   pub within : s .at ≤ length job
   pub few : s .records ≤ s .at
   pub fewer : s .answers ≤ s .records
+  pub rarer : s .repeats ≤ s .records
 
 -- the run goes on from here with the records that are left, and those before are the bytes before
 pub record Between (job : Bytes) (size : ℕ) (old work answers : Bytes) (s : State) : Type 0 where
@@ -91,13 +116,13 @@ pub record Between (job : Bytes) (size : ℕ) (old work answers : Bytes) (s : St
   pub tracks : Tracks (s .at) (origins work (s .rows)) (marks-in job answers (s .answers)) (earlier-in job work answers (s .rows) (s .answers)) (listed job work (s .rows))
   pub before : total-length (records-of job) ≡ s .at + total-length (records-of (drop (s .at) job))
   pub leads : run job size (length old)
-      ≡ run-from size (length old) (ending job) (s .records) (earlier-in job work answers (s .rows) (s .answers)) (listed job work (s .rows)) (answers-of given) (records-of (drop (s .at) job))
+      ≡ run-from size (length old) (ending job) (s .records) (s .repeats) (earlier-in job work answers (s .rows) (s .answers)) (listed job work (s .rows)) (answers-of given) (records-of (drop (s .at) job))
 
 -- the run ends here
 pub record Stopped (job : Bytes) (size : ℕ) (old work answers : Bytes) (s : State) : Type 0 where
   pub given : List Note
   pub holding : Holding job size old work answers s given
-  pub ended : run job size (length old) ≡ outcome (s .stop) (s .records) (answers-of given) (listed job work (s .rows))
+  pub ended : run job size (length old) ≡ outcome (s .stop) (s .records) (s .repeats) (answers-of given) (listed job work (s .rows))
 
 -- before the first record no step is there, and `true` and `false` are the only terms
 none-earlier : (job work answers : Bytes) → earlier-in job work answers 0 0 ≡ []
@@ -110,7 +135,7 @@ unfolding marks-in origins offsets column
 start-tracks {job} {work} {after} old h s = subst (Tracks 0 (0 ∷ 0 ∷ []) [] []) (sym (s .listed-is)) tracks-start
 
 -- at the first record
-pub begins : {job work after : Bytes} (old : Bytes) → length job ≤ max-job → Started job work after → Between job (length after) old after old (state 0 0 0 0 0)
+pub begins : {job work after : Bytes} (old : Bytes) → length job ≤ max-job → Started job work after → Between job (length after) old after old (state 0 0 0 0 0 0)
 begins {job} {work} {after} old h s = record {
   given = [];
   tracks = start-tracks old h s;
@@ -125,10 +150,11 @@ begins {job} {work} {after} old h s = record {
     within = omega arith;
     few = omega arith;
     fewer = omega arith;
+    rarer = omega arith;
   };
   before = omega arith;
   leads = run-short job (length after) (length old) h
-      ∙ ap₂ (λ (earlier : Earlier) (list : Plain). run-from (length after) (length old) (ending job) 0 earlier list [] (records-of job)) (sym (none-earlier job after old)) (sym (s .listed-is));
+      ∙ ap₂ (λ (earlier : Earlier) (list : Plain). run-from (length after) (length old) (ending job) 0 0 earlier list [] (records-of job)) (sym (none-earlier job after old)) (sym (s .listed-is));
 }
 
 -- what the next record may take for granted
@@ -137,14 +163,14 @@ standing b =
     let h = b .holding in
     let l = h .same-answers in
     let r = h .roomy in
-    record { noted = record { store = h .store; roomy = omega arith; places = h .places }; counted = h .few }
+    record { noted = record { store = h .store; roomy = omega arith; places = h .places }; counted = h .few; repeated = h .rarer }
 
 -- no record is left: the run ends with the ending's code
 last : {job old work answers : Bytes} {size : ℕ} {s : State} (b : Between job size old work answers s) → records-of (drop (s .at) job) ≡ [] → {c : ℕ} → ending job ≡ c
-    → run job size (length old) ≡ outcome c (s .records) (answers-of (b .given)) (listed job work (s .rows))
+    → run job size (length old) ≡ outcome c (s .records) (s .repeats) (answers-of (b .given)) (listed job work (s .rows))
 last {job} {old} {work} {answers} {size} {s} b none e =
-    b .leads ∙ run-ends size (length old) (ending job) (s .records) (earlier-in job work answers (s .rows) (s .answers)) (listed job work (s .rows)) (answers-of (b .given)) none
-    ∙ ap (λ (x : ℕ). outcome x (s .records) (answers-of (b .given)) (listed job work (s .rows))) e
+    b .leads ∙ run-ends size (length old) (ending job) (s .records) (s .repeats) (earlier-in job work answers (s .rows) (s .answers)) (listed job work (s .rows)) (answers-of (b .given)) none
+    ∙ ap (λ (x : ℕ). outcome x (s .records) (s .repeats) (answers-of (b .given)) (listed job work (s .rows))) e
 
 -- the job ends where nothing is left
 pub ends : {job old work answers : Bytes} {size : ℕ} {s : State} → Between job size old work answers s → s .stop ≡ 0 → length job ≤ s .at → Stopped job size old work answers s
@@ -164,11 +190,12 @@ walked {job} {old} {work} {answers} {size} {s} short t {given-size} same =
     let a = h .within in
     let b = h .few in
     let d = h .fewer in
+    let q = h .rarer in
     let f = h .store .table .slots .rows .few in
     let m : length (answers-of (t .given)) ≡ length (t .given) = length-map (t .given) (λ (x : Note). x .1) in
     let y = h .roomy in
     let z = h .same-answers in
-    let e : run job given-size (length old) ≡ outcome (s .stop) (s .records) (answers-of (t .given)) (listed job work (s .rows)) = ap (λ (m : ℕ). run job m (length old)) (sym same) ∙ t .ended in
+    let e : run job given-size (length old) ≡ outcome (s .stop) (s .records) (s .repeats) (answers-of (t .given)) (listed job work (s .rows)) = ap (λ (m : ℕ). run job m (length old)) (sym same) ∙ t .ended in
     let terms : s .rows + first-terms ≡ length (listed job work (s .rows)) = omega arith in
     record {
       result-is = ap₂ (λ (x y : ℕ). told-of x y) (c ∙ sym m) terms ∙ ap returned (sym e);
@@ -177,23 +204,24 @@ walked {job} {old} {work} {answers} {size} {s} short t {given-size} same =
       few-records = omega arith;
       few-answers = omega arith;
       few-terms = omega arith;
+      few-repeats = omega arith;
     }
   where
     told-of : ℕ → ℕ → Returned
-    told-of x y = record { stop = s .stop; records = s .records; answers = x; terms = y }
+    told-of x y = record { stop = s .stop; records = s .records; answers = x; terms = y; repeats = s .repeats }
 
 -- ---- one record: the state after it, by the code
 module _ (size : ℕ) (s : State) (t : Turn) where
   -- past the record
-  pub moved-on : t .code ≡ 0 → {m : ℕ} → m ≡ size → state (s .at + m) 0 (s .records + 1) (t .answers) (t .rows) ≡ moved size s t
+  pub moved-on : t .code ≡ 0 → {m : ℕ} → m ≡ size → state (s .at + m) 0 (s .records + 1) (t .answers) (t .rows) (s .repeats + t .repeats) ≡ moved size s t
   moved-on e {m} f = rw (f, e)
 
   -- stopped at it
-  pub moved-not : (t .code ≡ 0 → ⊥) → state (s .at) (t .code) (s .records) (t .answers) (t .rows) ≡ moved size s t
+  pub moved-not : (t .code ≡ 0 → ⊥) → state (s .at) (t .code) (s .records) (t .answers) (t .rows) (s .repeats) ≡ moved size s t
   moved-not h = go (t .code) h
     where
-      go : (c : ℕ) → (c ≡ 0 → ⊥) → state (s .at) c (s .records) (t .answers) (t .rows)
-          ≡ passed c (state (s .at + size) 0 (s .records + 1) (t .answers) (t .rows)) (state (s .at) c (s .records) (t .answers) (t .rows))
+      go : (c : ℕ) → (c ≡ 0 → ⊥) → state (s .at) c (s .records) (t .answers) (t .rows) (s .repeats)
+          ≡ passed c (state (s .at + size) 0 (s .records + 1) (t .answers) (t .rows) (s .repeats + t .repeats)) (state (s .at) c (s .records) (t .answers) (t .rows) (s .repeats))
       go zero k = absurd (k refl)
       go (suc c) k = refl
 
@@ -201,13 +229,13 @@ module _ {job old work answers : Bytes} {size : ℕ} {s : State} (b : Between jo
     (lw : length work′ ≡ length work) (la : length answers′ ≡ length answers) where
   -- no whole record: code 3
   broke : whole (drop (s .at) job) ≡ false → work′ ≡ work → answers′ ≡ answers
-      → Stopped job size old work′ answers′ (state (s .at) 3 (s .records) (s .answers) (s .rows))
+      → Stopped job size old work′ answers′ (state (s .at) 3 (s .records) (s .answers) (s .rows) (s .repeats))
   broke w p q =
       let h = b .holding in
       let none : records-of (drop (s .at) job) ≡ [] = records-broken (drop (s .at) job) w in
       let total : total-length (records-of job) ≡ s .at + 0 = b .before ∙ ap (λ (rs : List Bytes). s .at + total-length rs) none in
-      subst (λ (x : Bytes). Stopped job size old x answers′ (state (s .at) 3 (s .records) (s .answers) (s .rows))) (sym p)
-      (subst (λ (x : Bytes). Stopped job size old work x (state (s .at) 3 (s .records) (s .answers) (s .rows))) (sym q) (record {
+      subst (λ (x : Bytes). Stopped job size old x answers′ (state (s .at) 3 (s .records) (s .answers) (s .rows) (s .repeats))) (sym p)
+      (subst (λ (x : Bytes). Stopped job size old work x (state (s .at) 3 (s .records) (s .answers) (s .rows) (s .repeats))) (sym q) (record {
         given = b .given;
         holding = record {
           store = h .store;
@@ -220,6 +248,7 @@ module _ {job old work answers : Bytes} {size : ℕ} {s : State} (b : Between jo
           within = h .within;
           few = h .few;
           fewer = h .fewer;
+          rarer = h .rarer;
         };
         ended = last b none (ends-broken job (omega arith));
       }))
@@ -242,8 +271,8 @@ module _ {job old work answers : Bytes} {size : ℕ} {s : State} (b : Between jo
 
   module _ (w : whole (drop (s .at) job) ≡ true) (t : Turn) (turned : Turned job work answers (s .rows) (s .answers) (s .at) work′ answers′ t) where
     -- it is the run's next record
-    here : run job size (length old) ≡ run-from size (length old) (ending job) (s .records) E list (answers-of (b .given)) (r ∷ left)
-    here = b .leads ∙ ap (run-from size (length old) (ending job) (s .records) E list (answers-of (b .given))) (records-whole (drop (s .at) job) w)
+    here : run job size (length old) ≡ run-from size (length old) (ending job) (s .records) (s .repeats) E list (answers-of (b .given)) (r ∷ left)
+    here = b .leads ∙ ap (run-from size (length old) (ending job) (s .records) (s .repeats) E list (answers-of (b .given))) (records-whole (drop (s .at) job) w)
 
     -- as many answers as the code counts
     counts : s .answers ≡ length (answers-of (b .given))
@@ -304,9 +333,9 @@ module _ {job old work answers : Bytes} {size : ℕ} {s : State} (b : Between jo
       room : answer-bytes * s .answers ≤ length answers
       room = let x = b .holding .same-answers in let y = b .holding .roomy in omega arith
 
-      held : (at records : ℕ) (stop : ℕ) → at ≤ length job → records ≤ at → t .answers ≤ records
-          → Holding job size old work′ answers′ (state at stop records (t .answers) (t .rows)) (b .given ++ at-record (s .at) new)
-      held at records stop p q o =
+      held : (at records repeats : ℕ) (stop : ℕ) → at ≤ length job → records ≤ at → t .answers ≤ records → repeats ≤ records
+          → Holding job size old work′ answers′ (state at stop records (t .answers) (t .rows) repeats) (b .given ++ at-record (s .at) new)
+      held at records repeats stop p q o v =
           let h = b .holding in
           record {
             store = turned .store;
@@ -320,6 +349,7 @@ module _ {job old work answers : Bytes} {size : ℕ} {s : State} (b : Between jo
             within = p;
             few = q;
             fewer = o;
+            rarer = v;
           }
 
     -- no code: the run goes on after the record
@@ -342,7 +372,11 @@ module _ {job old work answers : Bytes} {size : ℕ} {s : State} (b : Between jo
         (subst₂ (λ (o : List ℕ) (m : List Mark). Tracks (s .at + n) o m (recall E list r) (feed list r)) os ms
         (tracks-next size (length old) (length (answers-of (b .given))) (s .at) (s .at + n) r (origins work (s .rows)) (marks-in job answers (s .answers)) E list (b .tracks) (omega arith) f))
 
-    took : t .code ≡ 0 → Between job size old work′ answers′ (state (s .at + n) 0 (s .records + 1) (t .answers) (t .rows))
+    -- the repeats that it adds
+    counted-repeats : t .code ≡ 0 → t .repeats ≡ repeat-of list r
+    counted-repeats e = turned .repeats-is ∙ ap (λ (x : ℕ). passed x (repeat-of list r) 0) e
+
+    took : t .code ≡ 0 → Between job size old work′ answers′ (state (s .at + n) 0 (s .records + 1) (t .answers) (t .rows) (s .repeats + t .repeats))
     took e =
         let h = b .holding in
         let st = stands job (s .at) w in
@@ -350,6 +384,9 @@ module _ {job old work answers : Bytes} {size : ℕ} {s : State} (b : Between jo
         let q = st .end in
         let f = h .few in
         let o = h .fewer in
+        let y = h .rarer in
+        let x = counted-repeats e in
+        let z = one-repeat list r in
         let k = count 0 e in
         let u = few-new 0 e in
         let d : drop n (drop (s .at) job) ≡ drop (s .at + n) job = drop-drop n (s .at) job in
@@ -357,30 +394,33 @@ module _ {job old work answers : Bytes} {size : ℕ} {s : State} (b : Between jo
         record {
           given = b .given ++ at-record (s .at) (answers-to E list r);
           tracks = subst (λ (x : Earlier). Tracks (s .at + n) (origins work′ (t .rows)) (marks-in job answers′ (t .answers)) x (listed job work′ (t .rows))) (tracked e .is) (tracked e);
-          holding = held 0 e (s .at + n) (s .records + 1) 0 (omega arith) (omega arith) (omega arith);
+          holding = held 0 e (s .at + n) (s .records + 1) (s .repeats + t .repeats) 0 (omega arith) (omega arith) (omega arith) (omega arith);
           before = b .before ∙ ap (λ (rs : List Bytes). s .at + total-length rs) (records-whole (drop (s .at) job) w)
               ∙ ap (λ (m : ℕ). s .at + (m + total-length left)) len ∙ ap (λ (bs : Bytes). s .at + (n + total-length (records-of bs))) d ∙ omega arith;
-          leads = here ∙ run-record size (length old) (ending job) (s .records) E list (answers-of (b .given)) r left (test ∙ e)
-              ∙ ap₂ (λ (x : Earlier) (l : Plain). run-from size (length old) (ending job) (suc (s .records)) x l (answers-of (b .given) ++ answers-to E list r) left)
+          leads = here ∙ run-record size (length old) (ending job) (s .records) (s .repeats) E list (answers-of (b .given)) r left (test ∙ e)
+              ∙ ap₂ (λ (x : Earlier) (l : Plain). run-from size (length old) (ending job) (suc (s .records)) (s .repeats + repeat-of list r) x l (answers-of (b .given) ++ answers-to E list r) left)
               (tracked e .is) (sym (turned .listed-is ∙ ap (λ (x : ℕ). passed x (feed list r) list) e))
-              ∙ ap (λ (xs : List Answer). run-from size (length old) (ending job) (suc (s .records)) (earlier-in job work′ answers′ (t .rows) (t .answers)) (listed job work′ (t .rows)) xs left)
+              ∙ ap (λ (xs : List Answer). run-from size (length old) (ending job) (suc (s .records)) (s .repeats + repeat-of list r) (earlier-in job work′ answers′ (t .rows) (t .answers)) (listed job work′ (t .rows)) xs left)
               (sym (answers-more (b .given) (s .at) (answers-to E list r)))
-              ∙ ap₂ (λ (m : ℕ) (bs : Bytes). run-from size (length old) (ending job) m (earlier-in job work′ answers′ (t .rows) (t .answers)) (listed job work′ (t .rows))
+              ∙ ap₂ (λ (m : ℕ) (bs : Bytes). run-from size (length old) (ending job) m (s .repeats + repeat-of list r) (earlier-in job work′ answers′ (t .rows) (t .answers)) (listed job work′ (t .rows))
               (answers-of (b .given ++ at-record (s .at) (answers-to E list r))) (records-of bs))
-              (sym (add-one (s .records))) d;
+              (sym (add-one (s .records))) d
+              ∙ ap (λ (i : ℕ). run-from size (length old) (ending job) (s .records + 1) (s .repeats + i) (earlier-in job work′ answers′ (t .rows) (t .answers)) (listed job work′ (t .rows))
+              (answers-of (b .given ++ at-record (s .at) (answers-to E list r))) (records-of (drop (s .at + n) job)))
+              (sym (counted-repeats e));
         }
 
     -- a code: the run stops at the record
-    halted : (c : ℕ) → t .code ≡ suc c → Stopped job size old work′ answers′ (state (s .at) (suc c) (s .records) (t .answers) (t .rows))
+    halted : (c : ℕ) → t .code ≡ suc c → Stopped job size old work′ answers′ (state (s .at) (suc c) (s .records) (t .answers) (t .rows) (s .repeats))
     halted c e =
         let h = b .holding in
         let o = h .fewer in
         let k = count (suc c) e in
         record {
           given = b .given ++ [];
-          holding = held (suc c) e (s .at) (s .records) (suc c) (h .within) (h .few) (omega arith);
-          ended = here ∙ run-record size (length old) (ending job) (s .records) E list (answers-of (b .given)) r left (test ∙ e)
-              ∙ ap₂ (outcome (suc c) (s .records)) (ap answers-of (sym (append-nil (b .given)))) (sym (turned .listed-is ∙ ap (λ (x : ℕ). passed x (feed list r) list) e));
+          holding = held (suc c) e (s .at) (s .records) (s .repeats) (suc c) (h .within) (h .few) (omega arith) (h .rarer);
+          ended = here ∙ run-record size (length old) (ending job) (s .records) (s .repeats) E list (answers-of (b .given)) r left (test ∙ e)
+              ∙ ap₂ (outcome (suc c) (s .records) (s .repeats)) (ap answers-of (sym (append-nil (b .given)))) (sym (turned .listed-is ∙ ap (λ (x : ℕ). passed x (feed list r) list) e));
         }
 
   -- the next state: it has no code and stands further on, between two records, or it has one and the run ends there
@@ -393,7 +433,7 @@ module _ {job old work answers : Bytes} {size : ℕ} {s : State} (b : Between jo
   after (taken w t turned e) = subst After (sym e) (go (t .code) refl)
     where
       go : (c : ℕ) → t .code ≡ c
-          → After (passed c (state (s .at + n) 0 (s .records + 1) (t .answers) (t .rows)) (state (s .at) c (s .records) (t .answers) (t .rows)))
+          → After (passed c (state (s .at + n) 0 (s .records + 1) (t .answers) (t .rows) (s .repeats + t .repeats)) (state (s .at) c (s .records) (t .answers) (t .rows) (s .repeats)))
       go zero f = inl (refl, (took w t turned f, omega arith))
       go (suc c) f = inr (λ z. omega arith, halted w t turned c f)
 

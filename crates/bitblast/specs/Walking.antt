@@ -15,29 +15,32 @@ use Rattle.records.specs.Turning.{passed, Turned}
 
 -- what the host is told
 abbrev pub told : Outcome → Returned
-told o = record { stop = o .stop; records = o .records; answers = o .answers; terms = o .terms }
+told o = record { stop = o .stop; records = o .records; answers = o .answers; terms = o .terms; repeats = o .repeats }
 
 -- a state by its parts
-abbrev pub state : ℕ → ℕ → ℕ → ℕ → ℕ → State
-state at stop records answers rows = record { at = at; stop = stop; records = records; answers = answers; rows = rows }
+abbrev pub state : ℕ → ℕ → ℕ → ℕ → ℕ → ℕ → State
+state at stop records answers rows repeats = record { at = at; stop = stop; records = records; answers = answers; rows = rows; repeats = repeats }
 
 -- what the host would be told if the job ended here
 abbrev pub reached : State → Returned
-reached s = record { stop = s .stop; records = s .records; answers = s .answers; terms = s .rows + first-terms }
+reached s = record { stop = s .stop; records = s .records; answers = s .answers; terms = s .rows + first-terms; repeats = s .repeats }
 
--- the terms are kept, the answers have room and hold the places of their steps' records, and no more records are done than bytes passed
+-- the terms are kept, the answers have room and hold the places of their steps' records, no more records are done than bytes passed, and no more repeats
+-- met than records
 pub record Standing (job work answers : Bytes) (s : State) : Type 0 where
   pub noted : Noted job work answers (s .rows) (s .answers)
   pub counted : s .records ≤ s .at
+  pub repeated : s .repeats ≤ s .records
 
 -- past a record of that size, or stopped at it: the record that stops the job is not counted
 abbrev pub moved : ℕ → State → Turn → State
 moved size s t =
-    passed (t .code) (state (s .at + size) 0 (s .records + 1) (t .answers) (t .rows)) (state (s .at) (t .code) (s .records) (t .answers) (t .rows))
+    passed (t .code) (state (s .at + size) 0 (s .records + 1) (t .answers) (t .rows) (s .repeats + t .repeats))
+    (state (s .at) (t .code) (s .records) (t .answers) (t .rows) (s .repeats))
 
 -- no whole record was there, so code 3 stops the job; or one was there, and it was taken
 pub data Next (job work answers : Bytes) (s : State) (work′ answers′ : Bytes) (s′ : State) : Type 0 where
-  broken : whole (drop (s .at) job) ≡ false → work′ ≡ work → answers′ ≡ answers → s′ ≡ state (s .at) 3 (s .records) (s .answers) (s .rows)
+  broken : whole (drop (s .at) job) ≡ false → work′ ≡ work → answers′ ≡ answers → s′ ≡ state (s .at) 3 (s .records) (s .answers) (s .rows) (s .repeats)
       → Next job work answers s work′ answers′ s′
   taken : whole (drop (s .at) job) ≡ true → (t : Turn) → Turned job work answers (s .rows) (s .answers) (s .at) work′ answers′ t
       → s′ ≡ moved (extent (drop (s .at) job)) s t → Next job work answers s work′ answers′ s′
@@ -55,3 +58,4 @@ pub record Walked (job : Bytes) (work : ℕ) (old answers : Bytes) (s : State) :
   pub few-records : s .records ≤ max-job
   pub few-answers : s .answers ≤ max-job
   pub few-terms : s .rows + first-terms ≤ max-terms
+  pub few-repeats : s .repeats ≤ max-job

@@ -16,15 +16,17 @@ use steps::answers::seal;
 pub const MAX_JOB: usize = 16777216;
 
 // The number of the interface. It grows with each change of an exported function, or of a struct that one takes or returns.
-pub const VERSION: u32 = 1;
+pub const VERSION: u32 = 2;
 
-// What a job comes to: the code that stopped it or 0, the records done, the answers written, and the terms kept at the end.
+// What a job comes to: the code that stopped it or 0, the records done, the answers written, the terms kept at the end, and the repeats: the term
+// records done whose term was there already.
 #[repr(C)]
 pub struct Outcome {
     pub stop: u32,
     pub records: u32,
     pub answers: u32,
     pub terms: u32,
+    pub repeats: u32,
 }
 
 // The outcome of a job, and its answers; 2 where the job is too long. The work memory is left as the job used it.
@@ -38,6 +40,7 @@ fn check_job(job: &[u8], work: &mut [u8], answers: &mut [u8]) -> Outcome
             records: 0,
             answers: 0,
             terms: 2,
+            repeats: 0,
         };
     }
     let s = walk(job, work, answers);
@@ -47,6 +50,7 @@ fn check_job(job: &[u8], work: &mut [u8], answers: &mut [u8]) -> Outcome
         records: s.records as u32,
         answers: s.answers as u32,
         terms: (s.rows + rows::FIRST_PLACE) as u32,
+        repeats: s.repeats as u32,
     }
 }
 
@@ -79,7 +83,7 @@ pub extern "C" fn bb_job(job: &[u8], work: &mut [u8], answers: &mut [u8]) -> Out
 // The number of the interface, for a host to compare with the one that it was written for.
 #[no_mangle]
 pub extern "C" fn bb_version() -> u32
-    ensures { λ r. ⌜ r ≡ 1 ⌝ }
+    ensures { λ r. ⌜ r ≡ 2 ⌝ }
 {
     VERSION
 }

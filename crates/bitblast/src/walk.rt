@@ -7,13 +7,15 @@ use records::take_record;
 use terms::Frame;
 use terms::Term;
 
-// Where a job stands: the place of the next record, the code that stopped the job or 0, the records done, the answers written, the rows kept.
+// Where a job stands: the place of the next record, the code that stopped the job or 0, the records done, the answers written, the rows kept,
+// the repeats.
 pub struct State {
     pub at: usize,
     pub stop: u32,
     pub records: usize,
     pub answers: usize,
     pub rows: usize,
+    pub repeats: usize,
 }
 
 // Takes the record where the job stands: 3 where no whole record is there.
@@ -29,6 +31,7 @@ fn next(job: &[u8], work: &mut [u8], answers: &mut [u8], s: State) -> State
             records: s.records,
             answers: s.answers,
             rows: s.rows,
+            repeats: s.repeats,
         };
     };
     let t = take_record(job, work, answers, s.rows, s.answers, at);
@@ -39,6 +42,7 @@ fn next(job: &[u8], work: &mut [u8], answers: &mut [u8], s: State) -> State
             records: s.records,
             answers: t.answers,
             rows: t.rows,
+            repeats: s.repeats,
         };
     }
     State {
@@ -47,6 +51,7 @@ fn next(job: &[u8], work: &mut [u8], answers: &mut [u8], s: State) -> State
         records: s.records + 1,
         answers: t.answers,
         rows: t.rows,
+        repeats: s.repeats + t.repeats,
     }
 }
 
@@ -62,6 +67,7 @@ pub fn walk(job: &[u8], work: &mut [u8], answers: &mut [u8]) -> State
         records: 0,
         answers: 0,
         rows: 0,
+        repeats: 0,
     };
     while s.at < job.len() {
         s = next(job, work, answers, s);

@@ -52,7 +52,7 @@ module _ (input old : Bytes) where
   -- the answers in the memory are the run's, and there is space for their lines
   pub run-shown : (work answers : Bytes) → AllBytes input → length work ≡ memory → length answers ≡ memory → text-space ≤ length old → length input ≤ memory
       → let c = call input work answers in
-      report-text (c .result .stop) (c .result .terms) (c .result .answers) (c .answer-memory) (length old) ≡ shown input (length old)
+      report-text (c .result .stop) (c .result .terms) (c .result .repeats) (c .result .answers) (c .answer-memory) (length old) ≡ shown input (length old)
   unfolding shown report-text
   run-shown work answers bytes w a h l =
       let o = run input (length work) (length answers) in
@@ -64,15 +64,15 @@ module _ (input old : Bytes) where
         le-leb (head-space + n * line-space) (length old) (omega arith),
         le-leb text-space (length old) h,
       )
-      (ap (λ (ls : List Answer). outcome-text (record { stop = o .stop; records = 0; answers = ls; terms = o .terms })) (answers-read input bytes (length work) (length answers) answers)
+      (ap (λ (ls : List Answer). outcome-text (record { stop = o .stop; records = 0; answers = ls; terms = o .terms; repeats = o .repeats })) (answers-read input bytes (length work) (length answers) answers)
       ∙ ap₂ (λ (x y : ℕ). outcome-text (run input x y)) w a ∙ of-run input l)
 
   -- what a job came to, as it is returned and stands in the memory
   pub job-shown : (work answers : Bytes) → AllBytes input → memory ≡ length work → memory ≡ length answers → text-space ≤ length old → length input ≤ memory
       → {q : Returned} {m : Bytes} → q ≡ call input work answers .result → m ≡ call input work answers .answer-memory
-      → report-text (q .stop) (q .terms) (q .answers) m (length old) ≡ shown input (length old)
+      → report-text (q .stop) (q .terms) (q .repeats) (q .answers) m (length old) ≡ shown input (length old)
   job-shown work answers bytes w a h l e f =
-      ap₂ (λ (r : Returned) (n : Bytes). report-text (r .stop) (r .terms) (r .answers) n (length old)) e f
+      ap₂ (λ (r : Returned) (n : Bytes). report-text (r .stop) (r .terms) (r .repeats) (r .answers) n (length old)) e f
       ∙ run-shown work answers bytes (sym w) (sym a) h l
 
 -- an input that was read, and its text in a memory that is long enough

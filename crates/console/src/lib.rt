@@ -33,7 +33,7 @@ pub fn bbcheck_text(input: &[u8], out: &mut [u8]) -> usize
     let mut work = io::large_buffer();
     let mut answers = io::large_buffer();
     let o = bb_job(input, &mut work, &mut answers);
-    report::report(o.stop, o.terms, o.answers, &answers, out)
+    report::report(o.stop, o.terms, o.repeats, o.answers, &answers, out)
 }
 
 // Reads the input, of which one byte more than is lent for a job tells that it is too long, prints the text, and answers how many bytes

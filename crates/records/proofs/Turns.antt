@@ -17,7 +17,7 @@ use Rattle.theory.specs.Chain.{sides, joins, chain-verdict, premises-at, joined
 use Rattle.theory.specs.RuleTable.{Rule, rule-at, ChainRule, chain-rule-at}
 use Rattle.theory.specs.Record.{Bytes, whole, read}
 use Rattle.theory.specs.Record as R
-use Rattle.theory.specs.Plain.{Plain, term-of, has, feed, feed-item}
+use Rattle.theory.specs.Plain.{Plain, term-of, has, feed, feed-item, repeat-item, repeat-of}
 use Rattle.theory.specs.Codes.{first-fault, all-below, well-sorted, room, step-tests, tests, fault}
 use Rattle.theory.specs.Answer.{Answer}
 use Rattle.theory.specs.Job.{right-depth, judged, answer-to, item-answers, answers-to}
@@ -42,7 +42,7 @@ use Rattle.steps.specs.Answering.{given, equation-depth, with-notes, Literals, 
 use Rattle.steps.proofs.Equations.{accepted-depth}
 use Rattle.steps.proofs.Judging.{judged-is}
 use Rattle.chains.specs.Premises.{earlier-in, origins, Noted, Claimed}
-use Rattle.records.specs.Turning.{passed, turn, Reading, answers-at, origins-at, Turned}
+use Rattle.records.specs.Turning.{passed, turn, repeats-in, Reading, answers-at, origins-at, Turned}
 use Rattle.steps.proofs.Writing.{none-written}
 use Rattle.theory.proofs.Basics.{T-true}
 
@@ -73,6 +73,11 @@ module _ {job work : Bytes} {rows at : ℕ} {item : Item} (g : Reading job work 
   unfolding feed
   feed-is = ap (feed-item list r) (g .says)
 
+  -- the item's repeats are the record's
+  repeats-are : repeat-item list r (item-of job item) ≡ repeat-of list r
+  unfolding repeat-of
+  repeats-are = ap (repeat-item list r) (g .says)
+
   -- the item's answers are the record's
   answers-are : item-answers (earlier-in job work answers rows answered) list (item-of job item) ≡ answers-at job work answers rows answered at
   unfolding answers-to
@@ -83,22 +88,23 @@ module _ {job work : Bytes} {rows at : ℕ} {item : Item} (g : Reading job work 
   origins-are = ap (origins-item (origins work rows) list at r) (g .says)
 
   -- a turn that writes no answer
-  unanswered : {after : Bytes} {c n : ℕ} → c ≡ code → Store job after n → listed job after n ≡ passed c (feed list r) list
+  unanswered : {after : Bytes} {c n m : ℕ} → c ≡ code → Store job after n → listed job after n ≡ passed c (feed list r) list
       → origins after n ≡ passed c (origins-at job work rows at) (origins work rows) → passed c (answers-at job work answers rows answered at) [] ≡ []
-      → Turned job work answers rows answered at after answers (turn c answered n)
-  unanswered e s l o a = record {
+      → m ≡ passed c (repeat-of list r) 0 → Turned job work answers rows answered at after answers (turn c answered n m)
+  unanswered e s l o a q = record {
     code-is = e ∙ fault-is;
     store = s;
     listed-is = l;
     origins-are = o;
+    repeats-is = q;
     answers-is = sym (ap (λ (xs : List Answer). answered + length xs) a ∙ omega arith);
     written-is = sym (ap (with-notes answers answered at) a ∙ none-written answers answered at);
   }
 
   -- a code stops the job
-  pub stopped : (c : ℕ) → (c ≡ 0 → ⊥) → c ≡ code → Turned job work answers rows answered at work answers (turn c answered rows)
+  pub stopped : (c : ℕ) → (c ≡ 0 → ⊥) → c ≡ code → Turned job work answers rows answered at work answers (turn c answered rows 0)
   stopped zero h e = absurd (h refl)
-  stopped (suc c) h e = unanswered e (g .store) refl refl refl
+  stopped (suc c) h e = unanswered e (g .store) refl refl refl refl
 
 -- ---- a term
 -- what `intern`'s answer says of the record
@@ -135,7 +141,7 @@ module _ {job work : Bytes} {rows at : ℕ} {t : Term} (g : Reading job work row
       ap (λ (n : ℕ). all-below n (arguments-of job t)) same ∙ e
 
   -- an argument is not kept
-  pub not-below : all-below (rows + first-terms) (arguments-of job t) ≡ false → Turned job work answers rows answered at work answers (turn 6 answered rows)
+  pub not-below : all-below (rows + first-terms) (arguments-of job t) ≡ false → Turned job work answers rows answered at work answers (turn 6 answered rows 0)
   not-below e = stopped g answers answered 6 (λ z. omega arith) (rw (first-test e))
 
   -- the origins after it, by whether it was there
@@ -162,12 +168,27 @@ module _ {job work : Bytes} {rows at : ℕ} {t : Term} (g : Reading job work row
           ap (λ (xs : List ℕ). 0 ∷ 0 ∷ xs) (snoc-map (offsets work rows))
           ∙ put-at false (new-was (well-sorted (term-of (listed job work rows) (op-of t) (arguments-of job t))) _ (room (length work) (listed job work rows)) rows m e)
 
+  -- a repeat, where it was there
+  term-repeats : {after : Bytes} {a : Interned} → Taken job work after rows at t a → repeats-in a ≡ passed (code-of a) (repeat-of (listed job work rows) (record-at job at)) 0
+  unfolding answer-for
+  term-repeats {after} {a} k = go a (k .answer-is)
+    where
+      counts : (b : Bool) → has (listed job work rows) (record-at job at) ≡ b → cond b 1 0 ≡ repeat-of (listed job work rows) (record-at job at)
+      counts b e = sym (ap (λ (x : Bool). cond x 1 0) e) ∙ repeats-are g answers answered
+
+      go : (x : Interned) → x ≡ answer-for (well-sorted (term-of (listed job work rows) (op-of t) (arguments-of job t))) (has (listed job work rows) (record-at job at)) (room (length work) (listed job work rows)) rows
+          → repeats-in x ≡ passed (code-of x) (repeat-of (listed job work rows) (record-at job at)) 0
+      go N.Unsorted e = refl
+      go N.Spent e = refl
+      go (N.Found m) e = counts true (found-was (well-sorted (term-of (listed job work rows) (op-of t) (arguments-of job t))) _ (room (length work) (listed job work rows)) rows m e)
+      go (N.New m) e = counts false (new-was (well-sorted (term-of (listed job work rows) (op-of t) (arguments-of job t))) _ (room (length work) (listed job work rows)) rows m e)
+
   -- the term is offered to `intern`, whose answer says the rest
   pub term-turned : {after : Bytes} {a : Interned} → all-below (rows + first-terms) (arguments-of job t) ≡ true → Taken job work after rows at t a
-      → {u : Turn} → u ≡ turn (code-of a) answered (rows-after a rows) → Turned job work answers rows answered at after answers u
+      → {u : Turn} → u ≡ turn (code-of a) answered (rows-after a rows) (repeats-in a) → Turned job work answers rows answered at after answers u
   term-turned {after} {a} e k d =
       subst (Turned job work answers rows answered at after answers) (sym d)
-      (unanswered g answers answered (k .code-is ∙ rw (first-test e)) (k .store) (k .listed-is ∙ by-code a) (term-origins k) (no-answers a))
+      (unanswered g answers answered (k .code-is ∙ rw (first-test e)) (k .store) (k .listed-is ∙ by-code a) (term-origins k) (no-answers a) (term-repeats k))
     where
       by-code : (x : Interned) → list-after x (listed job work rows) (record-at job at) ≡ passed (code-of x) (feed (listed job work rows) (record-at job at)) (listed job work rows)
       by-code N.Unsorted = refl
@@ -184,11 +205,11 @@ module _ {job work : Bytes} {rows at : ℕ} {t : Term} (g : Reading job work row
 -- ---- a back
 module _ {job work : Bytes} {rows at n : ℕ} (g : Reading job work rows at (I.Back n)) (answers : Bytes) (answered : ℕ) where
   -- its count is too low
-  pub back-low : n < first-terms → Turned job work answers rows answered at work answers (turn 18 answered rows)
+  pub back-low : n < first-terms → Turned job work answers rows answered at work answers (turn 18 answered rows 0)
   back-low h = stopped g answers answered 18 (λ z. omega arith) (rw (lt-leb first-terms n h))
 
   -- its count is too high
-  pub back-high : first-terms ≤ n → rows + first-terms < n → Turned job work answers rows answered at work answers (turn 18 answered rows)
+  pub back-high : first-terms ≤ n → rows + first-terms < n → Turned job work answers rows answered at work answers (turn 18 answered rows 0)
   back-high h k =
       let c = g .store .count in
       stopped g answers answered 18 (λ z. omega arith) (rw (le-leb first-terms n h, lt-leb n (length (listed job work rows)) (omega arith)))
@@ -203,11 +224,11 @@ module _ {job work : Bytes} {rows at n : ℕ} (g : Reading job work rows at (I.B
 
   -- the list is cut back
   pub back-turned : {after : Bytes} → first-terms ≤ n → n ≤ rows + first-terms → CutBack job work after rows n
-      → Turned job work answers rows answered at after answers (turn 0 answered (n - first-terms))
+      → Turned job work answers rows answered at after answers (turn 0 answered (n - first-terms) 0)
   back-turned h k b =
       let c = g .store .count in
       unanswered g answers answered (rw (le-leb first-terms n h, le-leb n (length (listed job work rows)) (omega arith))) (b .store)
-      (b .listed-is ∙ feed-is g answers answered) (back-origins h b) (sym (answers-are g answers answered))
+      (b .listed-is ∙ feed-is g answers answered) (back-origins h b) (sym (answers-are g answers answered)) (repeats-are g answers answered)
 
 -- ---- a step
 module _ {job work : Bytes} {rows at rule : ℕ} {literals : Args} (g : Reading job work rows at (I.Step rule literals)) (answers : Bytes) (answered : ℕ) {c : ℕ}
@@ -220,7 +241,7 @@ module _ {job work : Bytes} {rows at rule : ℕ} {literals : Args} (g : Reading 
       f ∙ ap (λ (k : ℕ). first-fault (step-tests k (length answers) answered (is-some (rule-at rule)) (words-in job literals))) e
 
   -- a test fails
-  pub step-stopped : (c ≡ 0 → ⊥) → Turned job work answers rows answered at work answers (turn c answered rows)
+  pub step-stopped : (c ≡ 0 → ⊥) → Turned job work answers rows answered at work answers (turn c answered rows 0)
   step-stopped h = stopped g answers answered c h same-code
 
   -- all tests pass: the literals are kept, there is such a rule, and there is room for the answer
@@ -242,7 +263,7 @@ module _ {job work : Bytes} {rows at rule : ℕ} {literals : Args} (g : Reading 
   -- its answer is written
   pub step-turned : c ≡ 0 → {reply : Reply} {after : Bytes}
       → ((by : Rule) → rule-at rule ≡ some by → given rule reply ≡ answer-to rule by (map (tree-at (listed job work rows)) (words-in job literals)))
-      → after ≡ with-notes answers answered at (given rule reply ∷ []) → {u : Turn} → u ≡ turn 0 (answered + 1) rows → Turned job work answers rows answered at work after u
+      → after ≡ with-notes answers answered at (given rule reply ∷ []) → {u : Turn} → u ≡ turn 0 (answered + 1) rows 0 → Turned job work answers rows answered at work after u
   step-turned z {reply} {after} says wrote d =
       let p = step-right z in
       let one : answers-at job work answers rows answered at ≡ given rule reply ∷ []
@@ -254,6 +275,7 @@ module _ {job work : Bytes} {rows at rule : ℕ} {literals : Args} (g : Reading 
         store = g .store;
         listed-is = feed-is g answers answered;
         origins-are = origins-are g answers answered;
+        repeats-is = repeats-are g answers answered;
         answers-is = sym (ap (λ (xs : List Answer). answered + length xs) one);
         written-is = wrote ∙ sym (ap (with-notes answers answered at) one);
       })
@@ -274,7 +296,7 @@ module _ {job work : Bytes} {rows at rule literal : ℕ} {premises : Args} (g : 
       f ∙ ap (λ (k : ℕ). first-fault (step-tests k (length answers) answered (is-some (chain-rule-at rule)) (literal ∷ []))) e
 
   -- a test fails
-  pub chain-stopped : (c ≡ 0 → ⊥) → Turned job work answers rows answered at work answers (turn c answered rows)
+  pub chain-stopped : (c ≡ 0 → ⊥) → Turned job work answers rows answered at work answers (turn c answered rows 0)
   chain-stopped h = stopped g answers answered c h chain-code
 
   -- all tests pass
@@ -289,7 +311,7 @@ module _ {job work : Bytes} {rows at rule literal : ℕ} {premises : Args} (g : 
   pub chain-turned : c ≡ 0 → {v : Said} {reply : Reply} {after : Bytes}
       → ((by : ChainRule) → chain-rule-at rule ≡ some by → v ≡ joined by (premises-at (earlier-in job work answers rows answered) (listed job work rows) (words-in job premises)) (tree-at (listed job work rows) literal))
       → Judged v (tree-at (listed job work rows) literal) reply
-      → after ≡ with-notes answers answered at (given rule reply ∷ []) → {u : Turn} → u ≡ turn 0 (answered + 1) rows → Turned job work answers rows answered at work after u
+      → after ≡ with-notes answers answered at (given rule reply ∷ []) → {u : Turn} → u ≡ turn 0 (answered + 1) rows 0 → Turned job work answers rows answered at work after u
   chain-turned z {v} {reply} {after} says j wrote d =
       let p = chain-right z in
       let q = premises-at (earlier-in job work answers rows answered) (listed job work rows) (words-in job premises) in
@@ -304,6 +326,7 @@ module _ {job work : Bytes} {rows at rule literal : ℕ} {premises : Args} (g : 
         store = g .store;
         listed-is = feed-is g answers answered;
         origins-are = origins-are g answers answered;
+        repeats-is = repeats-are g answers answered;
         answers-is = sym (ap (λ (xs : List Answer). answered + length xs) one);
         written-is = wrote ∙ sym (ap (with-notes answers answered at) one);
       })

@@ -5,7 +5,7 @@ use mathlib.Core.List.{List, []}
 use Prim.Native.Nat.{ℕ, zero, suc, _+_}
 use lib.ListN.{length, drop}
 use Rattle.theory.specs.Record.{Bytes, whole, read}
-use Rattle.theory.specs.Plain.{feed}
+use Rattle.theory.specs.Plain.{feed, repeat-of}
 use Rattle.theory.specs.Codes.{fault}
 use Rattle.theory.specs.Answer.{Answer}
 use Rattle.theory.specs.Job.{answers-to}
@@ -14,6 +14,8 @@ use Rattle.terms.specs.declared.Item.{Item}
 use Rattle.terms.specs.Framing.{record-at}
 use Rattle.terms.specs.Decoded.{Placed, item-of}
 use Rattle.store.specs.Store.{Store, listed}
+use Rattle.intern.specs.declared.Interned.{Interned}
+use Rattle.intern.specs.declared.Interned.the-variants.{Unsorted, Spent, Found, New}
 use Rattle.records.specs.declared.Turn.{Turn}
 use Rattle.steps.specs.Answering.{with-notes}
 use Rattle.chains.specs.Premises.{earlier-in, origins}
@@ -24,8 +26,15 @@ passed zero x y = x
 passed (suc code) x y = y
 
 -- a turn by its parts
-abbrev pub turn : ℕ → ℕ → ℕ → Turn
-turn code answers rows = record { code = code; answers = answers; rows = rows }
+abbrev pub turn : ℕ → ℕ → ℕ → ℕ → Turn
+turn code answers rows repeats = record { code = code; answers = answers; rows = rows; repeats = repeats }
+
+-- the repeats that an answer of `intern` tells: 1 where the term was found
+abbrev pub repeats-in : Interned → ℕ
+repeats-in Unsorted = 0
+repeats-in Spent = 0
+repeats-in (Found m) = 1
+repeats-in (New m) = 0
 
 -- a whole record stands at `at`, and was read as this item
 pub record Reading (job work : Bytes) (rows at : ℕ) (item : Item) : Type 0 where
@@ -42,11 +51,12 @@ answers-at job work answers rows answered at = answers-to (earlier-in job work a
 abbrev pub origins-at : Bytes → Bytes → ℕ → ℕ → List ℕ
 origins-at job work rows at = origins-item (origins work rows) (listed job work rows) at (record-at job at) (read (record-at job at))
 
--- what became of the record at `at`, by theory's tests, plain list and answers; where a code stops the job, terms and answers stay
+-- what became of the record at `at`, by theory's tests, plain list, repeats and answers; where a code stops the job, terms and answers stay, and it is no repeat
 pub record Turned (job work answers : Bytes) (rows answered at : ℕ) (work′ answers′ : Bytes) (t : Turn) : Type 0 where
   pub code-is : t .code ≡ fault (length work) (length answers) (listed job work rows) answered (record-at job at)
   pub store : Store job work′ (t .rows)
   pub listed-is : listed job work′ (t .rows) ≡ passed (t .code) (feed (listed job work rows) (record-at job at)) (listed job work rows)
   pub origins-are : origins work′ (t .rows) ≡ passed (t .code) (origins-at job work rows at) (origins work rows)
+  pub repeats-is : t .repeats ≡ passed (t .code) (repeat-of (listed job work rows) (record-at job at)) 0
   pub answers-is : t .answers ≡ answered + length (passed (t .code) (answers-at job work answers rows answered at) [])
   pub written-is : answers′ ≡ with-notes answers answered at (passed (t .code) (answers-at job work answers rows answered at) [])

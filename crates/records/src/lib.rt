@@ -15,7 +15,7 @@ ghost use Rattle.terms.specs.Decoded.{Inside, words-in};
 ghost use Rattle.intern.specs.Interning.{code-of, rows-after};
 ghost use Rattle.steps.specs.Answering.{given, with-notes};
 ghost use Rattle.chains.specs.Premises.{Noted};
-ghost use Rattle.records.specs.Turning.{turn, Reading, Turned};
+ghost use Rattle.records.specs.Turning.{repeats-in, turn, Reading, Turned};
 use chains::chain_verdict;
 use intern::Interned;
 use intern::back;
@@ -38,37 +38,43 @@ const FIRST_CHAIN_RULE: u32 = 31;
 
 const LAST_CHAIN_RULE: u32 = 33;
 
-// What became of a record: the code that stops the job or 0, and then the answers written and the rows kept.
+// What became of a record: the code that stops the job or 0, and then the answers written, the rows kept, and the repeats: 1 where it is a term that
+// was found, not new.
 pub struct Turn {
     pub code: u32,
     pub answers: usize,
     pub rows: usize,
+    pub repeats: usize,
 }
 
 // What became of a term that `intern` was offered: 7 where it has no sort, 8 where there is no room for it.
 fn kept_turn(kept: Interned, answered: usize, rows: usize) -> Turn
-    ensures { λ r. ⌜ r ≡ turn (code-of kept) answered (rows-after kept rows) ⌝ }
+    ensures { λ r. ⌜ r ≡ turn (code-of kept) answered (rows-after kept rows) (repeats-in kept) ⌝ }
 {
     match kept {
         Interned::Unsorted => Turn {
             code: 7,
             answers: answered,
             rows: rows,
+            repeats: 0,
         },
         Interned::Spent => Turn {
             code: 8,
             answers: answered,
             rows: rows,
+            repeats: 0,
         },
         Interned::Found(n) => Turn {
             code: 0,
             answers: answered,
             rows: n,
+            repeats: 1,
         },
         Interned::New(n) => Turn {
             code: 0,
             answers: answered,
             rows: n,
+            repeats: 0,
         },
     }
 }
@@ -90,6 +96,7 @@ fn term_record(
             code: 6,
             answers: answered,
             rows: rows,
+            repeats: 0,
         };
     }
     let kept = intern(job, work, rows, at, term);
@@ -142,13 +149,14 @@ fn answered_turn(
 ) -> Turn
     requires { ⌜ answer-bytes * suc answered ≤ length (now answers) ⌝ }
     ensures written { λ _. ⌜ now (answers .exit) ≡ with-notes (now (answers .entry)) answered at (given rule reply ∷ []) ⌝ }
-    ensures turned { λ r. ⌜ r ≡ turn 0 (answered + 1) rows ⌝ }
+    ensures turned { λ r. ⌜ r ≡ turn 0 (answered + 1) rows 0 ⌝ }
 {
     put_answer(answers, answered, at, rule, reply);
     Turn {
         code: 0,
         answers: answered + 1,
         rows: rows,
+        repeats: 0,
     }
 }
 
@@ -172,6 +180,7 @@ fn step_record(
             code: code,
             answers: answered,
             rows: rows,
+            repeats: 0,
         };
     }
     let reply = answer(job, work, rows, rule, literals);
@@ -216,6 +225,7 @@ fn chain_record(
             code: code,
             answers: answered,
             rows: rows,
+            repeats: 0,
         };
     }
     let v = chain_verdict(job, work, answers, rows, answered, rule, premises, literal);
@@ -241,6 +251,7 @@ fn back_record(
             code: 18,
             answers: answered,
             rows: rows,
+            repeats: 0,
         };
     }
     if rows + FIRST_PLACE < n {
@@ -248,6 +259,7 @@ fn back_record(
             code: 18,
             answers: answered,
             rows: rows,
+            repeats: 0,
         };
     }
     back(job, work, rows, n);
@@ -255,6 +267,7 @@ fn back_record(
         code: 0,
         answers: answered,
         rows: n - FIRST_PLACE,
+        repeats: 0,
     }
 }
 
@@ -299,11 +312,13 @@ pub fn take_record(
             code: 4,
             answers: answered,
             rows: rows,
+            repeats: 0,
         },
         Item::Misfit => Turn {
             code: 5,
             answers: answered,
             rows: rows,
+            repeats: 0,
         },
     }
 }

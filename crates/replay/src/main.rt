@@ -126,6 +126,7 @@ fn run(job: &[u8], work: &mut [u8], answers: &mut [u8]) {
     print_number(o.records);
     print_number(o.answers);
     print_number(o.terms);
+    print_number(o.repeats);
     print_bytes(answers, o.answers as usize * ANSWER_BYTES);
 }
 

@@ -9,17 +9,19 @@ use lib.ListN.{length, drop}
 use lib.Seq.{drop-drop}
 use Rattle.theory.specs.Record.{Bytes, word}
 use Rattle.theory.specs.Answer.{decode-answer, decode-answers}
-use Rattle.theory.specs.Program.{decimal, steps-text, terms-text, stop-text, blank, end-line, too-long-text, answer-lines}
+use Rattle.theory.specs.Program.{decimal, steps-text, terms-text, repeats-text, stop-text, blank, end-line, too-long-text, answer-lines}
 use Rattle.report.specs.Text.{Wrote, head-space, head, line, report-text, too-long, written}
 use Rattle.report.proofs.Writing.{wrote-more, wrote-same, wrote-none, at-start}
 
--- the first line: three totals and the end of the line
-head-parts : (s a t b u c e : Bytes) → s ++ a ++ (t ++ b) ++ (u ++ c) ++ e ≡ s ++ a ++ t ++ b ++ u ++ c ++ e
-head-parts s a t b u c e = simp append-assoc
+-- the first line: four totals and the end of the line
+head-parts : (s a t b q d u c e : Bytes) → s ++ a ++ (t ++ b) ++ (q ++ d) ++ (u ++ c) ++ e ≡ s ++ a ++ t ++ b ++ q ++ d ++ u ++ c ++ e
+head-parts s a t b q d u c e = simp append-assoc
 
-pub head-written : (n t s : ℕ) {old m₁ m₂ m₃ new : Bytes} {at a b c e : ℕ} → Wrote old at (steps-text ++ decimal n) m₁ a → Wrote m₁ a (terms-text ++ decimal t) m₂ b
-    → Wrote m₂ b (stop-text ++ decimal s) m₃ c → Wrote m₃ c end-line new e → Wrote old at (head n t s) new e
-head-written n t s w₁ w₂ w₃ w₄ = wrote-same (wrote-more (wrote-more (wrote-more w₁ w₂) w₃) w₄) (head-parts steps-text (decimal n) terms-text (decimal t) stop-text (decimal s) end-line)
+pub head-written : (n t q s : ℕ) {old m₁ m₂ m₃ m₄ new : Bytes} {at a b c d e : ℕ} → Wrote old at (steps-text ++ decimal n) m₁ a → Wrote m₁ a (terms-text ++ decimal t) m₂ b
+    → Wrote m₂ b (repeats-text ++ decimal q) m₃ c → Wrote m₃ c (stop-text ++ decimal s) m₄ d → Wrote m₄ d end-line new e → Wrote old at (head n t q s) new e
+head-written n t q s w₁ w₂ w₃ w₄ w₅ =
+    wrote-same (wrote-more (wrote-more (wrote-more (wrote-more w₁ w₂) w₃) w₄) w₅)
+    (head-parts steps-text (decimal n) terms-text (decimal t) repeats-text (decimal q) stop-text (decimal s) end-line)
 
 -- the line of an answer: four numbers, each with the byte that ends it
 line-parts : (a b c d : Bytes) → a ++ blank ++ (b ++ blank) ++ (c ++ blank) ++ (d ++ end-line) ≡ a ++ blank ++ b ++ blank ++ c ++ blank ++ d ++ end-line
@@ -87,25 +89,25 @@ length-decode zero bs = refl
 length-decode (suc k) bs = ap suc (length-decode k (drop 10 bs))
 
 -- the cases of the report
-module _ (stop terms count : ℕ) (bs old : Bytes) where
+module _ (stop terms repeats count : ℕ) (bs old : Bytes) where
   -- a memory is left as the report says, and so many bytes of it are the text
   abbrev pub Reported : Bytes → ℕ → Type 0
-  Reported new p = let text = report-text stop terms count bs (length old) in (new ≡ written text old) × (p ≡ length text)
+  Reported new p = let text = report-text stop terms repeats count bs (length old) in (new ≡ written text old) × (p ≡ length text)
 
   pub report-none : length bs < count * 10 → Reported old 0
   unfolding report-text
   report-none h = rw (lt-leb _ _ h) (refl, refl)
 
-  pub report-short : count * 10 ≤ length bs → length old < 64 + count * 32 → Reported old 0
+  pub report-short : count * 10 ≤ length bs → length old < 80 + count * 32 → Reported old 0
   unfolding report-text
   report-short g h = rw (le-leb _ _ g, lt-leb _ _ h) (refl, refl)
 
-  pub report-whole : {mid new : Bytes} {p q : ℕ} → count * 10 ≤ length bs → 64 + count * 32 ≤ length old
-      → Wrote old 0 (head count terms stop) mid p → Wrote mid p (answer-lines 1 (decode-answers count bs)) new q → Reported new q
+  pub report-whole : {mid new : Bytes} {p q : ℕ} → count * 10 ≤ length bs → 80 + count * 32 ≤ length old
+      → Wrote old 0 (head count terms repeats stop) mid p → Wrote mid p (answer-lines 1 (decode-answers count bs)) new q → Reported new q
   unfolding report-text
   report-whole g h w v =
       rw (le-leb _ _ g, le-leb _ _ h)
-      (at-start (wrote-same (wrote-more w v) (ap (λ (n : ℕ). head n terms stop ++ answer-lines 1 (decode-answers count bs)) (sym (length-decode count bs)))))
+      (at-start (wrote-same (wrote-more w v) (ap (λ (n : ℕ). head n terms repeats stop ++ answer-lines 1 (decode-answers count bs)) (sym (length-decode count bs)))))
 
 -- the cases of `too long`
 module _ (old : Bytes) where

@@ -9,7 +9,7 @@ use Rattle.theory.specs.Limit.{answer-bytes}
 use Rattle.theory.specs.Record.{Bytes}
 use Rattle.theory.specs.Answer.{Answer, decode-answers}
 use Rattle.theory.specs.Job.{Outcome}
-use Rattle.theory.specs.Program.{decimal, steps-text, terms-text, stop-text, blank, end-line, too-long-text, outcome-text}
+use Rattle.theory.specs.Program.{decimal, steps-text, terms-text, repeats-text, stop-text, blank, end-line, too-long-text, outcome-text}
 
 -- a memory `old` is `new` after a text was written at `at`, with every other byte as it was; `end` is the place after the text
 pub record Wrote (old : Bytes) (at : ℕ) (text new : Bytes) (end : ℕ) : Type 0 where
@@ -19,28 +19,28 @@ pub record Wrote (old : Bytes) (at : ℕ) (text new : Bytes) (end : ℕ) : Type 
 
 -- no first line is longer than this, and no line of an answer than that
 abbrev pub head-space : ℕ
-head-space = 64
+head-space = 80
 
 abbrev pub line-space : ℕ
 line-space = 32
 
 -- the first line
-abbrev pub head : ℕ → ℕ → ℕ → Bytes
-head steps terms stop = steps-text ++ decimal steps ++ terms-text ++ decimal terms ++ stop-text ++ decimal stop ++ end-line
+abbrev pub head : ℕ → ℕ → ℕ → ℕ → Bytes
+head steps terms repeats stop = steps-text ++ decimal steps ++ terms-text ++ decimal terms ++ repeats-text ++ decimal repeats ++ stop-text ++ decimal stop ++ end-line
 
 -- the line of an answer
 abbrev pub line : ℕ → Answer → Bytes
 line place a = decimal place ++ blank ++ decimal (a .rule) ++ blank ++ decimal (a .code) ++ blank ++ decimal (a .depth) ++ end-line
 
 -- a run that came to these numbers and answers; the text does not say how many records were done
-abbrev pub came-to : ℕ → ℕ → ℕ → Bytes → Outcome
-came-to stop terms count answers = record { stop = stop; records = 0; answers = decode-answers count answers; terms = terms }
+abbrev pub came-to : ℕ → ℕ → ℕ → ℕ → Bytes → Outcome
+came-to stop terms repeats count answers = record { stop = stop; records = 0; answers = decode-answers count answers; terms = terms; repeats = repeats }
 
 -- the text, where the answers are all there and a memory of `space` bytes is long enough for any such text
-unfoldable pub report-text : ℕ → ℕ → ℕ → Bytes → ℕ → Bytes
-report-text stop terms count answers space =
+unfoldable pub report-text : ℕ → ℕ → ℕ → ℕ → Bytes → ℕ → Bytes
+report-text stop terms repeats count answers space =
     cond (leb (count * answer-bytes) (length answers) && leb (head-space + count * line-space) space)
-    (outcome-text (came-to stop terms count answers))
+    (outcome-text (came-to stop terms repeats count answers))
     []
 
 -- `too long`, where a memory of `space` bytes is long enough for any first line

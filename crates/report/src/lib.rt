@@ -15,7 +15,7 @@ use terms::RULE_AT;
 use terms::Term;
 
 // No first line is longer than this.
-pub const HEAD_SPACE: usize = 64;
+pub const HEAD_SPACE: usize = 80;
 
 // No line of an answer is longer than this.
 pub const LINE_SPACE: usize = 32;
@@ -88,15 +88,16 @@ fn put_total(text: &[u8], n: u32, out: &mut [u8], at: usize) -> usize
     put_number(n, out, after)
 }
 
-// Writes the first line, `steps N terms T stop C`.
-fn put_head(steps: u32, terms: u32, stop: u32, out: &mut [u8]) -> usize
+// Writes the first line, `steps N terms T repeats R stop C`.
+fn put_head(steps: u32, terms: u32, repeats: u32, stop: u32, out: &mut [u8]) -> usize
     requires { ⌜ head-space ≤ length (now out) ⌝ }
-    ensures { λ r. ⌜ Wrote (now (out .entry)) 0 (head steps terms stop) (now (out .exit)) r × (r ≤ head-space) ⌝ }
+    ensures { λ r. ⌜ Wrote (now (out .entry)) 0 (head steps terms repeats stop) (now (out .exit)) r × (r ≤ head-space) ⌝ }
 {
     let a = put_total(b"steps ", steps, out, 0);
     let b = put_total(b" terms ", terms, out, a);
-    let c = put_total(b" stop ", stop, out, b);
-    put_byte(NEWLINE, out, c)
+    let c = put_total(b" repeats ", repeats, out, b);
+    let d = put_total(b" stop ", stop, out, c);
+    put_byte(NEWLINE, out, d)
 }
 
 // Writes the line of answer k, counted from 0: its place from 1, rule, code and depth.
@@ -126,9 +127,16 @@ fn put_lines(answers: &[u8], count: u32, out: &mut [u8], at: usize) -> usize
 // Writes what a run came to into `out`, and answers how many bytes that is.
 // Nothing is written where `answers` holds fewer than `count` answers, or where `out` has not the space for
 // the longest such text.
-pub fn report(stop: u32, terms: u32, count: u32, answers: &[u8], out: &mut [u8]) -> usize
-    ensures memory { λ r. ⌜ now (out .exit) ≡ written (report-text stop terms count (now (answers .entry)) (length (now (out .entry)))) (now (out .entry)) ⌝ }
-    ensures size { λ r. ⌜ r ≡ length (report-text stop terms count (now (answers .entry)) (length (now (out .entry)))) ⌝ }
+pub fn report(
+    stop: u32,
+    terms: u32,
+    repeats: u32,
+    count: u32,
+    answers: &[u8],
+    out: &mut [u8],
+) -> usize
+    ensures memory { λ r. ⌜ now (out .exit) ≡ written (report-text stop terms repeats count (now (answers .entry)) (length (now (out .entry)))) (now (out .entry)) ⌝ }
+    ensures size { λ r. ⌜ r ≡ length (report-text stop terms repeats count (now (answers .entry)) (length (now (out .entry)))) ⌝ }
 {
     let n = count as usize;
     if answers.len() < n * ANSWER_BYTES {
@@ -137,7 +145,7 @@ pub fn report(stop: u32, terms: u32, count: u32, answers: &[u8], out: &mut [u8])
     if out.len() < HEAD_SPACE + n * LINE_SPACE {
         return 0;
     }
-    let lines = put_head(count, terms, stop, out);
+    let lines = put_head(count, terms, repeats, stop, out);
     put_lines(answers, count, out, lines)
 }
 

@@ -55,11 +55,11 @@ pub stop-codes-are : StopCodes
 stop-codes-are job work space = ran job work space .stop-known
 
 -- code 2: nothing is done, and the two first terms are kept
-pub too-long : (job : Bytes) (work space : ℕ) → max-job < length job → run job work space ≡ outcome 2 0 [] start
+pub too-long : (job : Bytes) (work space : ℕ) → max-job < length job → run job work space ≡ outcome 2 0 0 [] start
 unfolding run
 too-long job work space h =
-    go (leb (length job) max-job) (λ t. omega (arith, leb→le (length job) max-job t)) (run-from work space (ending job) 0 [] start [] (records-of job))
+    go (leb (length job) max-job) (λ t. omega (arith, leb→le (length job) max-job t)) (run-from work space (ending job) 0 0 [] start [] (records-of job))
   where
-    go : (b : Bool) → (T b → ⊥) → (x : Outcome) → elim b as (λ z. Outcome) [ true ↦ x | false ↦ outcome 2 0 [] start ] ≡ outcome 2 0 [] start
+    go : (b : Bool) → (T b → ⊥) → (x : Outcome) → elim b as (λ z. Outcome) [ true ↦ x | false ↦ outcome 2 0 0 [] start ] ≡ outcome 2 0 0 [] start
     go true f x = absurd (f tt)
     go false f x = refl

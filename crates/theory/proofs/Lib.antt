@@ -31,6 +31,7 @@ pub mod Demand
 pub mod Distinct
 pub mod Place
 pub mod Bounds
+pub mod Repeats
 pub mod ExactDepth
 pub mod LowBits
 pub mod Codes

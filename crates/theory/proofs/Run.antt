@@ -20,11 +20,12 @@ use Rattle.theory.specs.Sort.{guard, good, sort-of}
 use Rattle.theory.specs.Optional.{is-some}
 use Rattle.theory.specs.RuleTable.{Rule, rule-at, ChainRule, chain-rule-at}
 use Rattle.theory.specs.Record.{Bytes, records-of, ending, Item, term, step, chain, back, unknown, misfit, read, is-step, step-count}
-use Rattle.theory.specs.Plain.{Entry, entry, Plain, start, at-place, at-places, term-of, has, put, feed-item, feed, plain-after}
+use Rattle.theory.specs.Plain.{Entry, entry, Plain, start, at-place, at-places, term-of, has, put, feed-item, feed, repeat-of, plain-after}
 use Rattle.theory.specs.Codes.{first-fault, all-below, well-sorted, room, tests, fault}
 use Rattle.theory.specs.Answer.{Answer}
 use Rattle.theory.specs.Chain.{Earlier, premises-at, joined}
 use Rattle.theory.specs.Job.{answer-to, judged, reply, chain-reply, item-answers, answers-to, recall, Outcome, outcome, run-from, run}
+use Rattle.theory.specs.Claim.{repeats-from}
 use Rattle.theory.specs.Demands.{Stops, too-long, at-record, at-end, earlier-from, earlier-after}
 use Rattle.theory.proofs.Basics.{none-some, some-inj, taken, foldl-append, getElem-of, getElem-lt, getElem-seam, snoc-elim}
 use Rattle.theory.proofs.Stops.{Stop, fault-code, ending-code}
@@ -210,6 +211,11 @@ pub earlier-snoc : (earlier : Earlier) (list : Plain) (rs : List Bytes) (r : Byt
 earlier-snoc earlier list [] r = refl
 earlier-snoc earlier list (s ∷ rs) r = earlier-snoc (recall earlier list s) (feed list s) rs r
 
+-- ---- the repeats
+pub repeats-snoc : (list : Plain) (rs : List Bytes) (r : Bytes) → repeats-from list (rs ++ (r ∷ [])) ≡ repeats-from list rs + repeat-of (foldl feed list rs) r
+repeats-snoc list [] r = omega arith
+repeats-snoc list (s ∷ rs) r = let e = repeats-snoc (feed list s) rs r in omega arith
+
 module _ (job : Bytes) (work space : ℕ) where
   -- answer k of the first `done` records is the answer to step k, from the plain list and the earlier steps just then
   pub record Answered (done k : ℕ) (a : Answer) : Type 0 where
@@ -319,15 +325,16 @@ module _ (job : Bytes) (work space : ℕ) where
     pub short : (m : ℕ) → m < o .records → length job ≤ max-job
     pub within : o .records ≤ length (records-of job)
     pub terms-are : o .terms ≡ length (plain-after (o .records) job)
+    pub repeats-are : o .repeats ≡ repeats-from start (take (o .records) (records-of job))
     pub all-sorted : AllGood (plain-after (o .records) job)
     pub answers-are : length (o .answers) ≡ step-count (take (o .records) (records-of job))
     pub all-passed : (m : ℕ) (r : Bytes) → m < o .records → getElem? (records-of job) m ≡ some r → Passes m r
     pub exact-answers : (k : ℕ) (a : Answer) → getElem? (o .answers) k ≡ some a → Answered (o .records) k a
     pub why : Stops job work space (o .stop) (o .records)
 
-  stopped : (stop : ℕ) (pre rs : List Bytes) (earlier : Earlier) (list : Plain) (answers : List Answer) → records-of job ≡ pre ++ rs → Good pre earlier list answers
-      → ((m : ℕ) → m < length pre → length job ≤ max-job) → Stop stop → Stops job work space stop (length pre) → Ran (outcome stop (length pre) answers list)
-  stopped stop pre rs earlier list answers all g short code why =
+  stopped : (stop repeats : ℕ) (pre rs : List Bytes) → repeats ≡ repeats-from start pre → (earlier : Earlier) (list : Plain) (answers : List Answer) → records-of job ≡ pre ++ rs → Good pre earlier list answers
+      → ((m : ℕ) → m < length pre → length job ≤ max-job) → Stop stop → Stops job work space stop (length pre) → Ran (outcome stop (length pre) repeats answers list)
+  stopped stop repeats pre rs n earlier list answers all g short code why =
       let t : take (length pre) (records-of job) ≡ pre = ap (take (length pre)) all ∙ take-append-seam pre rs in
       let p : list ≡ plain-after (length pre) job = g .plain ∙ ap (foldl feed start) (sym t) in
       let l : length (records-of job) ≡ length pre + length rs = ap length all ∙ length-append pre rs in
@@ -336,6 +343,7 @@ module _ (job : Bytes) (work space : ℕ) where
         short = short;
         within = omega arith;
         terms-are = ap length p;
+        repeats-are = n ∙ ap (repeats-from start) (sym t);
         all-sorted = subst AllGood p (g .sorted);
         answers-are = g .counted ∙ ap step-count (sym t);
         all-passed = g .passed;
@@ -362,21 +370,22 @@ module _ (job : Bytes) (work space : ℕ) where
   why-end pre earlier list answers short all g = at-end short (ap length (all ∙ append-nil pre)) (g .passed)
 
   module _ (short : length job ≤ max-job) where
-    runs : (rs pre : List Bytes) (earlier : Earlier) (list : Plain) (answers : List Answer) (done : ℕ) → done ≡ length pre → records-of job ≡ pre ++ rs → Good pre earlier list answers
-        → Ran (run-from work space (ending job) done earlier list answers rs)
+    runs : (rs pre : List Bytes) (earlier : Earlier) (list : Plain) (answers : List Answer) (done repeats : ℕ) → done ≡ length pre → repeats ≡ repeats-from start pre → records-of job ≡ pre ++ rs → Good pre earlier list answers
+        → Ran (run-from work space (ending job) done repeats earlier list answers rs)
     unfolding run-from
-    runs [] pre earlier list answers done d all g =
-        subst (λ (n : ℕ). Ran (outcome (ending job) n answers list)) (sym d)
-        (stopped (ending job) pre [] earlier list answers all g (λ m l. short) (ending-code job) (why-end pre earlier list answers short all g))
-    runs (r ∷ rs) pre earlier list answers done d all g =
+    runs [] pre earlier list answers done repeats d n all g =
+        subst (λ (m : ℕ). Ran (outcome (ending job) m repeats answers list)) (sym d)
+        (stopped (ending job) repeats pre [] n earlier list answers all g (λ m l. short) (ending-code job) (why-end pre earlier list answers short all g))
+    runs (r ∷ rs) pre earlier list answers done repeats d n all g =
         by-fault (fault work space list (length answers) r)
-        (run-from work space (ending job) (suc done) (recall earlier list r) (feed list r) (answers ++ answers-to earlier list r) rs) (λ c. outcome (suc c) done answers list)
-        (λ e. runs rs (pre ++ (r ∷ [])) (recall earlier list r) (feed list r) (answers ++ answers-to earlier list r) (suc done)
+        (run-from work space (ending job) (suc done) (repeats + repeat-of list r) (recall earlier list r) (feed list r) (answers ++ answers-to earlier list r) rs) (λ c. outcome (suc c) done repeats answers list)
+        (λ e. runs rs (pre ++ (r ∷ [])) (recall earlier list r) (feed list r) (answers ++ answers-to earlier list r) (suc done) (repeats + repeat-of list r)
         (ap suc d ∙ sym (length-append pre (r ∷ []) ∙ add-one (length pre)))
+        (ap₂ (λ (k : ℕ) (l : Plain). k + repeat-of l r) n (g .plain) ∙ sym (repeats-snoc start pre r))
         (all ∙ sym (append-assoc pre (r ∷ []) rs))
         (next pre earlier list answers r rs all g e))
-        (λ c e. subst (λ (n : ℕ). Ran (outcome (suc c) n answers list)) (sym d)
-        (stopped (suc c) pre (r ∷ rs) earlier list answers all g (λ m l. short) (subst Stop e (fault-code work space list (length answers) r))
+        (λ c e. subst (λ (m : ℕ). Ran (outcome (suc c) m repeats answers list)) (sym d)
+        (stopped (suc c) repeats pre (r ∷ rs) n earlier list answers all g (λ m l. short) (subst Stop e (fault-code work space list (length answers) r))
         (why-fault pre earlier list answers r rs short all g c e)))
 
   good-start : Good [] [] start []
@@ -394,11 +403,11 @@ module _ (job : Bytes) (work space : ℕ) where
   pub ran : Ran (run job work space)
   unfolding run
   ran =
-      by-length (leb (length job) max-job) refl (run-from work space (ending job) 0 [] start [] (records-of job)) (outcome 2 0 [] start)
-      (λ s. runs s (records-of job) [] [] start [] 0 refl refl good-start)
-      (λ h. stopped 2 [] (records-of job) [] start [] refl good-start (λ m l. absurd (omega arith)) tt (too-long h))
+      by-length (leb (length job) max-job) refl (run-from work space (ending job) 0 0 [] start [] (records-of job)) (outcome 2 0 0 [] start)
+      (λ s. runs s (records-of job) [] [] start [] 0 0 refl refl refl good-start)
+      (λ h. stopped 2 0 [] (records-of job) refl [] start [] refl good-start (λ m l. absurd (omega arith)) tt (too-long h))
 
-  take-next : (m : ℕ) (r : Bytes) → getElem? (records-of job) m ≡ some r → take (suc m) (records-of job) ≡ take m (records-of job) ++ (r ∷ [])
+  pub take-next : (m : ℕ) (r : Bytes) → getElem? (records-of job) m ≡ some r → take (suc m) (records-of job) ≡ take m (records-of job) ++ (r ∷ [])
   take-next m r e =
       let l = getElem-lt (records-of job) m r e in
       take-suc (records-of job) m [] l

@@ -1,11 +1,11 @@
--- Statements beside the three demands, of document 01 and of the requests after it: on codes, on what is kept, on depths, on the tally.
+-- Statements beside the three demands, of document 01 and of the requests after it: on codes, on what is kept, on repeats, on depths, on the tally.
 -- Each is proved in proofs/.
 use mathlib.Core.Path.{_≡_}
-use mathlib.Core.Bool.{Bool, false, _||_}
+use mathlib.Core.Bool.{Bool, true, false, _||_, cond}
 use mathlib.Core.List.{List, [], _∷_, map}
 use mathlib.Core.Option.{some}
 use Prim.Native.Nat.{ℕ, _+_, _-_, _*_, _%_, _^_, _<_, _≤_}
-use lib.Dec.{T, eqb}
+use lib.Dec.{T, eqb, ltb}
 use lib.ListN.{length, take, drop, getElem?}
 use Rattle.theory.specs.Limit.{max-terms, first-terms, term-bytes, answer-bytes}
 use Rattle.theory.specs.Kind.{Op, Equals, BvBbTerm, BvNeg, BvAdd, BvMul, BvULt, BvSLt}
@@ -13,8 +13,8 @@ use Rattle.theory.specs.Term.{Term, Terms, node, nil, cons, two}
 use Rattle.theory.specs.Sort.{bv, sort-of}
 use Rattle.theory.specs.Value.{Assign, Val, number-of, value, bit-at, rotate-left-n, rotate-right-n}
 use Rattle.theory.specs.RuleTable.{Rule, by-ult, by-slt, by-add, by-mult, by-neg, rule-at}
-use Rattle.theory.specs.Record.{Bytes, AllBytes, records-of, step, read, step-count}
-use Rattle.theory.specs.Plain.{Plain, plain-after, at-place}
+use Rattle.theory.specs.Record.{Bytes, AllBytes, records-of, step, read, step-count, Item, term, chain, back, unknown, misfit}
+use Rattle.theory.specs.Plain.{Plain, plain-after, at-place, start, feed, repeat-of}
 use Rattle.theory.specs.Answer.{Answer, decode-answers}
 use Rattle.theory.specs.Job.{answer-to, Outcome, run, call}
 use Rattle.theory.specs.Demand.{Reached}
@@ -65,6 +65,41 @@ abbrev pub NothingKept : Type 0
 NothingKept = (job work work₂ old old₂ : Bytes) → length work ≡ length work₂ → length old ≡ length old₂
     → (let n = answer-bytes * call job work old .result .answers in drop n old ≡ drop n old₂)
     → call job work old ≡ call job work₂ old₂
+
+-- ---- "Adding a term must say whether it was new or found .. A job also returns the number of repeats, a back record not lowering it"
+-- the repeats among records, from a list on
+abbrev pub repeats-from : Plain → List Bytes → ℕ
+repeats-from list [] = 0
+repeats-from list (r ∷ rs) = repeat-of list r + repeats-from (feed list r) rs
+
+-- the records among them that put an entry on the list
+abbrev pub news-from : Plain → List Bytes → ℕ
+news-from list [] = 0
+news-from list (r ∷ rs) = cond (ltb (length list) (length (feed list r))) 1 0 + news-from (feed list r) rs
+
+-- a term record
+abbrev pub is-term : Item → Bool
+is-term (term o ks) = true
+is-term (step n ks) = false
+is-term (chain n ps k) = false
+is-term (back n) = false
+is-term unknown = false
+is-term misfit = false
+
+-- the term records among records
+abbrev pub term-count : List Bytes → ℕ
+term-count [] = 0
+term-count (r ∷ rs) = cond (is-term (read r)) 1 0 + term-count rs
+
+-- of every job: each term record done was a repeat or put an entry, whatever was dropped later
+abbrev pub Repeats : Type 0
+Repeats =
+    (job : Bytes) (work space : ℕ)
+    → let o = run job work space in let done = take (o .records) (records-of job) in o .repeats + news-from start done ≡ term-count done
+
+-- a record that says a term has six bytes or more, so a job of at most 16,777,216 bytes has no more repeats than these
+abbrev pub FewRepeats : Type 0
+FewRepeats = (job : Bytes) (work space : ℕ) → run job work space .repeats ≤ 2796202
 
 -- ---- "With arguments that aren't BvBbTerm, an accepted ult, slt or two-argument add has depth exactly 2 × n, and neg exactly 2 × n + 1"
 -- an argument of width n that is no BvBbTerm

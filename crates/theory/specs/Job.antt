@@ -2,7 +2,7 @@
 use mathlib.Core.Bool.{true, false, cond}
 use mathlib.Core.List.{List, [], _∷_, _++_}
 use mathlib.Core.Option.{Option, none, some}
-use Prim.Native.Nat.{ℕ, zero, suc}
+use Prim.Native.Nat.{ℕ, zero, suc, _+_}
 use lib.Dec.{leb}
 use lib.ListN.{length, drop, getElem?, replicate}
 use Rattle.theory.specs.Limit.{max-job}
@@ -13,7 +13,7 @@ use Rattle.theory.specs.Verdict.{Verdict, not-one-literal, code-of, acce
 use Rattle.theory.specs.RuleTable.{Rule, rule-at, ChainRule, chain-rule-at}
 use Rattle.theory.specs.Rule.{verdict}
 use Rattle.theory.specs.Record.{Bytes, records-of, ending, Item, term, step, chain, back, unknown, misfit, read}
-use Rattle.theory.specs.Plain.{Plain, start, feed, at-place, at-places}
+use Rattle.theory.specs.Plain.{Plain, start, feed, repeat-of, at-place, at-places}
 use Rattle.theory.specs.Codes.{fault}
 use Rattle.theory.specs.Answer.{Answer, encode-answers}
 use Rattle.theory.specs.Chain.{Earlier, recall-item, premises-at, joined}
@@ -66,33 +66,34 @@ answers-to earlier list r = item-answers earlier list (read r)
 unfoldable pub recall : Earlier → Plain → Bytes → Earlier
 recall earlier list r = recall-item earlier (read r) (answers-to earlier list r)
 
--- ---- the run: stop code, records done (the stopping one not counted), answers, terms kept
+-- ---- the run: stop code, records done (the stopping one not counted), answers, terms kept, term records done that were repeats
 -- the answers here are a list; in the memory they are bytes
 pub record Outcome : Type 0 where
   pub stop : ℕ
   pub records : ℕ
   pub answers : List Answer
   pub terms : ℕ
+  pub repeats : ℕ
 
 -- the outcome where the run ends
-abbrev pub outcome : ℕ → ℕ → List Answer → Plain → Outcome
-outcome stop done answers list = record { stop = stop; records = done; answers = answers; terms = length list }
+abbrev pub outcome : ℕ → ℕ → ℕ → List Answer → Plain → Outcome
+outcome stop done repeats answers list = record { stop = stop; records = done; answers = answers; terms = length list; repeats = repeats }
 
--- from `done` records on; `end` is the code where no record is left
-unfoldable pub run-from : ℕ → ℕ → ℕ → ℕ → Earlier → Plain → List Answer → List Bytes → Outcome
-run-from work space end done earlier list answers [] = outcome end done answers list
-run-from work space end done earlier list answers (r ∷ rs) =
+-- from `done` records and `repeats` repeats on; `end` is the code where no record is left
+unfoldable pub run-from : ℕ → ℕ → ℕ → ℕ → ℕ → Earlier → Plain → List Answer → List Bytes → Outcome
+run-from work space end done repeats earlier list answers [] = outcome end done repeats answers list
+run-from work space end done repeats earlier list answers (r ∷ rs) =
     elim (fault work space list (length answers) r) [
-      | zero ↦ run-from work space end (suc done) (recall earlier list r) (feed list r) (answers ++ answers-to earlier list r) rs
-      | suc code ↦ outcome (suc code) done answers list
+      | zero ↦ run-from work space end (suc done) (repeats + repeat-of list r) (recall earlier list r) (feed list r) (answers ++ answers-to earlier list r) rs
+      | suc code ↦ outcome (suc code) done repeats answers list
     ]
 
 -- of work memory and answers a run takes their lengths alone
 unfoldable pub run : Bytes → ℕ → ℕ → Outcome
 run job work space =
     elim (leb (length job) max-job) [
-      | true ↦ run-from work space (ending job) 0 [] start [] (records-of job)
-      | false ↦ outcome 2 0 [] start
+      | true ↦ run-from work space (ending job) 0 0 [] start [] (records-of job)
+      | false ↦ outcome 2 0 0 [] start
     ]
 
 -- ---- the lent memory after a call
@@ -104,17 +105,18 @@ answers-after answers old = let bs = encode-answers answers in bs ++ drop (lengt
 abbrev pub work-after : Bytes → Bytes
 work-after old = replicate (length old) 0
 
--- ---- a call: the four numbers that it returns, and the two memories
+-- ---- a call: the five numbers that it returns, and the two memories
 -- what the host gets
 pub record Returned : Type 0 where
   pub stop : ℕ
   pub records : ℕ
   pub answers : ℕ
   pub terms : ℕ
+  pub repeats : ℕ
 
 -- an outcome as it is returned
 abbrev pub returned : Outcome → Returned
-returned o = record { stop = o .stop; records = o .records; answers = length (o .answers); terms = o .terms }
+returned o = record { stop = o .stop; records = o .records; answers = length (o .answers); terms = o .terms; repeats = o .repeats }
 
 -- what is returned, and the two memories afterwards
 pub record Call : Type 0 where

@@ -61,6 +61,19 @@ feed-item list r misfit = list
 unfoldable pub feed : Plain → Bytes → Plain
 feed list r = feed-item list r (read r)
 
+-- 1 for a repeat, which is a term record that stands on the list already; else 0
+abbrev pub repeat-item : Plain → Bytes → Item → ℕ
+repeat-item list r (term o ks) = cond (has list r) 1 0
+repeat-item list r (step n ks) = 0
+repeat-item list r (chain n ps k) = 0
+repeat-item list r (back n) = 0
+repeat-item list r unknown = 0
+repeat-item list r misfit = 0
+
+-- the repeats that one more record adds, `list` being the plain list before it
+unfoldable pub repeat-of : Plain → Bytes → ℕ
+repeat-of list r = repeat-item list r (read r)
+
 -- the list after the first m records of the job; it is the document's as long as no record before has stopped the job
 abbrev pub plain-after : ℕ → Bytes → Plain
 plain-after m job = foldl feed start (take m (records-of job))

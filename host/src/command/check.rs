@@ -14,6 +14,7 @@ use std::{
 /// How the command is used.
 pub const USAGE: &str = "  bbhost check [--json] [-q] [--steps N] [--work BYTES] [--answers BYTES] FILE..
       Checks the job in each file (- is the standard input; up to 16 MiB each) and prints a table of its steps.
+      A repeat is a record of a term that was there already.
       --json     prints one JSON object instead
       -q         prints nothing
       --steps N  demands exactly N answers of each job, so that a job that lost its end does not pass
@@ -167,9 +168,10 @@ fn table(name: &str, bytes: usize, report: &Report, steps: Option<u32>, out: &mu
     };
     writeln!(
         out,
-        "{name}: {bytes}, {}, {} kept, {}",
+        "{name}: {bytes}, {}, {} kept, {}, {}",
         counted(outcome.records.into(), "record"),
         counted(outcome.terms.into(), "term"),
+        counted(outcome.repeats.into(), "repeat"),
         counted(outcome.answers.into(), "step")
     )?;
     if outcome.answers > 0 {
@@ -218,12 +220,13 @@ fn object(name: &str, bytes: usize, report: &Report, all_held: bool, out: &mut i
     let bytes = if bytes > MAX_JOB_BYTES { "null".to_owned() } else { bytes.to_string() };
     write!(
         out,
-        "{{\"file\":{},\"bytes\":{bytes},\"stop\":{},\"stop_meaning\":{},\"records\":{},\"terms\":{},\"all_held\":{},\"steps\":[",
+        "{{\"file\":{},\"bytes\":{bytes},\"stop\":{},\"stop_meaning\":{},\"records\":{},\"terms\":{},\"repeats\":{},\"all_held\":{},\"steps\":[",
         json::string(name),
         outcome.stop,
         json::string(report.stop_meaning()),
         outcome.records,
         outcome.terms,
+        outcome.repeats,
         all_held
     )?;
     for (k, answer) in report.answers().enumerate() {

@@ -78,7 +78,7 @@ struct Expected {
     work: usize,
     room: usize,
     /// The outcome's numbers.
-    outcome: [u32; 4],
+    outcome: [u32; 5],
     answers: Vec<u8>,
 }
 
@@ -96,7 +96,7 @@ impl Expected {
         Some(Expected {
             work: number("work")? as usize,
             room: number("room")? as usize,
-            outcome: [number("stop")?, number("records")?, number("answers")?, number("terms")?],
+            outcome: [number("stop")?, number("records")?, number("answers")?, number("terms")?, number("repeats")?],
             answers: answers.collect::<Option<_>>()?,
         })
     }

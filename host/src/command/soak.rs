@@ -218,7 +218,7 @@ impl Soak {
     fn known(&mut self) -> Result<(), String> {
         self.job.clone_from(&self.specimen);
         let outcome = self.run(64, 10 + 5)?;
-        if outcome.numbers() != [0, 9, 1, 10] {
+        if outcome.numbers() != [0, 9, 1, 10, 0] {
             return Err(format!("the specimen came to {outcome:?}"));
         }
         if self.answers.bytes()[..ANSWER_BYTES] != SPECIMEN_ANSWER {
@@ -242,7 +242,10 @@ impl Soak {
         if !self.work.fences_stand() || !self.answers.fences_stand() {
             return fault("memory that was not lent was written");
         }
-        if !matches!(outcome.stop, 0 | 2..=9 | 18 | 19) || !(2..=65_535).contains(&outcome.terms) {
+        if !matches!(outcome.stop, 0 | 2..=9 | 18 | 19)
+            || !(2..=65_535).contains(&outcome.terms)
+            || outcome.repeats > outcome.records
+        {
             return fault("an impossible outcome");
         }
         for bytes in self.answers.bytes()[..written].chunks_exact(ANSWER_BYTES) {

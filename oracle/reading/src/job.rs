@@ -23,6 +23,8 @@ pub struct Outcome {
     pub records: usize,
     pub answers: usize,
     pub terms: usize,
+    /// Records of terms that were on the list already.
+    pub repeats: usize,
 }
 
 #[derive(Debug, Clone, Copy, PartialEq, Eq)]
@@ -55,18 +57,19 @@ struct Run<'a> {
     records: Vec<&'a [u8]>,
     kept: HashSet<&'a [u8]>,
     steps: Vec<Answered>,
+    repeats: usize,
     lent: Lent,
 }
 
 /// Runs a job; `seen` gets each answered step.
 pub fn run(job: &[u8], lent: Lent, mut seen: impl FnMut(Step)) -> Outcome {
-    let mut outcome = Outcome { stop: 0, records: 0, answers: 0, terms: 2 };
+    let mut outcome = Outcome { stop: 0, records: 0, answers: 0, terms: 2, repeats: 0 };
     if job.len() > LONGEST {
         outcome.stop = 2;
         return outcome;
     }
     let (records, kept, steps) = Default::default();
-    let mut run = Run { pool: Pool::default(), list: vec![YES, NO], records, kept, steps, lent };
+    let mut run = Run { pool: Pool::default(), list: vec![YES, NO], records, kept, steps, repeats: 0, lent };
     let mut rest = job;
     while !rest.is_empty() {
         match cut(rest).and_then(|(record, after)| run.record(record, &mut seen).map(|()| after)) {
@@ -80,6 +83,7 @@ pub fn run(job: &[u8], lent: Lent, mut seen: impl FnMut(Step)) -> Outcome {
     }
     outcome.answers = run.steps.len();
     outcome.terms = run.list.len();
+    outcome.repeats = run.repeats;
     outcome
 }
 
@@ -121,6 +125,7 @@ impl<'a> Run<'a> {
         let args = self.named(&words(args))?;
         let id = self.pool.try_add(kind, &own_numbers(kind, own), &args).ok_or(7u16)?;
         if self.kept.contains(record) {
+            self.repeats += 1;
             return Ok(());
         }
         // `true` and `false` are on the list, but need no memory.
@@ -234,10 +239,10 @@ pub fn expect_text(job: &[u8], lent: Lent) -> String {
             bytes += &format!("{:02x}{:02x}", number & 255, number >> 8);
         }
     });
-    let Outcome { stop, records, answers, terms } = out;
+    let Outcome { stop, records, answers, terms, repeats } = out;
     let Lent { work, room } = lent;
     format!(
-        "work {work}\nroom {room}\nstop {stop}\nrecords {records}\nanswers {answers}\nterms {terms}\nbytes {bytes}\n"
+        "work {work}\nroom {room}\nstop {stop}\nrecords {records}\nanswers {answers}\nterms {terms}\nrepeats {repeats}\nbytes {bytes}\n"
     )
 }
 
@@ -254,5 +259,5 @@ pub fn bbcheck(job: &[u8]) -> String {
         let Answer { rule, code, depth } = step.answer;
         lines += &format!("{place} {rule} {code} {depth}\n");
     });
-    format!("steps {} terms {} stop {}\n{lines}", out.answers, out.terms, out.stop)
+    format!("steps {} terms {} repeats {} stop {}\n{lines}", out.answers, out.terms, out.repeats, out.stop)
 }

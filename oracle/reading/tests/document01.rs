@@ -38,9 +38,9 @@ fn over(maker: &mut Maker, kind: u16, width: usize, count: usize) -> (Id, [Id; 2
 
 #[test]
 fn the_specimen() {
-    assert_eq!(bbcheck(&specimen()), "steps 1 terms 10 stop 0\n1 9 0 2\n");
+    assert_eq!(bbcheck(&specimen()), "steps 1 terms 10 repeats 0 stop 0\n1 9 0 2\n");
     let outcome = run(&specimen(), Lent { work: 64, room: 10 }, |_| {});
-    assert_eq!(outcome, Outcome { stop: 0, records: 9, answers: 1, terms: 10 });
+    assert_eq!(outcome, Outcome { stop: 0, records: 9, answers: 1, terms: 10, repeats: 0 });
     assert!(expect_text(&specimen(), MUCH).ends_with("bytes 0800c800090000000200\n"));
     assert_eq!(stop(&specimen(), 63, 10), 8);
     assert_eq!(stop(&specimen(), 64, 9), 19);
@@ -76,6 +76,19 @@ fn the_order_of_tests() {
     let again = hex("04 00 0A 00 07 00 04 00 65 00 02 00 04 00 0A 00 07 00 04 00 14 00 02 00");
     let outcome = run(&again, Lent { work: 15, room: 0 }, |_| {});
     assert_eq!((outcome.stop, outcome.records, outcome.terms), (8, 3, 3));
+}
+
+/// A repeat is a record of a term on the list as it stands then; a back takes none away, and the stopping record is none.
+#[test]
+fn repeats() {
+    let outcome = |text: &str| {
+        let out = run(&hex(text), Lent { work: 800, room: 0 }, |_| {});
+        (out.stop, out.terms, out.repeats)
+    };
+    assert_eq!(outcome("04 00 0A 00 07 00 04 00 0A 00 07 00 04 00 0A 00 07 00"), (0, 3, 2));
+    assert_eq!(outcome("04 00 0A 00 07 00 04 00 0A 00 07 00 04 00 65 00 02 00 04 00 0A 00 07 00"), (0, 3, 1));
+    assert_eq!(outcome("04 00 0A 00 07 00 04 00 0A 00 07 00 04 00 14 00 09 00"), (6, 3, 1));
+    assert_eq!(run(&vec![0; 16_777_217], Lent { work: 0, room: 0 }, |_| {}).repeats, 0);
 }
 
 #[test]

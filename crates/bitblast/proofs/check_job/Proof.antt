@@ -16,7 +16,7 @@ returns c =
 
 returns-2 : tie.Need-returns-2
 returns-2 c =
-    let e = c .before .before .before .before .before in
+    let e = c .before .before .before .before .before .before in
     let w = e .before .before .before .before .before .before .walk .ensures in
     (w .result-is, e .seal .ensures ∙ w .answers-are)
 
@@ -27,6 +27,7 @@ check-job-spec =
     returns
     (λ c κs. search needs)
     (λ c κs. search needs)
+    (λ c. search needs)
     (λ c. search needs)
     (λ c. search needs)
     (λ c. search needs)

@@ -6,15 +6,15 @@ use Rattle.report.proofs.report.Statement.{statement}
 use Rattle.report.proofs.report.Tie as tie
 
 returns : tie.Need-returns
-returns c = let a = c .before .before .before .args in report-none (a .stop) (a .terms) (a .count) (a .answers .now) (a .out .now) (omega arith)
+returns c = let a = c .before .before .before .args in report-none (a .stop) (a .terms) (a .repeats) (a .count) (a .answers .now) (a .out .now) (omega arith)
 
 returns-2 : tie.Need-returns-2
-returns-2 c = let a = c .before .before .before .before .args in report-short (a .stop) (a .terms) (a .count) (a .answers .now) (a .out .now) (omega arith) (omega arith)
+returns-2 c = let a = c .before .before .before .before .args in report-short (a .stop) (a .terms) (a .repeats) (a .count) (a .answers .now) (a .out .now) (omega arith) (omega arith)
 
 returns-3 : tie.Need-returns-3
 returns-3 c =
     let a = c .before .before .before .before .before .before .before .before .before .before .before .before .args in
-    report-whole (a .stop) (a .terms) (a .count) (a .answers .now) (a .out .now) (omega arith) (omega arith) (c .before .before .before .before .before .before .put-head .ensures .0) (c .before .before .put-lines .ensures)
+    report-whole (a .stop) (a .terms) (a .repeats) (a .count) (a .answers .now) (a .out .now) (omega arith) (omega arith) (c .before .before .before .before .before .before .put-head .ensures .0) (c .before .before .put-lines .ensures)
 
 pub report-spec : {M : Type 1} → statement M
 report-spec =

@@ -34,8 +34,12 @@ impl Maker {
 
     /// A step that later ones may name: mostly held, now and then form only or refused.
     fn a_premise(&mut self) {
-        let form_only = self.rng.chance(12);
-        let rule = if form_only { self.rng.range(20, 22) as u16 } else { self.any_rule() };
+        let rule = match self.rng.below(8) {
+            0 => self.rng.range(20, 22) as u16,
+            // Equalities of Bools, which gates can be joined over.
+            1 | 2 => self.rng.pick(&[8, 9, 13]),
+            _ => self.any_rule(),
+        };
         let width = self.rng.range(1, 3);
         let left = self.left(rule, width);
         let claim = self.right_claim(rule, left);

@@ -8,7 +8,7 @@ use Rattle.theory.specs.Record.{extent}
 use Rattle.terms.proofs.Reading.{whole-learnt, stands}
 use Rattle.bitblast.specs.Walking.{broken, taken}
 use Rattle.bitblast.proofs.Positions.{not-whole}
-use Rattle.bitblast.proofs.Walks.{moved-on, moved-not}
+use Rattle.bitblast.proofs.Walks.{turn-repeats, moved-on, moved-not}
 use Rattle.bitblast.proofs.walk.next.Statement.{statement}
 use Rattle.bitblast.proofs.walk.next.Tie as tie
 
@@ -50,15 +50,24 @@ add-t15 c =
     let e = whole-learnt (drop (s .args .s .at) (now (s .args .job))) (sym (k .size .given .1) ∙ f .frame .ensures) in
     omega (arith, s .pre .counted, stands (now (s .args .job)) (s .args .s .at) (e .0) .end, s .good)
 
+add-t16 : tie.Need-add-t16
+add-t16 c =
+    let t = c .before .before .before .before .before .before .before .before .before in
+    let k = t .before .before .before .before in
+    let f = k .before .before in
+    let s = f .before .before .before .before in
+    let e = whole-learnt (drop (s .args .s .at) (now (s .args .job))) (sym (k .size .given .1) ∙ f .frame .ensures) in
+    omega (arith, s .pre .counted, s .pre .repeated, turn-repeats (t .take-record .ensures), stands (now (s .args .job)) (s .args .s .at) (e .0) .end, s .good)
+
 returns-3 : tie.Need-returns-3
 returns-3 c =
-    let t = c .before .before .before .before .before .before .before in
+    let t = c .before .before .before .before .before .before .before .before .before in
     let k = t .before .before .before .before in
     let f = k .before .before in
     let s = f .before .before .before .before in
     let bs = drop (s .args .s .at) (now (s .args .job)) in
     let e = whole-learnt bs (sym (k .size .given .1) ∙ f .frame .ensures) in
-    taken (e .0) (t .take-record .result) (t .take-record .ensures) (moved-on (extent bs) (s .args .s) (t .take-record .result) (c .before .if1 .left) (e .1))
+    taken (e .0) (t .take-record .result) (t .take-record .ensures) (moved-on (extent bs) (s .args .s) (t .take-record .result) (c .before .before .before .if1 .left) (e .1))
 
 pub next-spec : {M : Type 1} → statement M
 next-spec =
@@ -73,6 +82,7 @@ next-spec =
     returns-2
     add-t14
     add-t15
+    add-t16
     (λ c. search needs)
     (λ c. search needs)
     returns-3)
