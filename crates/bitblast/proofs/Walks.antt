@@ -2,21 +2,22 @@
 use mathlib.Core.Path.{_≡_, refl, sym, ap, ap₂, subst, subst₂, _∙_}
 use mathlib.Core.Bool.{Bool, true, false, cond}
 use mathlib.Core.Logic.{_⊎_, inl, inr, ⊎-elim}
-use mathlib.Core.List.{List, [], _∷_, _++_, append-nil}
+use mathlib.Core.List.{List, [], _∷_, _++_, foldl, append-nil}
 use Prim.Native.Nat.{ℕ, zero, suc, _+_, _-_, _*_, _<_, _≤_}
 use native.Mathlib.Omega.{arith}
 use native.Mathlib.Numerals.{add-one}
 use lib.Dec.{leb}
-use lib.ListN.{length, drop, length-drop, length-append, length-map}
+use lib.ListN.{length, take, drop, replicate, length-drop, length-append, length-map, length-replicate}
 use lib.Seq.{drop-drop, length-take-le}
 use borrow.Author.Tests.{le-leb, lt-leb}
 use Rattle.theory.specs.Limit.{first-terms, max-job, answer-bytes}
 use Rattle.theory.specs.Record.{Bytes, extent, whole, records-of, total-length, ending, Item, term, step, chain, back, unknown, misfit, read}
-use Rattle.theory.specs.Plain.{Plain, start, feed, has, repeat-item, repeat-of}
+use Rattle.theory.specs.Plain.{Plain, start, feed, plain-after, has, repeat-item, repeat-of}
 use Rattle.theory.specs.Codes.{fault}
 use Rattle.theory.specs.Answer.{Answer}
 use Rattle.theory.specs.Chain.{Earlier}
 use Rattle.theory.specs.Job.{answers-to, recall, Outcome, Returned, outcome, returned, run-from, run, answers-after}
+use Rattle.theory.proofs.Basics.{foldl-append}
 use Rattle.theory.proofs.Written.{new-small}
 use Rattle.theory.proofs.Origins.{Mark, origins-item, marks-item, Tracks, tracks-start, tracks-next}
 use Rattle.terms.specs.Framing.{record-at}
@@ -28,8 +29,8 @@ use Rattle.records.specs.declared.Turn.{Turn}
 use Rattle.bitblast.specs.declared.walk.State.{State}
 use Rattle.steps.specs.Answering.{with-notes, step-place, sealed}
 use Rattle.chains.specs.Premises.{marks-in, origins, earlier-in}
-use Rattle.records.specs.Turning.{passed, Turned}
-use Rattle.bitblast.specs.Walking.{state, moved, Standing, Next, broken, taken, Walked}
+use Rattle.records.specs.Turning.{passed, memory-at, Turned}
+use Rattle.bitblast.specs.Walking.{state, moved, Standing, Next, broken, taken, memory-run, memory-left, Walked}
 use Rattle.steps.proofs.Writing.{Note, written-fits, one-answer}
 use Rattle.bitblast.proofs.Notes.{answers-of, at-record, notes-after, answers-more, notes-more, notes-sealed, marks-more, places-more}
 use Rattle.bitblast.proofs.Positions.{records-whole, records-broken, none-left, ends-whole, ends-broken}
@@ -94,6 +95,46 @@ module _ (job : Bytes) (work space : ℕ) where
   pub run-long : max-job < length job → run job work space ≡ outcome 2 0 0 [] start
   run-long h = by-length (lt-leb (length job) max-job h)
 
+-- ---- the records done
+-- the first that is left, of any list
+take-next : (m : ℕ) (xs : List Bytes) {r : Bytes} {rs : List Bytes} → drop m xs ≡ r ∷ rs → (take (suc m) xs ≡ take m xs ++ (r ∷ [])) × (drop (suc m) xs ≡ rs)
+take-next zero xs e = (ap (take 1) e, ap (drop 1) e)
+take-next (suc m) [] e = absurd (let z = ap length e in omega arith)
+take-next (suc m) (x ∷ xs) e = let q = take-next m xs e in (ap (λ (l : List Bytes). x ∷ l) (q .0), q .1)
+
+total-snoc : (xs : List Bytes) (r : Bytes) → total-length (xs ++ (r ∷ [])) ≡ total-length xs + length r
+total-snoc [] r = omega arith
+total-snoc (x ∷ xs) r = let q = total-snoc xs r in omega arith
+
+-- where they end, and what they made of the list and of the work memory
+pub record Done (job : Bytes) (size : ℕ) (work : Bytes) (at records rows : ℕ) : Type 0 where
+  pub at-is : at ≡ total-length (take records (records-of job))
+  pub listed-is : listed job work rows ≡ plain-after records job
+  pub memory-is : work ≡ memory-run job size records
+
+-- one more is done
+module _ {job work : Bytes} {size at m rows : ℕ} (d : Done job size work at m rows) (count : length (listed job work rows) ≡ first-terms + rows)
+    {r : Bytes} {rs : List Bytes} (e : drop m (records-of job) ≡ r ∷ rs) where
+  memory-more : memory-at job work rows at ≡ memory-run job size (m + 1)
+  unfolding memory-run
+  memory-more =
+      let k : rows ≡ length (plain-after m job) - first-terms = let z = ap length (d .listed-is) in omega arith in
+      ap (λ (w : Bytes). memory-at job w rows at) (d .memory-is) ∙ ap₂ (λ (i j : ℕ). memory-at job (memory-run job size m) i j) k (d .at-is) ∙ ap (memory-run job size) (sym (add-one m))
+
+  done-more : {work′ : Bytes} {rows′ n : ℕ} → length r ≡ n → listed job work′ rows′ ≡ feed (listed job work rows) r → work′ ≡ memory-at job work rows at
+      → Done job size work′ (at + n) (m + 1) rows′
+  done-more {work′} {rows′} {n} l f w =
+      let q = take-next m (records-of job) e .0 in
+      let t : take (m + 1) (records-of job) ≡ take m (records-of job) ++ (r ∷ []) = ap (λ (i : ℕ). take i (records-of job)) (add-one m) ∙ q in
+      record {
+        at-is = let x = d .at-is in let y = total-snoc (take m (records-of job)) r in let z = ap total-length t in omega arith;
+        listed-is = f ∙ ap (λ (x : Plain). feed x r) (d .listed-is) ∙ sym (foldl-append feed start (take m (records-of job)) (r ∷ [])) ∙ ap (foldl feed start) (sym t);
+        memory-is = w ∙ memory-more;
+      }
+
+  left-more : drop (m + 1) (records-of job) ≡ rs
+  left-more = ap (λ (i : ℕ). drop i (records-of job)) (add-one m) ∙ take-next m (records-of job) e .1
+
 -- ---- what holds between two records
 -- of the job, the length of its work memory and the old bytes of its answers' memory: the answers given, what both memories hold, and the counts
 pub record Holding (job : Bytes) (size : ℕ) (old work answers : Bytes) (s : State) (ms : List Note) : Type 0 where
@@ -114,6 +155,8 @@ pub record Between (job : Bytes) (size : ℕ) (old work answers : Bytes) (s : St
   pub given : List Note
   pub holding : Holding job size old work answers s given
   pub tracks : Tracks (s .at) (origins work (s .rows)) (marks-in job answers (s .answers)) (earlier-in job work answers (s .rows) (s .answers)) (listed job work (s .rows))
+  pub done : Done job size work (s .at) (s .records) (s .rows)
+  pub left : drop (s .records) (records-of job) ≡ records-of (drop (s .at) job)
   pub before : total-length (records-of job) ≡ s .at + total-length (records-of (drop (s .at) job))
   pub leads : run job size (length old)
       ≡ run-from size (length old) (ending job) (s .records) (s .repeats) (earlier-in job work answers (s .rows) (s .answers)) (listed job work (s .rows)) (answers-of given) (records-of (drop (s .at) job))
@@ -122,6 +165,7 @@ pub record Between (job : Bytes) (size : ℕ) (old work answers : Bytes) (s : St
 pub record Stopped (job : Bytes) (size : ℕ) (old work answers : Bytes) (s : State) : Type 0 where
   pub given : List Note
   pub holding : Holding job size old work answers s given
+  pub done : Done job size work (s .at) (s .records) (s .rows)
   pub ended : run job size (length old) ≡ outcome (s .stop) (s .records) (s .repeats) (answers-of given) (listed job work (s .rows))
 
 -- before the first record no step is there, and `true` and `false` are the only terms
@@ -133,6 +177,10 @@ start-tracks : {job work after : Bytes} (old : Bytes) → length job ≤ max-job
     → Tracks 0 (origins after 0) (marks-in job old 0) (earlier-in job after old 0 0) (listed job after 0)
 unfolding marks-in origins offsets column
 start-tracks {job} {work} {after} old h s = subst (Tracks 0 (0 ∷ 0 ∷ []) [] []) (sym (s .listed-is)) tracks-start
+
+start-memory : (job work : Bytes) {after : Bytes} → after ≡ replicate (length work) 0 → after ≡ memory-run job (length after) 0
+unfolding memory-run
+start-memory job work e = e ∙ ap (λ (n : ℕ). replicate n 0) (sym (ap length e ∙ length-replicate {A = ℕ} (length work) 0))
 
 -- at the first record
 pub begins : {job work after : Bytes} (old : Bytes) → length job ≤ max-job → Started job work after → Between job (length after) old after old (state 0 0 0 0 0 0)
@@ -152,6 +200,12 @@ begins {job} {work} {after} old h s = record {
     fewer = omega arith;
     rarer = omega arith;
   };
+  done = record {
+    at-is = refl;
+    listed-is = s .listed-is;
+    memory-is = start-memory job work (s .all-zero);
+  };
+  left = refl;
   before = omega arith;
   leads = run-short job (length after) (length old) h
       ∙ ap₂ (λ (earlier : Earlier) (list : Plain). run-from (length after) (length old) (ending job) 0 0 earlier list [] (records-of job)) (sym (none-earlier job after old)) (sym (s .listed-is));
@@ -179,10 +233,10 @@ ends {job} {old} {work} {answers} {size} {s} b z h =
     let l = length-drop (s .at) job in
     let none : records-of (drop (s .at) job) ≡ [] = records-broken (drop (s .at) job) (none-left (drop (s .at) job) (omega arith)) in
     let total : total-length (records-of job) ≡ length job = b .before ∙ ap (λ (rs : List Bytes). s .at + total-length rs) none ∙ omega arith in
-    record { given = b .given; holding = b .holding; ended = last b none (ends-whole job total ∙ sym z) }
+    record { given = b .given; holding = b .holding; done = b .done; ended = last b none (ends-whole job total ∙ sym z) }
 
 -- what the host is told of a job that stopped
-pub walked : {job old work answers : Bytes} {size : ℕ} {s : State} → length job ≤ max-job → Stopped job size old work answers s → {given-size : ℕ} → size ≡ given-size → Walked job given-size old answers s
+pub walked : {job old work answers : Bytes} {size : ℕ} {s : State} → length job ≤ max-job → Stopped job size old work answers s → {given-size : ℕ} → size ≡ given-size → Walked job given-size old work answers s
 walked {job} {old} {work} {answers} {size} {s} short t {given-size} same =
     let h = t .holding in
     let c = h .counted in
@@ -199,6 +253,8 @@ walked {job} {old} {work} {answers} {size} {s} short t {given-size} same =
     let terms : s .rows + first-terms ≡ length (listed job work (s .rows)) = omega arith in
     record {
       result-is = ap₂ (λ (x y : ℕ). told-of x y) (c ∙ sym m) terms ∙ ap returned (sym e);
+      at-is = t .done .at-is;
+      memory-is = t .done .memory-is ∙ ap (λ (m : ℕ). memory-run job m (s .records)) same;
       roomy = omega arith;
       answers-are = ap (sealed (s .answers)) (h .written) ∙ notes-sealed old (t .given) c ∙ ap (λ (o : Outcome). answers-after (o .answers) old) (sym e);
       few-records = omega arith;
@@ -209,6 +265,21 @@ walked {job} {old} {work} {answers} {size} {s} short t {given-size} same =
   where
     told-of : ℕ → ℕ → Returned
     told-of x y = record { stop = s .stop; records = s .records; answers = x; terms = y; repeats = s .repeats }
+
+-- ---- the work memory that a job leaves, by the test of its length
+module _ (job work : Bytes) (space : ℕ) where
+  by-test : {b : Bool} → leb (length job) max-job ≡ b → cond b (memory-run job (length work) (run job (length work) space .records)) work ≡ memory-left job work space
+  unfolding memory-left
+  by-test e = sym (ap (λ (x : Bool). cond x (memory-run job (length work) (run job (length work) space .records)) work) e)
+
+  -- a job that is too long
+  pub left-long : max-job < length job → work ≡ memory-left job work space
+  left-long h = by-test (lt-leb (length job) max-job h)
+
+  -- a job that is read
+  pub left-short : length job ≤ max-job → {work′ : Bytes} {m : ℕ} → work′ ≡ memory-run job (length work) m → m ≡ run job (length work) space .records
+      → work′ ≡ memory-left job work space
+  left-short h e k = e ∙ ap (memory-run job (length work)) k ∙ by-test (le-leb (length job) max-job h)
 
 -- ---- one record: the state after it, by the code
 module _ (size : ℕ) (s : State) (t : Turn) where
@@ -250,6 +321,7 @@ module _ {job old work answers : Bytes} {size : ℕ} {s : State} (b : Between jo
           fewer = h .fewer;
           rarer = h .rarer;
         };
+        done = b .done;
         ended = last b none (ends-broken job (omega arith));
       }))
 
@@ -390,11 +462,15 @@ module _ {job old work answers : Bytes} {size : ℕ} {s : State} (b : Between jo
         let k = count 0 e in
         let u = few-new 0 e in
         let d : drop n (drop (s .at) job) ≡ drop (s .at + n) job = drop-drop n (s .at) job in
+        let next-left : drop (s .records) (records-of job) ≡ r ∷ left = b .left ∙ records-whole (drop (s .at) job) w in
         let len : length r ≡ n = length-take-le n (drop (s .at) job) (let m = length-drop (s .at) job in omega arith) in
         record {
           given = b .given ++ at-record (s .at) (answers-to E list r);
           tracks = subst (λ (x : Earlier). Tracks (s .at + n) (origins work′ (t .rows)) (marks-in job answers′ (t .answers)) x (listed job work′ (t .rows))) (tracked e .is) (tracked e);
           holding = held 0 e (s .at + n) (s .records + 1) (s .repeats + t .repeats) 0 (omega arith) (omega arith) (omega arith) (omega arith);
+          done = done-more (b .done) (h .store .count) next-left len (turned .listed-is ∙ ap (λ (x : ℕ). passed x (feed list r) list) e)
+              (turned .memory-is ∙ ap (λ (x : ℕ). passed x (memory-at job work (s .rows) (s .at)) work) e);
+          left = left-more (b .done) (h .store .count) next-left ∙ ap records-of d;
           before = b .before ∙ ap (λ (rs : List Bytes). s .at + total-length rs) (records-whole (drop (s .at) job) w)
               ∙ ap (λ (m : ℕ). s .at + (m + total-length left)) len ∙ ap (λ (bs : Bytes). s .at + (n + total-length (records-of bs))) d ∙ omega arith;
           leads = here ∙ run-record size (length old) (ending job) (s .records) (s .repeats) E list (answers-of (b .given)) r left (test ∙ e)
@@ -419,6 +495,11 @@ module _ {job old work answers : Bytes} {size : ℕ} {s : State} (b : Between jo
         record {
           given = b .given ++ [];
           holding = held (suc c) e (s .at) (s .records) (s .repeats) (suc c) (h .within) (h .few) (omega arith) (h .rarer);
+          done = record {
+            at-is = b .done .at-is;
+            listed-is = turned .listed-is ∙ ap (λ (x : ℕ). passed x (feed list r) list) e ∙ b .done .listed-is;
+            memory-is = turned .memory-is ∙ ap (λ (x : ℕ). passed x (memory-at job work (s .rows) (s .at)) work) e ∙ b .done .memory-is;
+          };
           ended = here ∙ run-record size (length old) (ending job) (s .records) (s .repeats) E list (answers-of (b .given)) r left (test ∙ e)
               ∙ ap₂ (outcome (suc c) (s .records) (s .repeats)) (ap answers-of (sym (append-nil (b .given)))) (sym (turned .listed-is ∙ ap (λ (x : ℕ). passed x (feed list r) list) e));
         }

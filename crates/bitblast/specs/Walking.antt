@@ -1,17 +1,19 @@
 -- Where a job stands between two records, what the next record does to it, and what the job comes to.
 use mathlib.Core.Path.{_≡_}
-use mathlib.Core.Bool.{true, false}
-use Prim.Native.Nat.{ℕ, _+_, _*_, _≤_, _<_}
-use lib.ListN.{length, drop}
+use mathlib.Core.Bool.{true, false, cond}
+use Prim.Native.Nat.{ℕ, zero, suc, _+_, _-_, _*_, _≤_, _<_}
+use lib.Dec.{leb}
+use lib.ListN.{length, take, drop, replicate}
 use Rattle.theory.specs.Limit.{first-terms, max-terms, max-job, answer-bytes}
-use Rattle.theory.specs.Record.{Bytes, extent, whole}
+use Rattle.theory.specs.Record.{Bytes, extent, whole, records-of, total-length}
+use Rattle.theory.specs.Plain.{plain-after}
 use Rattle.theory.specs.Job.{Returned, returned, run, answers-after}
 use Rattle.steps.specs.Answering.{sealed}
 use Rattle.chains.specs.Premises.{Noted}
 use Rattle.bitblast.specs.declared.Outcome.{Outcome}
 use Rattle.records.specs.declared.Turn.{Turn}
 use Rattle.bitblast.specs.declared.walk.State.{State}
-use Rattle.records.specs.Turning.{passed, Turned}
+use Rattle.records.specs.Turning.{passed, memory-at, Turned}
 
 -- what the host is told
 abbrev pub told : Outcome → Returned
@@ -50,11 +52,26 @@ pub record Enough (job work used : ℕ) : Type 0 where
   pub within : used ≤ work
   pub enough : used < work → 4 * job ≤ used
 
--- what the host is to be told of the whole job, and the answers' memory once its answers have their length and kind; the numbers fit into 32 bits
-pub record Walked (job : Bytes) (work : ℕ) (old answers : Bytes) (s : State) : Type 0 where
-  pub result-is : reached s ≡ returned (run job work (length old))
+-- ---- the work memory
+-- after the first m records of a job, in so many bytes: all zero before the first, then as each record leaves it
+unfoldable pub memory-run : Bytes → ℕ → ℕ → Bytes
+memory-run job size zero = replicate size 0
+memory-run job size (suc m) =
+    memory-at job (memory-run job size m) (length (plain-after m job) - first-terms) (total-length (take m (records-of job)))
+
+-- as a job leaves it: untouched where the job is too long to be read, else as the records done leave it
+unfoldable pub memory-left : Bytes → Bytes → ℕ → Bytes
+memory-left job work space = cond (leb (length job) max-job) (memory-run job (length work) (run job (length work) space .records)) work
+
+-- ---- the whole job
+-- what the host is to be told of it, and the answers' memory once its answers have their length and kind; where the records done end, and the work
+-- memory after them; the numbers fit into 32 bits
+pub record Walked (job : Bytes) (size : ℕ) (old work answers : Bytes) (s : State) : Type 0 where
+  pub result-is : reached s ≡ returned (run job size (length old))
+  pub at-is : s .at ≡ total-length (take (s .records) (records-of job))
+  pub memory-is : work ≡ memory-run job size (s .records)
   pub roomy : answer-bytes * s .answers ≤ length answers
-  pub answers-are : sealed (s .answers) answers ≡ answers-after (run job work (length old) .answers) old
+  pub answers-are : sealed (s .answers) answers ≡ answers-after (run job size (length old) .answers) old
   pub few-records : s .records ≤ max-job
   pub few-answers : s .answers ≤ max-job
   pub few-terms : s .rows + first-terms ≤ max-terms

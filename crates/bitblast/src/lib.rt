@@ -8,7 +8,7 @@ ghost use Rattle.theory.specs.Answer.{decode-answers};
 ghost use Rattle.theory.specs.Job.{call};
 ghost use Rattle.theory.specs.Demand.{Demand3};
 ghost use Rattle.theory.specs.Demands.{Stops, Demand2};
-ghost use Rattle.bitblast.specs.Walking.{told, Enough};
+ghost use Rattle.bitblast.specs.Walking.{told, Enough, memory-left};
 use crate::walk::walk;
 use steps::answers::seal;
 
@@ -33,6 +33,7 @@ pub struct Outcome {
 fn check_job(job: &[u8], work: &mut [u8], answers: &mut [u8]) -> Outcome
     ensures result { λ r. ⌜ told r ≡ call (now (job .entry)) (now (work .entry)) (now (answers .entry)) .result ⌝ }
     ensures answers { λ _. ⌜ now (answers .exit) ≡ call (now (job .entry)) (now (work .entry)) (now (answers .entry)) .answer-memory ⌝ }
+    ensures work { λ _. ⌜ now (work .exit) ≡ memory-left (now (job .entry)) (now (work .entry)) (length (now (answers .entry))) ⌝ }
 {
     if MAX_JOB < job.len() {
         return Outcome {

@@ -58,7 +58,7 @@ fn next(job: &[u8], work: &mut [u8], answers: &mut [u8], s: State) -> State
 // Takes all records of a job.
 pub fn walk(job: &[u8], work: &mut [u8], answers: &mut [u8]) -> State
     requires { ⌜ length (now job) ≤ max-job ⌝ }
-    ensures { λ r. ⌜ Walked (now (job .entry)) (length (now (work .entry))) (now (answers .entry)) (now (answers .exit)) r ⌝ }
+    ensures { λ r. ⌜ Walked (now (job .entry)) (length (now (work .entry))) (now (answers .entry)) (now (work .exit)) (now (answers .exit)) r ⌝ }
 {
     intern::start(job, work);
     let mut s = State {

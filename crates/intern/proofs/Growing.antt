@@ -143,6 +143,7 @@ module _ {job work after : Bytes} {n count : ℕ} (s : Store job work n) (low : 
       let q = s .count in
       let z : count ≡ suc (suc m) = omega arith in
       record {
+        memory-is = c .memory-is;
         store = record {
           table = c .table;
           well = subst WellKept (sym cut-listed) (take-well count list low (omega arith) (s .well));

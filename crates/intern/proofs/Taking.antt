@@ -36,7 +36,7 @@ use Rattle.terms.specs.Framing.{record-at}
 use Rattle.rows.specs.Layout.{missing, number-end, depth-at, width-at}
 use Rattle.rows.specs.Rows.{kept, offsets, depths, widths, place-of}
 use Rattle.table.specs.Slots.{Table}
-use Rattle.table.specs.Promise.{Grown, room-for, added-for, count-after, list-after}
+use Rattle.table.specs.Promise.{Grown, room-for, added-for, count-after, list-after, memory-after, with-row}
 use Rattle.table.specs.declared.kept.Added.{Added}
 use Rattle.table.specs.declared.kept.Added.the-variants as A
 use Rattle.table.proofs.Face.{depths-at, widths-at, place-stands, place-absent}
@@ -46,7 +46,7 @@ use Rattle.terms.specs.Decoded.{op-of, arguments-of}
 use Rattle.store.specs.Store.{Store, stored, listed, records}
 use Rattle.store.specs.Sorts.{sorts-at, deepest-at}
 use Rattle.intern.specs.Kinds.{Fitting}
-use Rattle.intern.specs.Interning.{Offered, Taken, code-of, rows-after, offsets-after, answer-for, list-after as list-after-of}
+use Rattle.intern.specs.Interning.{Offered, Taken, code-of, rows-after, offsets-after, bytes-after, with-term, answer-for, list-after as list-after-of}
 use Rattle.store.proofs.Lookup.{says-count}
 use Rattle.intern.proofs.Asking.{tree-depth}
 use Rattle.store.proofs.Keeping.{records-at}
@@ -309,14 +309,15 @@ module _ {job work : Bytes} {n at : ℕ} {t : Decoded} (o : Offered job work n a
 
   taken : {answer : Interned} {after : Bytes}
       → answer ≡ answer-for (well-sorted (term-of (listed job work n) (op-of t) (arguments-of job t))) (has (listed job work n) (record-at job at)) (room (length work) (listed job work n)) n
+      → after ≡ bytes-after answer work (with-term job work n at (tree-of (listed job work n) (op-of t) (arguments-of job t)))
       → Store job after (rows-after answer n) → listed job after (rows-after answer n) ≡ list-after-of answer (listed job work n) (record-at job at)
       → offsets after (rows-after answer n) ≡ offsets-after answer at (offsets work n) → Taken job work after n at t answer
-  taken {answer} e s l f = record { answer-is = e; code-is = ap code-of e ∙ code-law _ _ _ n; store = s; listed-is = l; offsets-are = f }
+  taken {answer} e m s l f = record { answer-is = e; code-is = ap code-of e ∙ code-law _ _ _ n; memory-is = m; store = s; listed-is = l; offsets-are = f }
 
   -- it has no sort
   pub taken-unsorted : {s : Sort} → s ≡ sort-of (tree-of (listed job work n) (op-of t) (arguments-of job t)) → same-sort s bad ≡ true → Taken job work work n at t I.Unsorted
   unfolding answer-for
-  taken-unsorted {s} e f = taken (decided (sorted-is e ∙ bad-test s .0 f) refl refl) (o .arguments .store) refl refl
+  taken-unsorted {s} e f = taken (decided (sorted-is e ∙ bad-test s .0 f) refl refl) refl (o .arguments .store) refl refl
 
   module _ {after : Bytes} {d w : ℕ} {s : Sort} (bytes : AllBytes job) (e : s ≡ sort-of (tree-of (listed job work n) (op-of t) (arguments-of job t))) (f : same-sort s bad ≡ false)
       (de : d ≡ depth (tree-of (listed job work n) (op-of t) (arguments-of job t))) (we : w ≡ sort-width s) {a : Added} (g : Grown job work after n at d w a) where
@@ -330,26 +331,26 @@ module _ {job work : Bytes} {n at : ℕ} {t : Decoded} (o : Offered job work n a
     grown-as b q = subst (Grown job work after n at d w) q g
 
     pub taken-found : {p : ℕ} → a ≡ A.Found p → Taken job work after n at t (I.Found n)
-    unfolding count-after list-after answer-for
+    unfolding count-after list-after memory-after answer-for
     taken-found {p} q =
         let h = grown-as (A.Found p) q in
         let s = o .arguments .store in
         let there = found-there s (record-at job at) (found-means (record-at job at) (kept job work n) (length work) (h .answer-is)) in
-        taken (decided sorted-true there refl) (store-same s (h .table) (h .kept-is) (h .depths-are) (h .widths-are))
+        taken (decided sorted-true there refl) (h .memory-is) (store-same s (h .table) (h .kept-is) (h .depths-are) (h .widths-are))
         (ap stored (h .kept-is) ∙ fed-old s (record-at job at) (op-of t) (arguments-of job t) says-it all-low there) (h .offsets-are)
 
     pub taken-spent : a ≡ A.Spent → Taken job work after n at t I.Spent
-    unfolding count-after list-after answer-for
+    unfolding count-after list-after memory-after answer-for
     taken-spent q =
         let h = grown-as A.Spent q in
         let s = o .arguments .store in
         let m = spent-means (record-at job at) (kept job work n) (length work) (h .answer-is) in
         let there = missing-there s (record-at job at) (sound-it .long) (m .0) in
         let none-left : room (length work) (listed job work n) ≡ false = room-is ∙ ap (λ (k : ℕ). room-for k (length work)) (sym (length-kept job work n)) ∙ m .1 in
-        taken (decided sorted-true there none-left) (store-same s (h .table) (h .kept-is) (h .depths-are) (h .widths-are)) (ap stored (h .kept-is)) (h .offsets-are)
+        taken (decided sorted-true there none-left) (h .memory-is) (store-same s (h .table) (h .kept-is) (h .depths-are) (h .widths-are)) (ap stored (h .kept-is)) (h .offsets-are)
 
     pub taken-new : {p : ℕ} → a ≡ A.New p → Taken job work after n at t (I.New (n + 1))
-    unfolding count-after list-after answer-for
+    unfolding count-after list-after memory-after answer-for with-term
     taken-new {p} q =
         let h = grown-as (A.New p) q in
         let st = o .arguments .store in
@@ -358,6 +359,6 @@ module _ {job work : Bytes} {n at : ℕ} {t : Decoded} (o : Offered job work n a
         let some-left : room (length work) (listed job work n) ≡ true = room-is ∙ ap (λ (k : ℕ). room-for k (length work)) (sym (length-kept job work n)) ∙ m .1 in
         let ds = h .depths-are ∙ ap (λ (x : ℕ). depths work n ++ (x ∷ [])) de in
         let ws = h .widths-are ∙ ap (λ (x : ℕ). widths work n ++ (x ∷ [])) (we ∙ ap sort-width e) in
-        taken (decided sorted-true there some-left)
+        taken (decided sorted-true there some-left) (h .memory-is ∙ ap₂ (with-row job work n at) de (we ∙ ap sort-width e))
         (store-snoc st (record-at job at) (op-of t) (arguments-of job t) says-it all-low after there (h .kept-is) sound-it (subst (λ (x : Sort). T (good x)) e (bad-test s .1 f)) (h .table) ds ws)
         (snoc-fed st (record-at job at) (op-of t) (arguments-of job t) says-it all-low after there (h .kept-is)) (h .offsets-are)

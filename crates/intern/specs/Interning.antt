@@ -5,15 +5,20 @@ use mathlib.Core.List.{List, [], _∷_, _++_}
 use Prim.Native.Nat.{ℕ, _+_, _-_}
 use lib.ListN.{length, take, drop, replicate}
 use Rattle.theory.specs.Limit.{first-terms}
+use Rattle.theory.specs.Term as T
+use Rattle.theory.specs.Sort.{sort-of, sort-width}
+use Rattle.theory.specs.Depth.{depth}
 use Rattle.theory.specs.Record.{Bytes, whole, read}
 use Rattle.theory.specs.Plain.{Plain, term-of, has, feed}
 use Rattle.theory.specs.Plain as P
 use Rattle.theory.specs.Codes.{first-fault, well-sorted, room}
+use Rattle.theory.proofs.Places.{tree-of}
 use Rattle.terms.specs.declared.Term.{Term}
 use Rattle.terms.specs.declared.Item.the-variants as I
 use Rattle.terms.specs.Framing.{record-at}
 use Rattle.terms.specs.Decoded.{op-of, operands-of, arguments-of, item-of}
 use Rattle.rows.specs.Rows.{offsets}
+use Rattle.table.specs.Promise.{with-row, dropped-rows}
 use Rattle.store.specs.Store.{Store, listed}
 use Rattle.store.specs.Sorts.{Arguments}
 use Rattle.intern.specs.declared.Interned.{Interned}
@@ -25,8 +30,13 @@ pub record Started (job work after : Bytes) : Type 0 where
   pub listed-is : listed job after 0 ≡ P.start
   pub all-zero : after ≡ replicate (length work) 0
 
+-- the work memory without the terms from place `count` on, of n rows: the slots of their rows are free
+abbrev pub without-terms : Bytes → Bytes → ℕ → ℕ → Bytes
+without-terms job work n count = dropped-rows job work n (count - first-terms)
+
 -- of n rows those of the first `count` places are kept
 pub record CutBack (job work after : Bytes) (n count : ℕ) : Type 0 where
+  pub memory-is : after ≡ without-terms job work n count
   pub store : Store job after (count - first-terms)
   pub listed-is : listed job after (count - first-terms) ≡ take count (listed job work n)
   pub offsets-are : offsets after (count - first-terms) ≡ take (count - first-terms) (offsets work n)
@@ -60,6 +70,17 @@ offsets-after Spent at os = os
 offsets-after (Found m) at os = os
 offsets-after (New m) at os = os ++ (at ∷ [])
 
+-- the work memory after it: every byte as it was, unless the term is new
+abbrev pub bytes-after : Interned → Bytes → Bytes → Bytes
+bytes-after Unsorted work new = work
+bytes-after Spent work new = work
+bytes-after (Found m) work new = work
+bytes-after (New m) work new = new
+
+-- the work memory with t, the term of the record at `at`, in row n: its depth and its width stand in the row, and the table has it
+unfoldable pub with-term : Bytes → Bytes → ℕ → ℕ → T.Term → Bytes
+with-term job work n at t = with-row job work n at (depth t) (sort-width (sort-of t))
+
 -- the answer where the term has a sort or not, its record is there or not, and there is room or not
 unfoldable pub answer-for : Bool → Bool → Bool → ℕ → Interned
 answer-for sorted there roomy n = cond sorted (cond there (Found n) (cond roomy (New (n + 1)) Spent)) Unsorted
@@ -70,7 +91,7 @@ pub record Offered (job work : Bytes) (n at : ℕ) (t : Term) : Type 0 where
   pub stands : whole (drop at job) ≡ true
   pub says : item-of job (I.Term t) ≡ read (record-at job at)
 
--- the term was taken or not: the answer, its code by document 01's tests 7 and 8, and the store then
+-- the term was taken or not: the answer, its code by document 01's tests 7 and 8, the work memory then, and the store in it
 pub record Taken (job work after : Bytes) (n at : ℕ) (t : Term) (answer : Interned) : Type 0 where
   pub answer-is : answer
       ≡ answer-for (well-sorted (term-of (listed job work n) (op-of t) (arguments-of job t))) (has (listed job work n) (record-at job at))
@@ -78,6 +99,7 @@ pub record Taken (job work after : Bytes) (n at : ℕ) (t : Term) (answer : Inte
   pub code-is : code-of answer
       ≡ first-fault ((well-sorted (term-of (listed job work n) (op-of t) (arguments-of job t)), 7)
       ∷ (has (listed job work n) (record-at job at) || room (length work) (listed job work n), 8) ∷ [])
+  pub memory-is : after ≡ bytes-after answer work (with-term job work n at (tree-of (listed job work n) (op-of t) (arguments-of job t)))
   pub store : Store job after (rows-after answer n)
   pub listed-is : listed job after (rows-after answer n) ≡ list-after answer (listed job work n) (record-at job at)
   pub offsets-are : offsets after (rows-after answer n) ≡ offsets-after answer at (offsets work n)

@@ -21,7 +21,7 @@ use Rattle.theory.specs.Plain.{Plain, term-of, has, feed, feed-item, repeat-ite
 use Rattle.theory.specs.Codes.{first-fault, all-below, well-sorted, room, step-tests, tests, fault}
 use Rattle.theory.specs.Answer.{Answer}
 use Rattle.theory.specs.Job.{right-depth, judged, answer-to, item-answers, answers-to}
-use Rattle.theory.proofs.Places.{tree-at}
+use Rattle.theory.proofs.Places.{tree-at, tree-of}
 use Rattle.theory.proofs.Run.{StepPassed, step-passed, step-answer, ChainPassed, chain-passed, chain-answer}
 use Rattle.theory.proofs.Slices.{map-take}
 use Rattle.theory.proofs.Origins.{origins-item}
@@ -33,7 +33,7 @@ use Rattle.terms.specs.Framing.{record-at}
 use Rattle.terms.specs.Decoded.{Placed, item-of, op-of, arguments-of, words-in}
 use Rattle.rows.specs.Rows.{offsets}
 use Rattle.store.specs.Store.{Store, listed}
-use Rattle.intern.specs.Interning.{CutBack, Offered, Taken, code-of, rows-after, list-after, offsets-after, answer-for}
+use Rattle.intern.specs.Interning.{CutBack, Offered, Taken, code-of, rows-after, list-after, offsets-after, bytes-after, with-term, answer-for}
 use Rattle.intern.specs.declared.Interned.{Interned}
 use Rattle.intern.specs.declared.Interned.the-variants as N
 use Rattle.steps.specs.declared.answers.Reply.{Reply}
@@ -42,7 +42,7 @@ use Rattle.steps.specs.Answering.{given, equation-depth, with-notes, Literals, 
 use Rattle.steps.proofs.Equations.{accepted-depth}
 use Rattle.steps.proofs.Judging.{judged-is}
 use Rattle.chains.specs.Premises.{earlier-in, origins, Noted, Claimed}
-use Rattle.records.specs.Turning.{passed, turn, repeats-in, Reading, answers-at, origins-at, Turned}
+use Rattle.records.specs.Turning.{passed, turn, repeats-in, Reading, answers-at, origins-at, memory-item, memory-at, Turned}
 use Rattle.steps.proofs.Writing.{none-written}
 use Rattle.theory.proofs.Basics.{T-true}
 
@@ -87,12 +87,17 @@ module _ {job work : Bytes} {rows at : ℕ} {item : Item} (g : Reading job work 
   origins-are : origins-item (origins work rows) list at r (item-of job item) ≡ origins-at job work rows at
   origins-are = ap (origins-item (origins work rows) list at r) (g .says)
 
+  -- so is the work memory after it
+  memory-same : memory-item job work rows at (item-of job item) ≡ memory-at job work rows at
+  memory-same = ap (memory-item job work rows at) (g .says)
+
   -- a turn that writes no answer
-  unanswered : {after : Bytes} {c n m : ℕ} → c ≡ code → Store job after n → listed job after n ≡ passed c (feed list r) list
+  unanswered : {after : Bytes} {c n m : ℕ} → c ≡ code → after ≡ passed c (memory-at job work rows at) work → Store job after n → listed job after n ≡ passed c (feed list r) list
       → origins after n ≡ passed c (origins-at job work rows at) (origins work rows) → passed c (answers-at job work answers rows answered at) [] ≡ []
       → m ≡ passed c (repeat-of list r) 0 → Turned job work answers rows answered at after answers (turn c answered n m)
-  unanswered e s l o a q = record {
+  unanswered e w s l o a q = record {
     code-is = e ∙ fault-is;
+    memory-is = w;
     store = s;
     listed-is = l;
     origins-are = o;
@@ -104,7 +109,7 @@ module _ {job work : Bytes} {rows at : ℕ} {item : Item} (g : Reading job work 
   -- a code stops the job
   pub stopped : (c : ℕ) → (c ≡ 0 → ⊥) → c ≡ code → Turned job work answers rows answered at work answers (turn c answered rows 0)
   stopped zero h e = absurd (h refl)
-  stopped (suc c) h e = unanswered e (g .store) refl refl refl refl
+  stopped (suc c) h e = unanswered e refl (g .store) refl refl refl refl
 
 -- ---- a term
 -- what `intern`'s answer says of the record
@@ -168,6 +173,23 @@ module _ {job work : Bytes} {rows at : ℕ} {t : Term} (g : Reading job work row
           ap (λ (xs : List ℕ). 0 ∷ 0 ∷ xs) (snoc-map (offsets work rows))
           ∙ put-at false (new-was (well-sorted (term-of (listed job work rows) (op-of t) (arguments-of job t))) _ (room (length work) (listed job work rows)) rows m e)
 
+  -- the work memory after it, by whether it was there
+  term-memory : {after : Bytes} {a : Interned} → Taken job work after rows at t a → after ≡ passed (code-of a) (memory-at job work rows at) work
+  unfolding answer-for
+  term-memory {after} {a} k = k .memory-is ∙ go a (k .answer-is)
+    where
+      put-row : (b : Bool) → has (listed job work rows) (record-at job at) ≡ b
+          → cond b work (with-term job work rows at (tree-of (listed job work rows) (op-of t) (arguments-of job t))) ≡ memory-at job work rows at
+      put-row b e =
+          sym (ap (λ (x : Bool). cond x work (with-term job work rows at (tree-of (listed job work rows) (op-of t) (arguments-of job t)))) e) ∙ memory-same g answers answered
+
+      go : (x : Interned) → x ≡ answer-for (well-sorted (term-of (listed job work rows) (op-of t) (arguments-of job t))) (has (listed job work rows) (record-at job at)) (room (length work) (listed job work rows)) rows
+          → bytes-after x work (with-term job work rows at (tree-of (listed job work rows) (op-of t) (arguments-of job t))) ≡ passed (code-of x) (memory-at job work rows at) work
+      go N.Unsorted e = refl
+      go N.Spent e = refl
+      go (N.Found m) e = put-row true (found-was (well-sorted (term-of (listed job work rows) (op-of t) (arguments-of job t))) _ (room (length work) (listed job work rows)) rows m e)
+      go (N.New m) e = put-row false (new-was (well-sorted (term-of (listed job work rows) (op-of t) (arguments-of job t))) _ (room (length work) (listed job work rows)) rows m e)
+
   -- a repeat, where it was there
   term-repeats : {after : Bytes} {a : Interned} → Taken job work after rows at t a → repeats-in a ≡ passed (code-of a) (repeat-of (listed job work rows) (record-at job at)) 0
   unfolding answer-for
@@ -188,7 +210,7 @@ module _ {job work : Bytes} {rows at : ℕ} {t : Term} (g : Reading job work row
       → {u : Turn} → u ≡ turn (code-of a) answered (rows-after a rows) (repeats-in a) → Turned job work answers rows answered at after answers u
   term-turned {after} {a} e k d =
       subst (Turned job work answers rows answered at after answers) (sym d)
-      (unanswered g answers answered (k .code-is ∙ rw (first-test e)) (k .store) (k .listed-is ∙ by-code a) (term-origins k) (no-answers a) (term-repeats k))
+      (unanswered g answers answered (k .code-is ∙ rw (first-test e)) (term-memory k) (k .store) (k .listed-is ∙ by-code a) (term-origins k) (no-answers a) (term-repeats k))
     where
       by-code : (x : Interned) → list-after x (listed job work rows) (record-at job at) ≡ passed (code-of x) (feed (listed job work rows) (record-at job at)) (listed job work rows)
       by-code N.Unsorted = refl
@@ -227,7 +249,8 @@ module _ {job work : Bytes} {rows at n : ℕ} (g : Reading job work rows at (I.B
       → Turned job work answers rows answered at after answers (turn 0 answered (n - first-terms) 0)
   back-turned h k b =
       let c = g .store .count in
-      unanswered g answers answered (rw (le-leb first-terms n h, le-leb n (length (listed job work rows)) (omega arith))) (b .store)
+      unanswered g answers answered (rw (le-leb first-terms n h, le-leb n (length (listed job work rows)) (omega arith)))
+      (b .memory-is ∙ memory-same g answers answered) (b .store)
       (b .listed-is ∙ feed-is g answers answered) (back-origins h b) (sym (answers-are g answers answered)) (repeats-are g answers answered)
 
 -- ---- a step
@@ -272,6 +295,7 @@ module _ {job work : Bytes} {rows at rule : ℕ} {literals : Args} (g : Reading 
       subst (Turned job work answers rows answered at work after) (sym d)
       (record {
         code-is = sym z ∙ same-code ∙ fault-is g answers answered;
+        memory-is = memory-same g answers answered;
         store = g .store;
         listed-is = feed-is g answers answered;
         origins-are = origins-are g answers answered;
@@ -323,6 +347,7 @@ module _ {job work : Bytes} {rows at rule literal : ℕ} {premises : Args} (g : 
       subst (Turned job work answers rows answered at work after) (sym d)
       (record {
         code-is = sym z ∙ chain-code ∙ fault-is g answers answered;
+        memory-is = memory-same g answers answered;
         store = g .store;
         listed-is = feed-is g answers answered;
         origins-are = origins-are g answers answered;

@@ -1,19 +1,22 @@
 -- One record of a job: what it says, and what became of it.
 use mathlib.Core.Path.{_≡_}
-use mathlib.Core.Bool.{true}
+use mathlib.Core.Bool.{true, cond}
 use mathlib.Core.List.{List, []}
 use Prim.Native.Nat.{ℕ, zero, suc, _+_}
 use lib.ListN.{length, drop}
 use Rattle.theory.specs.Record.{Bytes, whole, read}
-use Rattle.theory.specs.Plain.{feed, repeat-of}
+use Rattle.theory.specs.Record as R
+use Rattle.theory.specs.Plain.{has, feed, repeat-of}
 use Rattle.theory.specs.Codes.{fault}
 use Rattle.theory.specs.Answer.{Answer}
 use Rattle.theory.specs.Job.{answers-to}
+use Rattle.theory.proofs.Places.{tree-of}
 use Rattle.theory.proofs.Origins.{origins-item}
 use Rattle.terms.specs.declared.Item.{Item}
 use Rattle.terms.specs.Framing.{record-at}
 use Rattle.terms.specs.Decoded.{Placed, item-of}
 use Rattle.store.specs.Store.{Store, listed}
+use Rattle.intern.specs.Interning.{with-term, without-terms}
 use Rattle.intern.specs.declared.Interned.{Interned}
 use Rattle.intern.specs.declared.Interned.the-variants.{Unsorted, Spent, Found, New}
 use Rattle.records.specs.declared.Turn.{Turn}
@@ -51,9 +54,26 @@ answers-at job work answers rows answered at = answers-to (earlier-in job work a
 abbrev pub origins-at : Bytes → Bytes → ℕ → ℕ → List ℕ
 origins-at job work rows at = origins-item (origins work rows) (listed job work rows) at (record-at job at) (read (record-at job at))
 
--- what became of the record at `at`, by theory's tests, plain list, repeats and answers; where a code stops the job, terms and answers stay, and it is no repeat
+-- the work memory after the record at `at` that says an item, where no code stops the job: a new term has its row, and the rows that a back drops have
+-- no slot
+abbrev pub memory-item : Bytes → Bytes → ℕ → ℕ → R.Item → Bytes
+memory-item job work rows at (R.term o ks) =
+    cond (has (listed job work rows) (record-at job at)) work (with-term job work rows at (tree-of (listed job work rows) o ks))
+memory-item job work rows at (R.step n ks) = work
+memory-item job work rows at (R.chain n ps k) = work
+memory-item job work rows at (R.back n) = without-terms job work rows n
+memory-item job work rows at R.unknown = work
+memory-item job work rows at R.misfit = work
+
+-- the work memory after the record at `at`
+abbrev pub memory-at : Bytes → Bytes → ℕ → ℕ → Bytes
+memory-at job work rows at = memory-item job work rows at (read (record-at job at))
+
+-- what became of the record at `at`, by theory's tests, plain list, repeats and answers; where a code stops the job, both memories stay as they were, and it
+-- is no repeat
 pub record Turned (job work answers : Bytes) (rows answered at : ℕ) (work′ answers′ : Bytes) (t : Turn) : Type 0 where
   pub code-is : t .code ≡ fault (length work) (length answers) (listed job work rows) answered (record-at job at)
+  pub memory-is : work′ ≡ passed (t .code) (memory-at job work rows at) work
   pub store : Store job work′ (t .rows)
   pub listed-is : listed job work′ (t .rows) ≡ passed (t .code) (feed (listed job work rows) (record-at job at)) (listed job work rows)
   pub origins-are : origins work′ (t .rows) ≡ passed (t .code) (origins-at job work rows at) (origins work rows)

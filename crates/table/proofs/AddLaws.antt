@@ -12,7 +12,7 @@ use Rattle.terms.specs.Framing.{record-at}
 use Rattle.rows.specs.Layout.{missing, number-at, number-end, max-rows}
 use Rattle.rows.specs.Rows.{depths, kept, offsets, place-of, widths}
 use Rattle.table.specs.Slots.{Table, TableOf, added-row, seek-of, slot-count, start-of}
-use Rattle.table.specs.Promise.{Grown, added-for, count-after, list-after, room-for}
+use Rattle.table.specs.Promise.{Grown, added-for, count-after, list-after, memory-after, placed-row, room-for, with-row}
 use Rattle.rows.proofs.RowLaws.{and-first, and-second, length-kept}
 use Rattle.table.proofs.SlotLaws.{FreeAt, place-in, seek-is-at, seek-is-free, seek-is-place, start-below, turn-below}
 use Rattle.table.proofs.TableLaws.{never-full}
@@ -134,11 +134,17 @@ module _ (job work : Bytes) (n c at depth width : ℕ) (table : TableOf job work
   retable : (after : Bytes) (k : ℕ) → length after ≡ length work → TableOf job after k c → Table job after k
   retable after k e t = subst (λ (i : ℕ). TableOf job after k i) (count ∙ ap slot-count (sym e)) t
 
-  grown-same : (r : Added) → count-after r n ≡ n → list-after r (record-at job at) (kept job work n) ≡ kept job work n
+  -- a row is new in the slot where the lookup ended
+  placed : (t : ℕ) → seek-of job work c (record-at job at) ≡ Seek.Free t → added-row work n t at depth width ≡ with-row job work n at depth width
+  unfolding placed-row with-row
+  placed t e = sym (ap (λ (q : Seek). placed-row q work n at depth width) (ap (λ (i : ℕ). seek-of job work i (record-at job at)) (sym count) ∙ e))
+
+  grown-same : (r : Added) → count-after r n ≡ n → memory-after r job work n at depth width ≡ work → list-after r (record-at job at) (kept job work n) ≡ kept job work n
       → list-after r at (offsets work n) ≡ offsets work n → list-after r depth (depths work n) ≡ depths work n → list-after r width (widths work n) ≡ widths work n
       → r ≡ added-for (record-at job at) (kept job work n) (length work) → Grown job work work n at depth width r
-  grown-same r a b o d e f = record {
+  grown-same r a m b o d e f = record {
     answer-is = f;
+    memory-is = sym m;
     table = rw a (retable work n refl table);
     kept-is = rw (a, b);
     offsets-are = rw (a, o);
@@ -149,11 +155,12 @@ module _ (job work : Bytes) (n c at depth width : ℕ) (table : TableOf job work
   grown-free : (t : ℕ) → seek-of job work c (record-at job at) ≡ Seek.Free t → (room : Bool) → room-for n (length work) ≡ room
       → cond room (Added.New (2 + n)) Added.Spent ≡ added-for (record-at job at) (kept job work n) (length work)
       → Grown job work (cond room (added-row work n t at depth width) work) n at depth width (cond room (Added.New (2 + n)) Added.Spent)
-  unfolding count-after list-after
+  unfolding count-after list-after memory-after
   grown-free t e true f g =
       let r : (n < max-rows) × (n * term-bytes + term-bytes ≤ length work) = room-true n (length work) f in
       record {
         answer-is = g;
+        memory-is = placed t e;
         table = retable (added-row work n t at depth width) (n + 1) (length-added job work n c t at depth width table (r .0) (r .1) small inside e)
             (table-added job work n c t at depth width table (r .0) (r .1) small inside e);
         kept-is = kept-added job work n c t at depth width table (r .0) (r .1) small inside e;
@@ -161,15 +168,15 @@ module _ (job work : Bytes) (n c at depth width : ℕ) (table : TableOf job work
         depths-are = depths-added job work n c t at depth width table (r .0) (r .1) small inside e deep;
         widths-are = widths-added job work n c t at depth width table (r .0) (r .1) small inside e wide;
       }
-  grown-free t e false f g = grown-same Added.Spent refl refl refl refl refl g
+  grown-free t e false f g = grown-same Added.Spent refl refl refl refl refl refl g
 
   grown-is : (q : Seek) → seek-of job work c (record-at job at) ≡ q
       → answer-for q (room-for n (length work)) n ≡ added-for (record-at job at) (kept job work n) (length work)
       → Grown job work (memory-for q (room-for n (length work)) work n at depth width) n at depth width (answer-for q (room-for n (length work)) n)
-  unfolding memory-for answer-for count-after list-after
-  grown-is (Seek.At p) e g = grown-same (Added.Found p) refl refl refl refl refl g
+  unfolding memory-for answer-for count-after list-after memory-after
+  grown-is (Seek.At p) e g = grown-same (Added.Found p) refl refl refl refl refl refl g
   grown-is (Seek.Free t) e g = grown-free t e (room-for n (length work)) refl g
-  grown-is Seek.Full e g = grown-same Added.Spent refl refl refl refl refl g
+  grown-is Seek.Full e g = grown-same Added.Spent refl refl refl refl refl refl g
 
   -- from what the table says of a record to what callers are promised
   pub grown : {r : Added} {after : Bytes}

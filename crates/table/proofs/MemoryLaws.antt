@@ -17,8 +17,8 @@ use Rattle.theory.specs.Record.{Bytes, extent, bytes-of}
 use Rattle.terms.specs.Framing.{record-at}
 use Rattle.rows.specs.Layout.{depth-at, number-at, offset-at, width-at, max-rows}
 use Rattle.rows.specs.Rows.{Rows, column, depths, kept, offsets, row-record, stored-row, widths}
-use Rattle.table.specs.Slots.{max-slots, Reach, Table, TableOf, added-row, dropped-row, holder-from, seek-of, slot-at, slot-count, start-of, stored-slot, turn}
-use Rattle.table.specs.Promise.{Cut, Wiped}
+use Rattle.table.specs.Slots.{max-slots, Reach, Table, TableOf, added-row, dropped-from, dropped-row, holder-from, seek-of, slot-at, slot-count, start-of, stored-slot, turn}
+use Rattle.table.specs.Promise.{Cut, Wiped, dropped-rows}
 use Rattle.rows.proofs.RowLaws.{after-stored, before-stored, column-added, column-same, column-take, depth-before, depth-stored, length-stored, number-is, offset-before, offset-is, offset-stored, rows-stored, sets-after, sets-before, sets-in, width-before, width-stored}
 use Rattle.table.proofs.SlotLaws.{FreeAt, seek-is-free, start-below, turn-below}
 use Rattle.table.proofs.TableLaws.{table-less, table-more}
@@ -368,7 +368,8 @@ wiped work = record {
 }
 
 module _ {job work after : Bytes} {n m c k : ℕ} (count : c ≡ slot-count (length after)) (table : TableOf job after k c) (same : Unmoved work after)
-    (down : k ≤ m) (up : m ≤ k) (less : m ≤ n) where
+    (down : k ≤ m) (up : m ≤ k) (less : m ≤ n) (long : length after ≡ length work)
+    (left : dropped-from job work c m (n - m) ≡ dropped-from job after c m (k - m)) where
   table-m : Table job after m
   table-m =
       let e : k ≡ m = omega arith in
@@ -377,9 +378,16 @@ module _ {job work after : Bytes} {n m c k : ℕ} (count : c ≡ slot-count (len
   whole : m + (n - m) ≡ n
   whole = omega arith
 
+  none-left : after ≡ dropped-rows job work n m
+  unfolding dropped-rows dropped-from
+  none-left =
+      let z : k - m ≡ 0 = omega arith in
+      sym (ap (λ (i : ℕ). dropped-from job work i m (n - m)) (ap slot-count (sym long) ∙ sym count) ∙ left ∙ ap (dropped-from job after c m) z)
+
   pub cut : Cut job work after n m
   unfolding kept offsets depths widths
   cut = record {
+    memory-is = none-left;
     table = table-m;
     kept-is = column-same (row-record job after) (row-record job work) m (λ i h. ap (λ (o : ℕ). record-at job o) (same .offset i))
         ∙ column-take (row-record job work) m (n - m) ∙ ap (λ (i : ℕ). take m (column (row-record job work) i)) whole;
@@ -397,6 +405,15 @@ module _ {job work : Bytes} {m k c : ℕ} (h : m < k) (table : TableOf job work 
   before-drop =
       let e : k ≡ k - 1 + 1 = omega arith in
       subst (λ (n : ℕ). TableOf job work n c) e table
+
+  -- one row less is left to drop
+  pub drop-next : {after : Bytes} → after ≡ dropped-row job work (k - 1) c → dropped-from job work c m (k - m) ≡ dropped-from job after c m (k - 1 - m)
+  unfolding dropped-from
+  drop-next {after} e =
+      let one : k - m ≡ suc (k - 1 - m) = omega arith in
+      let row : m + (k - 1 - m) ≡ k - 1 = omega arith in
+      ap (dropped-from job work c m) one
+      ∙ ap (λ (i : ℕ). dropped-from job (dropped-row job work i c) c m (k - 1 - m)) row ∙ ap (λ (w : Bytes). dropped-from job w c m (k - 1 - m)) (sym e)
 
   pub drop-turn : {first after : Bytes} → Unmoved first work → after ≡ dropped-row job work (k - 1) c
       → TableOf job after (k - 1) c × (length after ≡ length work) × Unmoved first after

@@ -2,7 +2,7 @@
 use mathlib.Core.Path.{_≡_}
 use mathlib.Core.Bool.{Bool, _&&_, cond}
 use mathlib.Core.List.{List, [], _∷_, _++_}
-use Prim.Native.Nat.{ℕ, suc, _+_, _*_, _≤_}
+use Prim.Native.Nat.{ℕ, suc, _+_, _-_, _*_, _≤_}
 use lib.ListN.{length, take, replicate}
 use lib.Dec.{eqb, ltb, leb}
 use Rattle.theory.specs.Limit.{term-bytes, first-terms, max-terms, max-job}
@@ -10,7 +10,9 @@ use Rattle.theory.specs.Record.{Bytes}
 use Rattle.terms.specs.Framing.{record-at}
 use Rattle.rows.specs.Layout.{missing}
 use Rattle.rows.specs.Rows.{kept, offsets, depths, widths, place-of}
-use Rattle.table.specs.Slots.{Table}
+use Rattle.table.specs.Slots.{Table, slot-count, seek-of, added-row, dropped-from}
+use Rattle.table.specs.declared.slots.Seek.{Seek}
+use Rattle.table.specs.declared.slots.Seek.the-variants.{At, Free, Full}
 use Rattle.table.specs.declared.kept.Added.{Added}
 use Rattle.table.specs.declared.kept.Added.the-variants.{Found, New, Spent}
 
@@ -37,9 +39,27 @@ list-after (Found p) x rows = rows
 list-after (New p) x rows = rows ++ (x ∷ [])
 list-after Spent x rows = rows
 
--- the record at `at` was added to n rows, with a depth and a width: the answer, and what the work memory keeps then
+-- the work memory with row n, where a lookup ended at a free slot: the row's bytes and that slot's are stored, and no other. Unchanged where it ended
+-- at none, which no new row does
+unfoldable pub placed-row : Seek → Bytes → ℕ → ℕ → ℕ → ℕ → Bytes
+placed-row (At place) work n offset depth width = work
+placed-row (Free slot) work n offset depth width = added-row work n slot offset depth width
+placed-row Full work n offset depth width = work
+
+-- the work memory with the record at `at` as row n, with a depth and a width
+unfoldable pub with-row : Bytes → Bytes → ℕ → ℕ → ℕ → ℕ → Bytes
+with-row job work n at depth width = placed-row (seek-of job work (slot-count (length work)) (record-at job at)) work n at depth width
+
+-- the work memory after an answer: every byte as it was, unless a row is new
+unfoldable pub memory-after : Added → Bytes → Bytes → ℕ → ℕ → ℕ → ℕ → Bytes
+memory-after (Found p) job work n at depth width = work
+memory-after (New p) job work n at depth width = with-row job work n at depth width
+memory-after Spent job work n at depth width = work
+
+-- the record at `at` was added to n rows, with a depth and a width: the answer, the work memory then, and what it keeps
 pub record Grown (job work after : Bytes) (n at depth width : ℕ) (answer : Added) : Type 0 where
   pub answer-is : answer ≡ added-for (record-at job at) (kept job work n) (length work)
+  pub memory-is : after ≡ memory-after answer job work n at depth width
   pub table : Table job after (count-after answer n)
   pub kept-is : kept job after (count-after answer n) ≡ list-after answer (record-at job at) (kept job work n)
   pub offsets-are : offsets after (count-after answer n) ≡ list-after answer at (offsets work n)
@@ -47,8 +67,13 @@ pub record Grown (job work after : Bytes) (n at depth width : ℕ) (answer : Add
   pub widths-are : widths after (count-after answer n) ≡ list-after answer width (widths work n)
 
 -- ---- dropping rows
+-- the work memory with the rows from m up dropped, of n: only their slots change
+unfoldable pub dropped-rows : Bytes → Bytes → ℕ → ℕ → Bytes
+dropped-rows job work n m = dropped-from job work (slot-count (length work)) m (n - m)
+
 -- of n rows the first m are kept
 pub record Cut (job work after : Bytes) (n m : ℕ) : Type 0 where
+  pub memory-is : after ≡ dropped-rows job work n m
   pub table : Table job after m
   pub kept-is : kept job after m ≡ take m (kept job work n)
   pub offsets-are : offsets after m ≡ take m (offsets work n)

@@ -98,3 +98,8 @@ holder-from work c s v d (suc fuel) = cond (eqb (slot-at work (turn c s d)) v) (
 -- the work memory with the last row, k, dropped: its slot is free again
 unfoldable pub dropped-row : Bytes → Bytes → ℕ → ℕ → Bytes
 dropped-row job work k c = stored-slot work (holder-from work c (start-of c (row-record job work k)) (k + 1) 0 c) 0
+
+-- the work memory with the last `more` of m + more rows dropped, the newest first
+unfoldable pub dropped-from : Bytes → Bytes → ℕ → ℕ → ℕ → Bytes
+dropped-from job work c m zero = work
+dropped-from job work c m (suc more) = dropped-from job (dropped-row job work (m + more) c) c m more

@@ -23,7 +23,7 @@ returns c =
     let a = s .before .args in
     let e = run-enough (now (a .job)) (now (a .work)) (j .before .before .before .used .result) (length (now (a .answers))) (j .before .before .before .used .ensures) in
     called (now (a .job)) (now (a .work)) (now (a .answers)) (all-bytes (now (a .job)) (λ i. s .shared-slice-known .given i)) (j .check-job .result)
-    (j .check-job .ensures .0 ∙ ap returned e) (j .check-job .ensures .1 ∙ ap (λ (o : Outcome). answers-after (o .answers) (now (a .answers))) e)
+    (j .check-job .ensures .0 ∙ ap returned e) (j .check-job .ensures .1 .0 ∙ ap (λ (o : Outcome). answers-after (o .answers) (now (a .answers))) e)
     (zeros (now (a .work)) (c .before .before .wipe .ensures) (let l : length (c .before .before .wipe .last .0) ≡ length (now (a .work)) = search needs in l))
 
 pub bb-job-spec : {M : Type 1} → statement M
