@@ -1,15 +1,17 @@
 -- A rule's verdict by the rule's number.
 use mathlib.Core.Path.{_≡_, refl, sym, ap, subst, _∙_}
+use mathlib.Core.Bool.{true, false, true≢false}
 use mathlib.Core.List.{List, [], _∷_}
 use mathlib.Core.Option.{none, some}
 use Prim.Native.Nat.{ℕ, zero, suc, _+_}
 use native.Mathlib.Omega.{arith}
 use lib.ListN.{getElem?}
 use Rattle.theory.specs.Term.{Term}
-use Rattle.theory.specs.Optional.{either}
-use Rattle.theory.specs.Verdict.{Verdict, wrong-form}
+use Rattle.theory.specs.Optional.{is-some}
+use Rattle.theory.specs.Verdict.{Verdict}
 use Rattle.theory.specs.RuleTable.{Rule, rules, rule-at}
 use Rattle.theory.specs.Rule.{verdict}
+use Rattle.theory.proofs.Basics.{some-inj}
 
 -- n is not a, not a + 1, and so on, as many as the list is long
 abbrev pub Past : {A : Type 0} → ℕ → ℕ → List A → Type 0
@@ -27,9 +29,9 @@ no-rule (suc k) p = past-none rules 1 k (subst (λ (n : ℕ). Past n 1 rules) (l
 
 module _ (literal : Term) {v : Verdict} {n : ℕ} where
   -- rule k's verdict
-  pub by-number : (k : ℕ) (r : Rule) → n ≡ k → rule-at k ≡ some r → v ≡ verdict r literal → v ≡ either wrong-form (λ (q : Rule). verdict q literal) (rule-at n)
-  by-number k r e h g = g ∙ sym (ap (either wrong-form (λ (q : Rule). verdict q literal)) (ap rule-at e ∙ h))
+  pub by-number : (k : ℕ) (r : Rule) → n ≡ k → rule-at k ≡ some r → v ≡ verdict r literal → (by : Rule) → rule-at n ≡ some by → v ≡ verdict by literal
+  by-number k r e h g by f = g ∙ ap (λ (q : Rule). verdict q literal) (some-inj r by (sym (ap rule-at e ∙ h) ∙ f))
 
-  -- there is no such rule
-  pub by-none : Past n 1 rules → v ≡ wrong-form → v ≡ either wrong-form (λ (q : Rule). verdict q literal) (rule-at n)
-  by-none p g = g ∙ sym (ap (either wrong-form (λ (q : Rule). verdict q literal)) (no-rule n p))
+  -- no other number is a rule's
+  pub by-none : Past n 1 rules → is-some (rule-at n) ≡ true → (by : Rule) → rule-at n ≡ some by → v ≡ verdict by literal
+  by-none p s = absurd (let z : false ≡ true = sym (ap is-some (no-rule n p)) ∙ s in true≢false (sym z))

@@ -1,9 +1,10 @@
 // The 30 rules, by their numbers.
 ghost use mathlib.Core.Path.{_≡_};
+ghost use mathlib.Core.Bool.{true};
+ghost use mathlib.Core.Option.{some};
 ghost use Prim.Native.Nat.{_+_, _<_};
 ghost use Rattle.theory.specs.Limit.{first-terms};
-ghost use Rattle.theory.specs.Optional.{either};
-ghost use Rattle.theory.specs.Verdict.{wrong-form};
+ghost use Rattle.theory.specs.Optional.{is-some};
 ghost use Rattle.theory.specs.RuleTable.{Rule, rule-at};
 ghost use Rattle.theory.specs.Rule.{verdict as verdict·of};
 ghost use Rattle.store.specs.Store.{Store};
@@ -40,10 +41,10 @@ pub use slice_rules::parts::extract;
 pub use slice_rules::parts::sign_extend;
 pub use slice_rules::slicing::bitwise_slicing;
 
-// The verdict of a rule on a literal; wrong form where there is no such rule.
+// The verdict of a rule on a literal. There is such a rule, so the last arm is never taken.
 pub fn verdict(job: &[u8], work: &[u8], n: usize, rule: u32, literal: u32) -> Verdict
-    requires { ⌜ Store (now job) (now work) n × (literal < first-terms + n) ⌝ }
-    ensures { λ v. ⌜ verdict-of v ≡ either wrong-form (λ (r : Rule). verdict·of r (tree (now (job .entry)) (now (work .entry)) n literal)) (rule-at rule) ⌝ }
+    requires { ⌜ Store (now job) (now work) n × (literal < first-terms + n) × (is-some (rule-at rule) ≡ true) ⌝ }
+    ensures { λ v. ⌜ ((by : Rule) → rule-at rule ≡ some by → verdict-of v ≡ verdict·of by (tree (now (job .entry)) (now (work .entry)) n literal)) ⌝ }
 {
     match rule {
         1 => value(job, work, n, literal),

@@ -10,9 +10,8 @@ use lib.ListN.{length, getD, length-map}
 use borrow.Author.Tests.{ltb-true}
 use Rattle.theory.specs.Term.{Term}
 use Rattle.theory.specs.Verdict as W
-use Rattle.theory.specs.Verdict.{Verdict, wrong-form, code-of, accepted}
-use Rattle.theory.specs.Optional.{either}
-use Rattle.theory.specs.RuleTable.{Rule, rule-at}
+use Rattle.theory.specs.Verdict.{Verdict, code-of, accepted}
+use Rattle.theory.specs.RuleTable.{Rule}
 use Rattle.theory.specs.Rule.{on-sides, verdict}
 use Rattle.theory.specs.Record.{Bytes}
 use Rattle.theory.specs.Plain.{Plain}
@@ -88,10 +87,6 @@ judged-is n {v} {t} {r} j f = given-by (j .code-is) (j .depth-is ∙ go (accepte
 rule-depth : (rule : Rule) (t : Term) → accepted (verdict rule t) ≡ true → equation-depth t ≡ right-depth t
 unfolding verdict
 rule-depth rule t a = accepted-depth t (on-sides rule) a
-
--- ---- the verdict of a rule that there is
-pub of-rule : {v : Verdict} (n : ℕ) (literal : Term) → v ≡ either wrong-form (λ (q : Rule). verdict q literal) (rule-at n) → (r : Rule) → rule-at n ≡ some r → v ≡ verdict r literal
-of-rule n literal e r h = e ∙ ap (either wrong-form (λ (q : Rule). verdict q literal)) h
 
 -- ---- clauses
 -- a clause that is not of one literal

@@ -8,8 +8,7 @@ use Rattle.theory.specs.Limit.{first-terms}
 use Rattle.theory.proofs.Bytes.{words-length}
 use Rattle.terms.specs.Decoded.{words-in}
 use Rattle.store.specs.Store.{listed}
-use Rattle.operand_rules.specs.Rules.{tree}
-use Rattle.steps.proofs.Judging.{others-unjudged, one-below, one-judged, of-rule}
+use Rattle.steps.proofs.Judging.{others-unjudged, one-below, one-judged}
 use Rattle.steps.proofs.answer.Statement.{statement}
 use Rattle.steps.proofs.answer.Tie as tie
 
@@ -21,7 +20,7 @@ returns c =
 verdict-requires : tie.Need-verdict-requires
 verdict-requires c κs =
     let s = c .before .before .before .before in
-    (s .pre .0 .store, one-below (first-terms + s .args .n) (words-in (now (s .args .job)) (s .args .literals)) (words-length (s .args .literals .count) (drop (s .args .literals .at) (now (s .args .job))) ∙ c .before .if1 .left) (s .pre .0 .below) (c .argument .ensures))
+    (s .pre .0 .store, one-below (first-terms + s .args .n) (words-in (now (s .args .job)) (s .args .literals)) (words-length (s .args .literals .count) (drop (s .args .literals .at) (now (s .args .job))) ∙ c .before .if1 .left) (s .pre .0 .below) (c .argument .ensures), s .pre .1)
 
 judge-requires : tie.Need-judge-requires
 judge-requires c κs =
@@ -33,7 +32,7 @@ returns-2 : tie.Need-returns-2
 returns-2 c =
     let a = c .before .before in
     let s = a .before .before .before .before in
-    λ r e. one-judged (s .args .rule) r (listed (now (s .args .job)) (now (s .args .work)) (s .args .n)) (now (s .args .job)) (s .args .literals) (a .before .if1 .left) (a .argument .ensures) (of-rule (s .args .rule) (tree (now (s .args .job)) (now (s .args .work)) (s .args .n) (a .argument .result)) (c .before .verdict .ensures) r e) (c .judge .ensures)
+    λ r e. one-judged (s .args .rule) r (listed (now (s .args .job)) (now (s .args .work)) (s .args .n)) (now (s .args .job)) (s .args .literals) (a .before .if1 .left) (a .argument .ensures) (c .before .verdict .ensures r e) (c .judge .ensures)
 
 pub answer-spec : {M : Type 1} → statement M
 answer-spec =
