@@ -6,14 +6,6 @@ use Prim.Native.Nat.{ℕ, zero, suc, _-_, _<_, _≤_}
 use native.Mathlib.Omega.{arith}
 use lib.ListN.{length, take, drop, length-drop}
 use borrow.Author.Tests.{eq-eqb, ne-eqb}
-use mathlib.Core.Logic.{inl, inr}
-use types.Run.{OneOf}
-use denote.Enum.Declared.{tagOf}
-use Rattle.terms.specs.declared.Frame.{Frame}
-use Rattle.terms.specs.declared.Frame.the-variants.{End, Broken, Whole}
-use Rattle.terms.specs.Framing.{frame-of}
-use Rattle.terms.proofs.Reading.{end-learnt, broken-learnt}
-use Rattle.terms.proofs.Frame as F
 use Rattle.theory.specs.Record.{Bytes, extent, whole, cut, records-of, total-length, ending}
 
 by-whole : (b : Bool) (r : Bytes) {x y : List Bytes} → x ≡ y
@@ -58,13 +50,6 @@ records-broken (b ∷ bs) w =
 pub none-left : (bs : Bytes) → length bs ≡ 0 → whole bs ≡ false
 none-left [] e = refl
 none-left (b ∷ bs) e = absurd (omega arith)
-
--- a frame that is not whole
-pub not-whole : (f : Frame) (bs : Bytes) → f ≡ frame-of bs → OneOf (0 ∷ 1 ∷ []) (tagOf F.the-type f) → whole bs ≡ false
-not-whole End bs e k = none-left bs (end-learnt bs e)
-not-whole Broken bs e k = broken-learnt bs e .1
-not-whole (Whole n) bs e (inl k) = absurd (omega arith)
-not-whole (Whole n) bs e (inr k) = absurd (omega arith)
 
 -- ---- the ending, by the length of all records
 pub ends-whole : (job : Bytes) → total-length (records-of job) ≡ length job → ending job ≡ 0

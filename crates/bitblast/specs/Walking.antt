@@ -8,6 +8,8 @@ use Rattle.theory.specs.Limit.{first-terms, max-terms, max-job, answer-bytes}
 use Rattle.theory.specs.Record.{Bytes, extent, whole, records-of, total-length}
 use Rattle.theory.specs.Plain.{plain-after}
 use Rattle.theory.specs.Job.{Returned, returned, run, answers-after}
+use Rattle.terms.specs.declared.Frame.the-variants.{Broken}
+use Rattle.terms.specs.Framing.{frame-code}
 use Rattle.steps.specs.Answering.{sealed}
 use Rattle.chains.specs.Premises.{Noted}
 use Rattle.bitblast.specs.declared.Outcome.{Outcome}
@@ -42,7 +44,7 @@ moved size s t =
 
 -- no whole record was there, so code 3 stops the job; or one was there, and it was taken
 pub data Next (job work answers : Bytes) (s : State) (work′ answers′ : Bytes) (s′ : State) : Type 0 where
-  broken : whole (drop (s .at) job) ≡ false → work′ ≡ work → answers′ ≡ answers → s′ ≡ state (s .at) 3 (s .records) (s .answers) (s .rows) (s .repeats)
+  broken : whole (drop (s .at) job) ≡ false → work′ ≡ work → answers′ ≡ answers → s′ ≡ state (s .at) (frame-code Broken) (s .records) (s .answers) (s .rows) (s .repeats)
       → Next job work answers s work′ answers′ s′
   taken : whole (drop (s .at) job) ≡ true → (t : Turn) → Turned job work answers (s .rows) (s .answers) (s .at) work′ answers′ t
       → s′ ≡ moved (extent (drop (s .at) job)) s t → Next job work answers s work′ answers′ s′

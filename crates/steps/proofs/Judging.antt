@@ -1,7 +1,6 @@
 -- The answer to a clause: the code of a verdict, the depth of the right side, and clauses of one literal and of others.
 use mathlib.Core.Path.{_≡_, refl, sym, ap, _∙_}
 use mathlib.Core.Bool.{Bool, true, false, cond}
-use mathlib.Core.Option.{some}
 use mathlib.Core.List.{List, [], _∷_, map}
 use Prim.Native.Nat.{ℕ, _<_, _≤_}
 use native.Mathlib.Omega.{arith}
@@ -96,10 +95,11 @@ not-one n rule (t ∷ []) h = absurd (h refl)
 not-one n rule (t ∷ u ∷ us) h = refl
 
 -- by the count of its literals in the job
-pub others-unjudged : (n : ℕ) (rule : Rule) (list : Plain) (job : Bytes) (a : Args) → (a .count ≡ 1 → ⊥)
-    → given n (reply 10 0) ≡ answer-to n rule (map (tree-at list) (words-in job a))
-others-unjudged n rule list job a h =
-    not-one n rule (map (tree-at list) (words-in job a)) (λ e. h (sym (words-length (a .count) _) ∙ sym (length-map (words-in job a) (tree-at list)) ∙ e))
+pub others-unjudged : (n : ℕ) (rule : Rule) (list : Plain) (job : Bytes) (a : Args) → (a .count ≡ 1 → ⊥) → {c : ℕ} → c ≡ code-of W.not-one-literal
+    → given n (reply c 0) ≡ answer-to n rule (map (tree-at list) (words-in job a))
+others-unjudged n rule list job a h f =
+    ap (λ (c : ℕ). given n (reply c 0)) f
+    ∙ not-one n rule (map (tree-at list) (words-in job a)) (λ e. h (sym (words-length (a .count) _) ∙ sym (length-map (words-in job a) (tree-at list)) ∙ e))
 
 -- the literal of a clause of one is kept
 pub one-below : (b : ℕ) (ks : List ℕ) → length ks ≡ 1 → all-below b ks ≡ true → {x : ℕ} → x ≡ getD ks 0 0 → x < b

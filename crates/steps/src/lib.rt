@@ -24,7 +24,7 @@ use store::terms_at::term_at;
 use terms::Args;
 use terms::Term;
 
-// The code of a clause that is not of one literal.
+// The code of a clause that is not of one literal, the least of those that refuse.
 const NOT_ONE_LITERAL: u32 = 10;
 
 // The code of a verdict.
@@ -83,7 +83,7 @@ pub fn answer(job: &[u8], work: &[u8], n: usize, rule: u32, literals: Args) -> R
     let count = literals.count;
     if count != 1 {
         return Reply {
-            code: NOT_ONE_LITERAL,
+            code: code(Verdict::NotOneLiteral),
             depth: 0,
         };
     }

@@ -1,18 +1,20 @@
 -- Laws of adding a record.
 use mathlib.Core.Path.{_≡_, refl, sym, ap, _∙_, subst}
-use mathlib.Core.Bool.{Bool, true, false, _&&_, and-false, cond}
+use mathlib.Core.Bool.{Bool, true, false, not, _&&_, _||_, and-false, cond}
+use mathlib.Core.List.{List, [], _∷_}
 use Prim.Native.Nat.{ℕ, suc, _+_, _*_, _-_, _≤_, _<_}
 use native.Mathlib.Omega.{arith}
-use lib.Dec.{leb, ltb}
+use lib.Dec.{eqb, leb, ltb}
 use lib.ListN.{drop, length, take}
 use borrow.Author.Tests.{eq-eqb, le-leb, le-ltb, leb-true, lt-leb, lt-ltb, ltb-true, ne-eqb}
 use Rattle.theory.specs.Limit.{first-terms, max-terms, term-bytes}
 use Rattle.theory.specs.Record.{Bytes, extent}
+use Rattle.theory.specs.Codes.{first-fault}
 use Rattle.terms.specs.Framing.{record-at}
 use Rattle.rows.specs.Layout.{missing, number-at, number-end, max-rows}
 use Rattle.rows.specs.Rows.{depths, kept, offsets, place-of, widths}
 use Rattle.table.specs.Slots.{Table, TableOf, added-row, seek-of, slot-count, start-of}
-use Rattle.table.specs.Promise.{Grown, added-for, count-after, list-after, memory-after, placed-row, room-for, with-row}
+use Rattle.table.specs.Promise.{Grown, added-code, added-for, count-after, is-kept, list-after, memory-after, placed-row, room-for, with-row}
 use Rattle.rows.proofs.RowLaws.{and-first, and-second, length-kept}
 use Rattle.table.proofs.SlotLaws.{FreeAt, place-in, seek-is-at, seek-is-free, seek-is-place, start-below, turn-below}
 use Rattle.table.proofs.TableLaws.{never-full}
@@ -118,6 +120,16 @@ module _ (job work : Bytes) (n c : ℕ) (table : TableOf job work n c) (slot : r
   answer-is (Seek.Free t) e = sym (spent-or-new (Seek.Free t) refl e)
   answer-is Seek.Full e = answer-full (room-for n (length work)) refl e ∙ sym (spent-or-new Seek.Full refl e)
 
+-- its code
+code-for : (x : Bytes) (rows : List Bytes) (len : ℕ) → added-code (added-for x rows len) ≡ first-fault ((is-kept x rows || room-for (length rows) len, 8) ∷ [])
+unfolding added-for is-kept
+code-for x rows len = go (eqb (place-of x rows) missing) (room-for (length rows) len)
+  where
+    go : (a b : Bool) → added-code (cond a (cond b (Added.New (first-terms + length rows)) Added.Spent) (Added.Found (place-of x rows))) ≡ first-fault ((not a || b, 8) ∷ [])
+    go true true = refl
+    go true false = refl
+    go false b = refl
+
 -- ---- what the work memory keeps then
 
 module _ (job work : Bytes) (n c at depth width : ℕ) (table : TableOf job work n c) (count : c ≡ slot-count (length work))
@@ -139,11 +151,18 @@ module _ (job work : Bytes) (n c at depth width : ℕ) (table : TableOf job work
   unfolding placed-row with-row
   placed t e = sym (ap (λ (q : Seek). placed-row q work n at depth width) (ap (λ (i : ℕ). seek-of job work i (record-at job at)) (sym count) ∙ e))
 
+  code-is : {r : Added} → r ≡ added-for (record-at job at) (kept job work n) (length work)
+      → added-code r ≡ first-fault ((is-kept (record-at job at) (kept job work n) || room-for n (length work), 8) ∷ [])
+  code-is e =
+      ap added-code e ∙ code-for (record-at job at) (kept job work n) (length work)
+      ∙ ap (λ (k : ℕ). first-fault ((is-kept (record-at job at) (kept job work n) || room-for k (length work), 8) ∷ [])) (length-kept job work n)
+
   grown-same : (r : Added) → count-after r n ≡ n → memory-after r job work n at depth width ≡ work → list-after r (record-at job at) (kept job work n) ≡ kept job work n
       → list-after r at (offsets work n) ≡ offsets work n → list-after r depth (depths work n) ≡ depths work n → list-after r width (widths work n) ≡ widths work n
       → r ≡ added-for (record-at job at) (kept job work n) (length work) → Grown job work work n at depth width r
   grown-same r a m b o d e f = record {
     answer-is = f;
+    code-is = code-is f;
     memory-is = sym m;
     table = rw a (retable work n refl table);
     kept-is = rw (a, b);
@@ -160,6 +179,7 @@ module _ (job work : Bytes) (n c at depth width : ℕ) (table : TableOf job work
       let r : (n < max-rows) × (n * term-bytes + term-bytes ≤ length work) = room-true n (length work) f in
       record {
         answer-is = g;
+        code-is = code-is g;
         memory-is = placed t e;
         table = retable (added-row work n t at depth width) (n + 1) (length-added job work n c t at depth width table (r .0) (r .1) small inside e)
             (table-added job work n c t at depth width table (r .0) (r .1) small inside e);

@@ -1,12 +1,13 @@
 -- What callers are promised when a record is added, when the newest rows are dropped, and when the work memory is wiped.
 use mathlib.Core.Path.{_≡_}
-use mathlib.Core.Bool.{Bool, _&&_, cond}
+use mathlib.Core.Bool.{Bool, not, _&&_, _||_, cond}
 use mathlib.Core.List.{List, [], _∷_, _++_}
 use Prim.Native.Nat.{ℕ, suc, _+_, _-_, _*_, _≤_}
 use lib.ListN.{length, take, replicate}
 use lib.Dec.{eqb, ltb, leb}
 use Rattle.theory.specs.Limit.{term-bytes, first-terms, max-terms, max-job}
 use Rattle.theory.specs.Record.{Bytes}
+use Rattle.theory.specs.Codes.{first-fault}
 use Rattle.terms.specs.Framing.{record-at}
 use Rattle.rows.specs.Layout.{missing}
 use Rattle.rows.specs.Rows.{kept, offsets, depths, widths, place-of}
@@ -21,11 +22,21 @@ use Rattle.table.specs.declared.kept.Added.the-variants.{Found, New, Spe
 unfoldable pub room-for : ℕ → ℕ → Bool
 room-for n len = leb (term-bytes * suc n) len && ltb (first-terms + n) max-terms
 
+-- a record that equals x is kept
+unfoldable pub is-kept : Bytes → List Bytes → Bool
+is-kept x rows = not (eqb (place-of x rows) missing)
+
 -- the answer to record x where `rows` are kept in len bytes: the place of the kept record that equals it, or the place after the last, or that
 -- there is no room
 unfoldable pub added-for : Bytes → List Bytes → ℕ → Added
 added-for x rows len =
     cond (eqb (place-of x rows) missing) (cond (room-for (length rows) len) (New (first-terms + length rows)) Spent) (Found (place-of x rows))
+
+-- document 01's code of an answer: 8 where there is no room
+abbrev pub added-code : Added → ℕ
+added-code (Found p) = 0
+added-code (New p) = 0
+added-code Spent = 8
 
 -- the number of rows after an answer
 unfoldable pub count-after : Added → ℕ → ℕ
@@ -39,8 +50,8 @@ list-after (Found p) x rows = rows
 list-after (New p) x rows = rows ++ (x ∷ [])
 list-after Spent x rows = rows
 
--- the work memory with row n, where a lookup ended at a free slot: the row's bytes and that slot's are stored, and no other. Unchanged where it ended
--- at none, which no new row does
+-- the work memory with row n, named in the slot at which a lookup ended: the bytes of the row and of the slot are stored, and no other. Unchanged where
+-- the lookup ended at no free slot, which is never so of a record that is new
 unfoldable pub placed-row : Seek → Bytes → ℕ → ℕ → ℕ → ℕ → Bytes
 placed-row (At place) work n offset depth width = work
 placed-row (Free slot) work n offset depth width = added-row work n slot offset depth width
@@ -59,6 +70,7 @@ memory-after Spent job work n at depth width = work
 -- the record at `at` was added to n rows, with a depth and a width: the answer, the work memory then, and what it keeps
 pub record Grown (job work after : Bytes) (n at depth width : ℕ) (answer : Added) : Type 0 where
   pub answer-is : answer ≡ added-for (record-at job at) (kept job work n) (length work)
+  pub code-is : added-code answer ≡ first-fault ((is-kept (record-at job at) (kept job work n) || room-for n (length work), 8) ∷ [])
   pub memory-is : after ≡ memory-after answer job work n at depth width
   pub table : Table job after (count-after answer n)
   pub kept-is : kept job after (count-after answer n) ≡ list-after answer (record-at job at) (kept job work n)

@@ -8,12 +8,11 @@ use native.Mathlib.Omega.{arith}
 use lib.Dec.{leb, eqb, leb·zero}
 use lib.ListN.{length, drop, length-drop}
 use lib.Seq.{drop-drop}
-use borrow.Author.Tests.{le-leb, lt-leb, eq-eqb, ne-eqb, leb-true, leb-false, eqb-true, eqb-false}
+use borrow.Author.Tests.{le-leb, lt-leb, eq-eqb, ne-eqb, leb-true, leb-false, eqb-true}
 use Rattle.theory.specs.Limit.{number-bytes, max-arguments}
 use Rattle.theory.specs.Kind.{Arity, exactly, many, arity, takes}
 use Rattle.theory.specs.Record.{Bytes, word, words, extent, whole, kind-of, body-of, fits, arguments, step, chain, back, unknown, misfit, premise-count, chain-front, chain-fits, Shape, plain, indexed, twice-indexed, valued, front, make, shapes, find-shape, shape-of, read, read-term, read-step, read-chain, read-back}
-use Rattle.terms.specs.declared.Frame.{Frame}
-use Rattle.terms.specs.declared.Frame.the-variants.{End, Broken, Whole as Ends}
+use Rattle.terms.specs.declared.Frame.the-variants.{Broken, Whole as Ends}
 use Rattle.terms.specs.declared.Form.the-variants.{Unknown, Known}
 use Rattle.terms.specs.Framing.{part, record-at, frame-of}
 use Rattle.terms.specs.Bodies.{form-of, sized, fitting, made, least, most}
@@ -22,57 +21,39 @@ use Rattle.terms.proofs.Arms.{Sized}
 
 -- ---- where a record ends
 module _ (bs : Bytes) where
-  pub frame-end : length bs ≤ 0 → End ≡ frame-of bs
+  pub frame-short : length bs < number-bytes → Broken ≡ frame-of bs
   unfolding frame-of
-  frame-end h = rw (eq-eqb (length bs) 0 (omega arith))
-
-  pub frame-short : 0 < length bs → length bs < number-bytes → Broken ≡ frame-of bs
-  unfolding frame-of
-  frame-short h l = rw (ne-eqb (length bs) 0 (λ e. omega arith), lt-leb number-bytes (length bs) l)
+  frame-short l = rw (lt-leb number-bytes (length bs) l)
 
   module _ (two : number-bytes ≤ length bs) where
     pub frame-low : word bs < number-bytes → Broken ≡ frame-of bs
     unfolding frame-of
-    frame-low h = rw (ne-eqb (length bs) 0 (λ e. omega arith), le-leb number-bytes (length bs) two, lt-leb number-bytes (word bs) h)
+    frame-low h = rw (le-leb number-bytes (length bs) two, lt-leb number-bytes (word bs) h)
 
     pub frame-beyond : number-bytes ≤ word bs → length bs < extent bs → Broken ≡ frame-of bs
     unfolding frame-of
-    frame-beyond h l = rw (ne-eqb (length bs) 0 (λ e. omega arith), le-leb number-bytes (length bs) two, le-leb number-bytes (word bs) h, lt-leb (extent bs) (length bs) l)
+    frame-beyond h l = rw (le-leb number-bytes (length bs) two, le-leb number-bytes (word bs) h, lt-leb (extent bs) (length bs) l)
 
     pub frame-whole : number-bytes ≤ word bs → extent bs ≤ length bs → Ends (extent bs) ≡ frame-of bs
     unfolding frame-of
-    frame-whole h l = rw (ne-eqb (length bs) 0 (λ e. omega arith), le-leb number-bytes (length bs) two, le-leb number-bytes (word bs) h, le-leb (extent bs) (length bs) l)
+    frame-whole h l = rw (le-leb number-bytes (length bs) two, le-leb number-bytes (word bs) h, le-leb (extent bs) (length bs) l)
 
 -- ---- what a caller learns of the place from its frame
-abbrev framing : Bytes → Bool → Bool → Frame
-framing bs none-left stands-whole = cond none-left End (cond stands-whole (Ends (extent bs)) Broken)
-
-pub end-learnt : (bs : Bytes) → End ≡ frame-of bs → length bs ≡ 0
+pub broken-learnt : (bs : Bytes) → Broken ≡ frame-of bs → whole bs ≡ false
 unfolding frame-of
-end-learnt bs e = go (eqb (length bs) 0) (whole bs) (eqb-true (length bs) 0) e
+broken-learnt bs e = go (whole bs) e
   where
-    go : (a b : Bool) → (a ≡ true → length bs ≡ 0) → End ≡ framing bs a b → length bs ≡ 0
-    go true b f d = f refl
-    go false true f d = absurd (let z : _≡_ {A = ℕ} 0 1 = cc in omega arith)
-    go false false f d = absurd (let z : _≡_ {A = ℕ} 0 1 = cc in omega arith)
-
-pub broken-learnt : (bs : Bytes) → Broken ≡ frame-of bs → (length bs ≡ 0 → ⊥) × (whole bs ≡ false)
-unfolding frame-of
-broken-learnt bs e = go (eqb (length bs) 0) (whole bs) (eqb-false (length bs) 0) e
-  where
-    go : (a b : Bool) → (a ≡ false → length bs ≡ 0 → ⊥) → Broken ≡ framing bs a b → (length bs ≡ 0 → ⊥) × (b ≡ false)
-    go true b f d = absurd (let z : _≡_ {A = ℕ} 0 1 = cc in omega arith)
-    go false true f d = absurd (let z : _≡_ {A = ℕ} 0 1 = cc in omega arith)
-    go false false f d = (f refl, refl)
+    go : (b : Bool) → Broken ≡ cond b (Ends (extent bs)) Broken → b ≡ false
+    go true d = absurd (let z : _≡_ {A = ℕ} 0 1 = cc in omega arith)
+    go false d = refl
 
 pub whole-learnt : (bs : Bytes) {n : ℕ} → Ends n ≡ frame-of bs → (whole bs ≡ true) × (n ≡ extent bs)
 unfolding frame-of
-whole-learnt bs {n} e = go (eqb (length bs) 0) (whole bs) e
+whole-learnt bs {n} e = go (whole bs) e
   where
-    go : (a b : Bool) → Ends n ≡ framing bs a b → (b ≡ true) × (n ≡ extent bs)
-    go true b d = absurd (let z : _≡_ {A = ℕ} 0 1 = cc in omega arith)
-    go false true d = (refl, cc)
-    go false false d = absurd (let z : _≡_ {A = ℕ} 0 1 = cc in omega arith)
+    go : (b : Bool) → Ends n ≡ cond b (Ends (extent bs)) Broken → (b ≡ true) × (n ≡ extent bs)
+    go true d = (refl, cc)
+    go false d = absurd (let z : _≡_ {A = ℕ} 0 1 = cc in omega arith)
 
 -- ---- a body's length, by its number of arguments
 between : (a : Arity) (n : ℕ) → leb (least a) n && leb n (most a) ≡ takes a n

@@ -93,9 +93,8 @@ pub struct Head {
     pub second: u64,
 }
 
-// What stands at a place of a job: nothing more, no whole record, or a record of so many bytes.
+// What stands at a place of a job: no whole record, or a record of so many bytes.
 pub enum Frame {
-    End,
     Broken,
     Whole(usize),
 }
@@ -184,7 +183,7 @@ impl Term {
         ensures { λ r. ⌜ r ≡ frame-of (drop at (now (job .entry))) ⌝ }
     {
         if job.len() <= at {
-            return Frame::End;
+            return Frame::Broken;
         }
         let left = job.len() - at;
         if left < Term::NUMBER_BYTES {

@@ -14,8 +14,9 @@ use Rattle.steps.proofs.answer.Tie as tie
 
 returns : tie.Need-returns
 returns c =
-    let a = c .before .before .before .args in
-    λ r e. others-unjudged (a .rule) r (listed (now (a .job)) (now (a .work)) (a .n)) (now (a .job)) (a .literals) (c .if1 .taken)
+    let k = c .before in
+    let a = k .before .before .before .args in
+    λ r e. others-unjudged (a .rule) r (listed (now (a .job)) (now (a .work)) (a .n)) (now (a .job)) (a .literals) (k .if1 .taken) (c .code .ensures)
 
 verdict-requires : tie.Need-verdict-requires
 verdict-requires c κs =
@@ -36,4 +37,4 @@ returns-2 c =
 
 pub answer-spec : {M : Type 1} → statement M
 answer-spec =
-    tie.close (tie.spec returns (λ c κs. search needs) verdict-requires judge-requires returns-2)
+    tie.close (tie.spec (λ c κs. search needs) returns (λ c κs. search needs) verdict-requires judge-requires returns-2)

@@ -5,17 +5,17 @@ use native.Mathlib.Omega.{arith}
 use lib.ListN.{drop}
 use denote.Ref.{now}
 use Rattle.theory.specs.Record.{extent}
-use Rattle.terms.proofs.Reading.{whole-learnt, stands}
+use Rattle.terms.proofs.Reading.{broken-learnt, whole-learnt, stands}
 use Rattle.bitblast.specs.Walking.{broken, taken}
-use Rattle.bitblast.proofs.Positions.{not-whole}
 use Rattle.bitblast.proofs.Walks.{turn-repeats, moved-on, moved-not}
 use Rattle.bitblast.proofs.walk.next.Statement.{statement}
 use Rattle.bitblast.proofs.walk.next.Tie as tie
 
 returns : tie.Need-returns
 returns c =
-    let s = c .before .before .before .before .before in
-    broken (not-whole (c .before .frame .result) (drop (s .args .s .at) (now (s .args .job))) (c .before .frame .ensures) (c .match .keys2)) refl refl refl
+    let f = c .before .before in
+    let s = f .before .before .before .before in
+    broken (broken-learnt (drop (s .args .s .at) (now (s .args .job))) (sym (c .enum-told .given .1) ∙ f .frame .ensures)) refl refl refl
 
 take-record-requires : tie.Need-take-record-requires
 take-record-requires c κs =
@@ -74,6 +74,7 @@ next-spec =
     tie.close
     (tie.spec
     (λ c κs. search needs)
+    (λ c. search needs)
     (λ c. search needs)
     returns
     take-record-requires

@@ -6,15 +6,15 @@ use lib.ListN.{length-drop}
 use borrow.Author.Needs.{needs}
 use Rattle.theory.specs.Limit.{number-bytes}
 use Rattle.terms.specs.declared.Frame.the-variants.{Whole}
-use Rattle.terms.proofs.Reading.{frame-end, frame-short, frame-low, frame-beyond, frame-whole}
+use Rattle.terms.proofs.Reading.{frame-short, frame-low, frame-beyond, frame-whole}
 use Rattle.terms.proofs.Term.frame.Statement.{statement}
 use Rattle.terms.proofs.Term.frame.Tie as tie
 
 returns : tie.Need-returns
-returns c = let l = c .if1 .taken in frame-end _ (rw length-drop (omega arith))
+returns c = let l = c .if1 .taken in frame-short _ (rw length-drop (omega arith))
 
 returns-2 : tie.Need-returns-2
-returns-2 c = let l = c .before .if1 .left in let k = c .if2 .taken in frame-short _ (rw length-drop (omega arith)) (rw length-drop (omega arith))
+returns-2 c = let l = c .before .if1 .left in let k = c .if2 .taken in frame-short _ (rw length-drop (omega arith))
 
 returns-3 : tie.Need-returns-3
 returns-3 c = let l = c .before .before .if2 .left in let e = c .before .number .ensures .0 in
