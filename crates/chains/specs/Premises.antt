@@ -16,8 +16,8 @@ use Rattle.theory.specs.Plain.{Plain}
 use Rattle.theory.specs.Chain.{Earlier, premise-at, joins}
 use Rattle.theory.specs.Chain as C
 use Rattle.theory.specs.Codes.{all-below}
-use Rattle.theory.proofs.Places.{tree-at}
-use Rattle.theory.proofs.Origins.{Mark, all-standing}
+use Rattle.theory.specs.Places.{tree-at}
+use Rattle.theory.specs.Origins.{Mark, all-standing}
 use Rattle.terms.specs.declared.Args.{Args}
 use Rattle.terms.specs.Framing.{record-at}
 use Rattle.terms.specs.declared.Operands.{Operands}

@@ -12,7 +12,7 @@ use Rattle.theory.specs.Record.{Bytes, whole, read}
 use Rattle.theory.specs.Plain.{Plain, term-of, has, feed}
 use Rattle.theory.specs.Plain as P
 use Rattle.theory.specs.Codes.{first-fault, well-sorted, room}
-use Rattle.theory.proofs.Places.{tree-of}
+use Rattle.theory.specs.Places.{tree-of}
 use Rattle.terms.specs.declared.Term.{Term}
 use Rattle.terms.specs.declared.Item.the-variants as I
 use Rattle.terms.specs.Framing.{record-at}

@@ -5,7 +5,7 @@ ghost use Prim.Native.Nat.{_<_, max};
 ghost use lib.ListN.{getD};
 ghost use Rattle.theory.specs.Sort.{bv, guard, all-are, good, first, alike, all-bv, sum-widths, width, sort-of};
 ghost use Rattle.theory.specs.Depth.{depth};
-ghost use Rattle.theory.proofs.Places.{tree-at};
+ghost use Rattle.theory.specs.Places.{tree-at};
 ghost use Rattle.rows.specs.Layout.{Bounded, number-end};
 ghost use Rattle.terms.specs.Decoded.{OperandsPlaced, numbers-of};
 ghost use Rattle.store.specs.Store.{listed};

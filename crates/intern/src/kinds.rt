@@ -2,7 +2,7 @@
 ghost use mathlib.Core.Path.{_≡_};
 ghost use Rattle.theory.specs.Sort.{sort-of, first};
 ghost use Rattle.theory.specs.Depth.{depth};
-ghost use Rattle.theory.proofs.Places.{tree-of};
+ghost use Rattle.theory.specs.Places.{tree-of};
 ghost use Rattle.terms.specs.Decoded.{op-of, numbers-of, arguments-of};
 ghost use Rattle.store.specs.Store.{listed};
 ghost use Rattle.store.specs.Sorts.{sort-read, sorts-at, deepest-at, Arguments};

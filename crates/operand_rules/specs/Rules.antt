@@ -8,8 +8,7 @@ use Rattle.theory.specs.Term.{Term, node, nil}
 use Rattle.theory.specs.Sort.{bv, sort-of, sort-width}
 use Rattle.theory.specs.Bits.{get-term-bits}
 use Rattle.theory.specs.Record.{Bytes}
-use Rattle.theory.proofs.Place.{place}
-use Rattle.theory.proofs.Places.{tree-at}
+use Rattle.theory.specs.Places.{place, tree-at}
 use Rattle.store.specs.Numbers.{number}
 use Rattle.store.specs.Store.{Store, listed}
 use Rattle.operand_rules.specs.declared.Verdict.{Verdict}

@@ -10,8 +10,8 @@ use Rattle.theory.specs.Plain.{has, feed, repeat-of}
 use Rattle.theory.specs.Codes.{fault}
 use Rattle.theory.specs.Answer.{Answer}
 use Rattle.theory.specs.Job.{answers-to}
-use Rattle.theory.proofs.Places.{tree-of}
-use Rattle.theory.proofs.Origins.{origins-item}
+use Rattle.theory.specs.Places.{tree-of}
+use Rattle.theory.specs.Origins.{origins-item}
 use Rattle.terms.specs.declared.Item.{Item}
 use Rattle.terms.specs.Framing.{record-at}
 use Rattle.terms.specs.Decoded.{Placed, item-of}

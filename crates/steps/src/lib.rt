@@ -11,7 +11,7 @@ ghost use Rattle.theory.specs.Verdict.{code-of};
 ghost use Rattle.theory.specs.Optional.{is-some};
 ghost use Rattle.theory.specs.RuleTable.{Rule, rule-at};
 ghost use Rattle.theory.specs.Job.{answer-to};
-ghost use Rattle.theory.proofs.Places.{tree-at};
+ghost use Rattle.theory.specs.Places.{tree-at};
 ghost use Rattle.terms.specs.Decoded.{words-in};
 ghost use Rattle.store.specs.Store.{Store, listed};
 ghost use Rattle.operand_rules.specs.Rules.{tree, verdict-of};

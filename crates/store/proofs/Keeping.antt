@@ -16,7 +16,7 @@ use Rattle.theory.specs.Plain.{Entry, entry, Plain}
 use Rattle.theory.specs.Codes.{all-below}
 use Rattle.theory.proofs.Bytes.{Sound, says-term}
 use Rattle.theory.proofs.Places.{entry-at, tree-at, tree-of}
-use Rattle.theory.proofs.Distinct.{Kept, tree-0, tree-1}
+use Rattle.theory.proofs.Distinct.{Entered, tree-0, tree-1}
 use Rattle.theory.proofs.Distinct as T
 use Rattle.terms.specs.Framing.{record-at}
 use Rattle.rows.specs.Layout.{offset-at}
@@ -54,7 +54,7 @@ stands-whole job at h s =
 
 module _ {job work : Bytes} {n : ℕ} (s : Store job work n) where
   -- the entry of row k
-  pub row-kept : (k : ℕ) → k < n → Kept (listed job work n) (first-terms + k) (entry-at (listed job work n) (first-terms + k))
+  pub row-kept : (k : ℕ) → k < n → Entered (listed job work n) (first-terms + k) (entry-at (listed job work n) (first-terms + k))
   row-kept k h = T.kept-at (listed job work n) (s .well) (first-terms + k) (omega arith) (omega (arith, s .count))
 
   pub row-bytes : (k : ℕ) → k < n → entry-at (listed job work n) (first-terms + k) .bytes ≡ record-at job (offset-at work k)

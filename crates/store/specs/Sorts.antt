@@ -11,7 +11,7 @@ use Rattle.theory.specs.Depth.{deepest}
 use Rattle.theory.specs.Record.{Bytes}
 use Rattle.theory.specs.Plain.{Plain}
 use Rattle.theory.specs.Codes.{all-below}
-use Rattle.theory.proofs.Places.{tree-at}
+use Rattle.theory.specs.Places.{tree-at}
 use Rattle.terms.specs.declared.Operands.{Operands}
 use Rattle.terms.specs.declared.Operands.the-variants.{None, One, Two, Three, List as Listed}
 use Rattle.terms.specs.Decoded.{OperandsPlaced, numbers-of}

@@ -8,9 +8,8 @@ use Rattle.theory.specs.Sort.{sort-of, sort-width}
 use Rattle.theory.specs.Depth.{depth}
 use Rattle.theory.specs.Record.{Bytes}
 use Rattle.theory.specs.Plain.{Entry, Plain, start, feed}
-use Rattle.theory.proofs.Places.{tree-at}
-use Rattle.theory.proofs.Run.{AllGood}
-use Rattle.theory.proofs.Distinct.{WellKept}
+use Rattle.theory.specs.Places.{tree-at}
+use Rattle.theory.specs.Listed.{AllGood, WellKept}
 use Rattle.rows.specs.Layout.{depth-at, width-at}
 use Rattle.rows.specs.Rows.{kept}
 use Rattle.table.specs.Slots.{Table}

@@ -6,7 +6,7 @@ use lib.ListN.{length}
 use Rattle.theory.specs.Kind.{arity, takes}
 use Rattle.theory.specs.Record.{Bytes}
 use Rattle.theory.specs.Codes.{all-below}
-use Rattle.theory.proofs.Places.{tree-at, tree-of}
+use Rattle.theory.specs.Places.{tree-at, tree-of}
 use Rattle.terms.specs.declared.Term.{Term}
 use Rattle.terms.specs.Decoded.{OperandsPlaced, op-of, operands-of, arguments-of}
 use Rattle.store.specs.Store.{listed}

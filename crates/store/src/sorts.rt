@@ -4,7 +4,7 @@ ghost use Prim.Native.Nat.{_+_, _<_};
 ghost use Rattle.theory.specs.Limit.{first-terms};
 ghost use Rattle.theory.specs.Sort.{sort-width, sort-of};
 ghost use Rattle.theory.specs.Depth.{depth};
-ghost use Rattle.theory.proofs.Places.{tree-at};
+ghost use Rattle.theory.specs.Places.{tree-at};
 ghost use Rattle.rows.specs.Layout.{Bounded, number-end};
 ghost use Rattle.store.specs.Store.{Store, listed};
 ghost use Rattle.store.specs.Sorts.{sort-read};

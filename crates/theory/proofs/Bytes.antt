@@ -12,6 +12,7 @@ use lib.Seq.{take-take, take-add}
 use Rattle.theory.specs.Limit.{number-bytes, value-bytes}
 use Rattle.theory.specs.Kind.{Op, kind, arity, takes}
 use Rattle.theory.specs.Record.{Bytes, AllBytes, little-endian, word, words, extent, whole, cut, records-of, kind-of, body-of, fits, arguments, Shape, plain, indexed, twice-indexed, valued, front, make, shapes, find-shape, shape-of, Item, term, step, back, misfit, read, read-term, read-step, read-back, chain, premise-count, chain-front, chain-fits, read-chain}
+pub use Rattle.theory.specs.Listed.{Sound}
 use Rattle.theory.proofs.Basics.{none-some, some-inj}
 
 -- ---- lists of bytes
@@ -207,11 +208,6 @@ not-constant r o ks e l =
     low-shapeless (kind-of r) (subst (λ (k : ℕ). k < 2) (sym (term-kind r o ks e)) l) (s .shape) (s .is-shape)
 
 -- ---- whole records
-pub record Sound (r : Bytes) : Type 0 where
-  pub bytes : AllBytes r
-  pub size : length r ≡ 2 + word r
-  pub long : 4 ≤ length r
-
 even : (n : ℕ) → n % 2 ≡ 0 → n ≡ 2 * (n / 2)
 even n e = omega arith
 

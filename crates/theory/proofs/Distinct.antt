@@ -16,6 +16,7 @@ use Rattle.theory.specs.Plain.{Entry, entry, Plain, start, has, feed, pl
 use Rattle.theory.specs.Codes.{all-below, fault}
 use Rattle.theory.specs.Job.{run}
 use Rattle.theory.specs.Claim.{OneNumber}
+pub use Rattle.theory.specs.Listed.{Entered, WellKept}
 use Rattle.theory.proofs.Basics.{none-some, some-inj, or-left, or-right, getElem-of, getElem-lt, getElem-old, getElem-take, take-getElem, snoc-elim}
 use Rattle.theory.proofs.Blast.{to-from-list}
 use Rattle.theory.proofs.Same.{same-numbers-refl}
@@ -29,24 +30,9 @@ has-at (d ∷ list) zero e r f g =
     or-left (same-numbers (d .bytes) r) (has list r) (subst (λ (s : Bytes). T (same-numbers (d .bytes) s)) (ap (λ (x : Entry). x .bytes) (some-inj d e f) ∙ g) (same-numbers-refl (d .bytes)))
 has-at (d ∷ list) (suc j) e r f g = or-right (same-numbers (d .bytes) r) (has list r) (has-at list j e r f g)
 
--- ---- an entry after the first two: its record says its term, the arguments stand before it, and no record before it is the same
-pub record Kept (list : Plain) (i : ℕ) (e : Entry) : Type 0 where
-  pub sound : Sound (e .bytes)
-  pub op : Op
-  pub args : List ℕ
-  pub says : read (e .bytes) ≡ term op args
-  pub below : T (all-below i args)
-  pub made : e .tree ≡ tree-of list op args
-  pub new : (j : ℕ) (d : Entry) → j < i → getElem? list j ≡ some d → d .bytes ≡ e .bytes → ⊥
-
-pub record WellKept (list : Plain) : Type 0 where
-  pub is-true : getElem? list 0 ≡ some (entry (node True nil) [])
-  pub is-false : getElem? list 1 ≡ some (entry (node False nil) [])
-  pub kept : (i : ℕ) (e : Entry) → first-terms ≤ i → getElem? list i ≡ some e → Kept list i e
-
 -- the same in another list, where the places before are the same
 pub moved : (ks ls : Plain) (i : ℕ) (e : Entry) → ((args : List ℕ) → T (all-below i args) → map (tree-at ls) args ≡ map (tree-at ks) args)
-    → ((j : ℕ) (d : Entry) → j < i → getElem? ls j ≡ some d → getElem? ks j ≡ some d) → Kept ks i e → Kept ls i e
+    → ((j : ℕ) (d : Entry) → j < i → getElem? ls j ≡ some d → getElem? ks j ≡ some d) → Entered ks i e → Entered ls i e
 moved ks ls i e same f k = record {
   sound = k .sound;
   op = k .op;
@@ -80,7 +66,7 @@ snoc-well list r o ks w s d b n =
       kept = λ i e p f. snoc-elim list new i e f
           (λ g. let l = getElem-lt list i e g in
           moved list (list ++ (new ∷ [])) i e (λ args c. trees-old list (new ∷ []) i (omega arith) args c) (λ j x m h. old j x (omega arith) h) (w .kept i e p g))
-          (λ q z. subst (Kept (list ++ (new ∷ [])) i) z (subst (λ (k : ℕ). Kept (list ++ (new ∷ [])) k new) (sym q) (record {
+          (λ q z. subst (Entered (list ++ (new ∷ [])) i) z (subst (λ (k : ℕ). Entered (list ++ (new ∷ [])) k new) (sym q) (record {
             sound = s;
             op = o;
             args = ks;
@@ -119,7 +105,7 @@ module _ (list : Plain) (w : WellKept list) where
   pub tree-1 : tree-at list 1 ≡ node False nil
   tree-1 = ap (λ (e : Entry). e .tree) (some-inj _ _ (sym (getElem-of list 1 _ (getElem-lt list 1 _ (w .is-false))) ∙ w .is-false))
 
-  pub kept-at : (i : ℕ) → first-terms ≤ i → i < length list → Kept list i (entry-at list i)
+  pub kept-at : (i : ℕ) → first-terms ≤ i → i < length list → Entered list i (entry-at list i)
   kept-at i h l = w .kept i (entry-at list i) h (getElem-of list i (entry (node True nil) []) l)
 
 abbrev pub DistinctBelow : Plain → ℕ → Type 0

@@ -1,5 +1,4 @@
--- How a program can tell that a literal has not been dropped since its step: the record of the term that now has the literal's place begins
--- before the step's record. A term that is added again has a later record.
+-- The laws of origins: record by record, the earlier steps that may be premises are those whose literal stands before them.
 use mathlib.Core.Path.{_≡_, refl, sym, ap, ap₂, subst, _∙_}
 use mathlib.Core.Bool.{Bool, true, false, cond}
 use mathlib.Core.List.{List, [], _∷_, _++_, map}
@@ -12,28 +11,18 @@ use lib.Ieee.Fits.{and-l, and-i}
 use lib.ListN.{length, take, getElem?, length-append, length-take}
 use borrow.Author.Tests.{le-leb, lt-leb, lt-ltb, le-ltb}
 use Rattle.theory.specs.Term.{Term}
-use Rattle.theory.specs.Optional.{either}
 use Rattle.theory.specs.Record.{Bytes, Item, term, step, chain, back, unknown, misfit, read}
 use Rattle.theory.specs.Plain.{Entry, entry, Plain, start, has, put, feed-item, feed}
 use Rattle.theory.specs.Codes.{first-fault, all-below, tests, fault}
 use Rattle.theory.specs.Answer.{Answer}
 use Rattle.theory.specs.Chain.{Earlier, leaves, unless-dropped, recall-item, premises-at, joined}
 use Rattle.theory.specs.Job.{judged, answer-to, item-answers, answers-to, recall}
+pub use Rattle.theory.specs.Origins.{before, standing, Mark, all-standing, origins-item}
 use Rattle.theory.proofs.Basics.{none-some, some-inj, take-getElem}
 use Rattle.theory.proofs.Places.{tree-at, tree-of, term-of-is}
 use Rattle.theory.proofs.Run.{term-passed, step-passed, step-answer, chain-passed, chain-answer}
 
 -- ---- one literal
--- The origin of a term is 0 for `true` and `false`, and for any other one more than the place in the job where its record begins.
--- p, where the term with this origin was there before s
-abbrev pub before : Option ℕ → ℕ → ℕ → Option ℕ
-before origin s p = either none (λ o. cond (leb o s) (some p) none) origin
-
--- what a step that begins at s left, a literal or none, by the origins of the terms that are there now
-abbrev pub standing : List ℕ → ℕ → Option ℕ → Option ℕ
-standing origins s none = none
-standing origins s (some p) = before (getElem? origins p) s p
-
 -- each origin is at most n
 abbrev pub AllUpTo : ℕ → List ℕ → Type 0
 AllUpTo n [] = Unit {0}
@@ -108,14 +97,7 @@ standing-new os s none h l = refl
 standing-new os s (some p) h l = new-at os s p p h (l p refl)
 
 -- ---- all steps so far
--- where a step begins, and what it left when it was answered
-abbrev pub Mark : Type 0
-Mark = ℕ × Option ℕ
-
-abbrev pub all-standing : List ℕ → List Mark → Earlier
-all-standing os marks = map (λ (m : Mark). standing os (m .0) (m .1)) marks
-
--- each of them began before n
+-- each step began before n
 abbrev pub AllBefore : ℕ → List Mark → Type 0
 AllBefore n [] = Unit {0}
 AllBefore n (m ∷ ms) = (m .0 < n) × AllBefore n ms
@@ -141,16 +123,7 @@ all-snoc os [] m = refl
 all-snoc os (x ∷ ms) m = ap (λ (xs : Earlier). standing os (x .0) (x .1) ∷ xs) (all-snoc os ms m)
 
 -- ---- the law: record by record, the earlier steps that may be premises are those whose literal stands before them
--- the origins after a record that begins at `at`
-abbrev pub origins-item : List ℕ → Plain → ℕ → Bytes → Item → List ℕ
-origins-item os list at r (term o ks) = cond (has list r) os (os ++ (suc at ∷ []))
-origins-item os list at r (step n ks) = os
-origins-item os list at r (chain n ps k) = os
-origins-item os list at r (back n) = take n os
-origins-item os list at r unknown = os
-origins-item os list at r misfit = os
-
--- the marks after it
+-- the marks after a record that begins at `at`
 abbrev pub marks-item : List Mark → ℕ → Item → List Answer → List Mark
 marks-item ms at (term o ks) answers = ms
 marks-item ms at (step n ks) answers = ms ++ map (λ (a : Answer). (at, leaves ks a)) answers

@@ -12,42 +12,15 @@ use Rattle.theory.specs.Limit.{first-terms}
 use Rattle.theory.specs.Kind.{Op, True, False, kind}
 use Rattle.theory.specs.Term.{Term, Terms, node, nil, cons, fold, folds, from-list, same-numbers, same-op}
 use Rattle.theory.specs.Optional.{either, cons-some, collect}
-use Rattle.theory.specs.Record.{Item, term, step, chain, back, unknown, misfit, read, shape-of}
+use Rattle.theory.specs.Record.{Item, term, read, shape-of}
 use Rattle.theory.specs.Plain.{Entry, entry, Plain}
 use Rattle.theory.specs.Codes.{all-below}
+unfoldable pub use Rattle.theory.specs.Places.{item-is, agrees, find-from, find, lookup, place}
 use Rattle.theory.proofs.Basics.{none-some, some-inj, cons-some-is, getElem-of, getElem-lt}
 use Rattle.theory.proofs.Same.{same-numbers-eq, same-numbers-refl, same-op-eq, same-op-refl}
 use Rattle.theory.proofs.Bytes.{same-record, not-constant}
 use Rattle.theory.proofs.Places.{entry-at, tree-at, tree-of}
-use Rattle.theory.proofs.Distinct.{Kept, WellKept, tree-0, tree-1, kept-at}
-
--- ---- looking up: the number of the term of kind o whose arguments have the numbers ks
-abbrev pub item-is : Item → Op → List ℕ → Bool
-item-is (term p js) o ks = same-op p o && same-numbers js ks
-item-is (step n js) o ks = false
-item-is (chain n ps k) o ks = false
-item-is (back n) o ks = false
-item-is unknown o ks = false
-item-is misfit o ks = false
-
-abbrev pub agrees : Entry → Op → List ℕ → Bool
-agrees e o ks = item-is (read (e .bytes)) o ks
-
-unfoldable pub find-from : ℕ → Plain → Op → List ℕ → Option ℕ
-find-from n [] o ks = none
-find-from n (e ∷ list) o ks = cond (agrees e o ks) (some n) (find-from (suc n) list o ks)
-
-unfoldable pub find : Plain → Op → List ℕ → Option ℕ
-find list o ks =
-    cond (same-op True o && same-numbers [] ks) (some 0) (cond (same-op False o && same-numbers [] ks) (some 1) (find-from 0 list o ks))
-
--- a gate with a missing argument is missing
-abbrev pub lookup : Plain → Op → List (Option ℕ) → Option ℕ
-lookup list o ps = either none (find list o) (collect ps)
-
--- the number of a term
-abbrev pub place : Plain → Term → Option ℕ
-place list = fold (lookup list)
+use Rattle.theory.proofs.Distinct.{Entered, WellKept, tree-0, tree-1, kept-at}
 
 -- ---- what is found
 pub item-says : (i : Item) (o : Op) (ks : List ℕ) → T (item-is i o ks) → i ≡ term o ks
@@ -155,7 +128,7 @@ constants-placed list = (refl, refl)
 
 module _ (list : Plain) (w : WellKept list) where
   -- a kept record is found under its own number
-  find-own : (i : ℕ) (e : Entry) (k : Kept list i e) → getElem? list i ≡ some e → find list (k .op) (k .args) ≡ some i
+  find-own : (i : ℕ) (e : Entry) (k : Entered list i e) → getElem? list i ≡ some e → find list (k .op) (k .args) ≡ some i
   unfolding find
   find-own i e k f =
       let o = k .op in

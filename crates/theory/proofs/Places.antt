@@ -6,24 +6,14 @@ use Prim.Native.Nat.{ℕ, zero, suc, _<_, _≤_}
 use native.Mathlib.Omega.{arith}
 use lib.Dec.{T, ltb, ltb→lt, lt→ltb}
 use lib.Ieee.Fits.{and-l, and-r, and-i}
-use lib.ListN.{length, getD, List·getD-append}
+use lib.ListN.{length, List·getD-append}
 use Rattle.theory.specs.Kind.{Op, True}
 use Rattle.theory.specs.Term.{Term, node, nil, from-list}
 use Rattle.theory.specs.Optional.{either, cons-some}
 use Rattle.theory.specs.Plain.{Entry, entry, Plain, at-place, at-places, term-of}
 use Rattle.theory.specs.Codes.{all-below}
+pub use Rattle.theory.specs.Places.{entry-at, tree-at, tree-of}
 use Rattle.theory.proofs.Basics.{none-some, some-inj, getElem-of}
-
--- the entry and the term at a place; some entry where there is none
-abbrev pub entry-at : Plain → ℕ → Entry
-entry-at list i = getD list i (entry (node True nil) [])
-
-abbrev pub tree-at : Plain → ℕ → Term
-tree-at list i = entry-at list i .tree
-
--- the term of kind o with arguments at these places
-abbrev pub tree-of : Plain → Op → List ℕ → Term
-tree-of list o ks = node o (from-list (map (tree-at list) ks))
 
 pub at-place-is : (list : Plain) (i : ℕ) → i < length list → at-place list i ≡ some (tree-at list i)
 at-place-is list i h = ap (either none (λ (e : Entry). some (e .tree))) (getElem-of list i (entry (node True nil) []) h)

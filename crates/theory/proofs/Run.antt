@@ -26,6 +26,7 @@ use Rattle.theory.specs.Answer.{Answer}
 use Rattle.theory.specs.Chain.{Earlier, premises-at, joined}
 use Rattle.theory.specs.Job.{answer-to, judged, reply, chain-reply, item-answers, answers-to, recall, Outcome, outcome, run-from, run}
 use Rattle.theory.specs.Claim.{repeats-from}
+pub use Rattle.theory.specs.Listed.{AllGood}
 use Rattle.theory.specs.Demands.{Stops, too-long, at-record, at-end, earlier-from, earlier-after}
 use Rattle.theory.proofs.Basics.{none-some, some-inj, taken, foldl-append, getElem-of, getElem-lt, getElem-seam, snoc-elim}
 use Rattle.theory.proofs.Stops.{Stop, fault-code, ending-code}
@@ -45,10 +46,6 @@ step-count-append (x ∷ xs) r = go (is-step (read x)) (step-count-append xs r)
     go false e = e
 
 -- ---- every term of the list has a sort
-abbrev pub AllGood : Plain → Type 0
-AllGood [] = Unit {0}
-AllGood (e ∷ list) = T (good (sort-of (e .tree))) × AllGood list
-
 pub good-snoc : (list : Plain) (e : Entry) → AllGood list → T (good (sort-of (e .tree))) → AllGood (list ++ (e ∷ []))
 good-snoc [] e h g = (g, tt)
 good-snoc (d ∷ list) e h g = (h .0, good-snoc list e (h .1) g)

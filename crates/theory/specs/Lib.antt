@@ -18,9 +18,12 @@ pub mod LeftOut
 pub mod Record
 pub mod Plain
 pub mod Codes
+pub mod Places
+pub mod Listed
 pub mod Answer
 pub mod Chain
 pub mod Job
+pub mod Origins
 pub mod Tally
 pub mod Program
 pub mod Demand
