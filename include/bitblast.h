@@ -50,7 +50,7 @@ typedef struct BbOutcome {
     uint32_t repeats; /* term records done whose term was there already; no back lowers it */
 } BbOutcome;
 
-/* What the jobs of a service came to. Each number holds at its largest value. */
+/* What the jobs of a service came to. Each number saturates. */
 typedef struct BbTally {
     uint64_t jobs;
     uint64_t held;

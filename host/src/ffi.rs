@@ -19,7 +19,7 @@ pub struct Outcome {
     pub repeats: u32,
 }
 
-/// What the jobs of a service came to. Each number holds at its largest value. Later interfaces may add numbers.
+/// What the jobs of a service came to. Each number saturates. Later interfaces may add numbers.
 #[repr(C)]
 #[non_exhaustive]
 #[derive(Clone, Copy, Debug, Default, PartialEq, Eq)]

@@ -16,7 +16,7 @@ use store::sorts::width_of;
 use table::Added;
 use terms::Term;
 
-// What became of a record's term: it has no sort, there is no room for it, or it is kept, and there are so many rows then.
+// The result for a record's term: it has no sort, there is no room for it, or it is kept, and there are so many rows then.
 pub enum Interned {
     Unsorted,
     Spent,

@@ -76,7 +76,7 @@ pub fn compare_bits(
     compare(bb_term(job, work, n, &bits[..w]), claim)
 }
 
-// The same, for a rule whose circuit is held to its form only.
+// The same, for a rule whose circuit is accepted for its form only.
 pub fn compare_bits_form(
     job: &[u8],
     work: &[u8],

@@ -38,7 +38,7 @@ const FIRST_CHAIN_RULE: u32 = 31;
 
 const LAST_CHAIN_RULE: u32 = 33;
 
-// What became of a record: the code that stops the job or 0, and then the answers written, the rows kept, and the repeats: 1 where it is a term that
+// The result of a record: the code that stops the job or 0, and then the answers written, the rows kept, and the repeats: 1 where it is a term that
 // was found, not new.
 pub struct Turn {
     pub code: u32,
@@ -47,7 +47,7 @@ pub struct Turn {
     pub repeats: usize,
 }
 
-// What became of a term that `intern` was offered: 7 where it has no sort, 8 where there is no room for it.
+// The result for a term that `intern` was offered: 7 where it has no sort, 8 where there is no room for it.
 fn kept_turn(kept: Interned, answered: usize, rows: usize) -> Turn
     ensures { λ r. ⌜ r ≡ turn (code-of kept) answered (rows-after kept rows) (repeats-in kept) ⌝ }
 {

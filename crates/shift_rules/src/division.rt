@@ -1,4 +1,4 @@
-// The rules udiv and urem, held to their form only; and the two by the standard, which are held.
+// The rules udiv and urem, accepted for their form only; and the two by the standard, which are held.
 ghost use mathlib.Core.Path.{_≡_};
 ghost use mathlib.Core.Bool.{cond};
 ghost use Rattle.theory.specs.Bits.{divided};

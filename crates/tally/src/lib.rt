@@ -11,7 +11,7 @@ use terms::ANSWER_BYTES;
 use terms::CODE_AT;
 use terms::Term;
 
-// Jobs, and their answers by class of code. Each field holds at its largest number.
+// Jobs, and their answers by class of code. Each field saturates.
 #[repr(C)]
 pub struct Tally {
     pub jobs: u64,

@@ -171,7 +171,7 @@ Rotations =
     → (bit-at ((i + k) % n) (rotate-left-n k n x) ≡ bit-at i x) × (bit-at ((i + (n - k % n)) % n) (rotate-right-n k n x) ≡ bit-at i x)
 
 -- ---- "Until one holds, the last three sum to all answers written, since the tally was zero, by the jobs it was lent for"
--- none of the three holds at its largest number
+-- none of the three has saturated
 pub record Free (t : Tally) : Type 0 where
   pub held-free : t .held < max-tally
   pub form-free : t .form-only < max-tally

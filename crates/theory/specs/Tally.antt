@@ -16,7 +16,7 @@ pub record Tally : Type 0 where
 abbrev pub max-tally : ℕ
 max-tally = 2 ^ 64 - 1
 
--- a count holds at its largest number
+-- a count saturates: it stays at its largest number
 abbrev pub up : ℕ → ℕ → ℕ
 up c n = min (c + n) max-tally
 
