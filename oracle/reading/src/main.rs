@@ -1,10 +1,12 @@
 //! The command line `reading`.
-use reading::{generate::write_all, job};
-use std::{error::Error, io::Read, path::Path, process::exit};
+use reading::generate::write_all;
+use reading::job::{self, Lent};
+use std::{error::Error, fs, io::Read, path::Path, process::exit};
 
 const USAGE: &str = "usage:
   reading run < FILE.job          prints what bbcheck prints
-  reading gen SEED COUNT DIR      writes COUNT cases and a summary; status 1 where the cases show a fault";
+  reading gen SEED COUNT DIR      writes COUNT cases and a summary; status 1 where the cases show a fault
+  reading verify DIR              reads the cases of a folder against their .expect files; status 1 where one differs";
 
 fn main() {
     exit(match commands() {
@@ -31,6 +33,30 @@ fn commands() -> Result<i32, Box<dyn Error>> {
             print!("{}", summary.text());
             Ok(i32::from(!summary.faults.is_empty()))
         }
+        ["verify", folder] => verify(Path::new(folder)),
         _ => Err(USAGE.into()),
     }
+}
+
+/// Reads the cases of a folder, whoever wrote them, with the memory that their .expect files lend.
+fn verify(folder: &Path) -> Result<i32, Box<dyn Error>> {
+    let (mut cases, mut differing) = (0, 0);
+    for entry in fs::read_dir(folder)? {
+        let path = entry?.path();
+        if path.extension().is_none_or(|end| end != "job") {
+            continue;
+        }
+        let expected = fs::read_to_string(path.with_extension("expect"))?;
+        let number = |name: &str| expected.lines().find_map(|line| line.strip_prefix(name)?.parse().ok());
+        let (Some(work), Some(room)) = (number("work "), number("room ")) else {
+            return Err(format!("{} lends no memory", path.with_extension("expect").display()).into());
+        };
+        cases += 1;
+        if job::expect_text(&fs::read(&path)?, Lent { work, room }) != expected {
+            differing += 1;
+            println!("DIFFERS {}", path.display());
+        }
+    }
+    println!("{cases} cases, {differing} differ");
+    Ok(i32::from(differing > 0))
 }
