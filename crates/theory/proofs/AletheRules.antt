@@ -1,7 +1,7 @@
 -- Each rule of specs/AletheRules.antt is accepted exactly on the term that it prints.
 use mathlib.Core.Path.{_≡_, refl, sym, ap, ap₂, subst, _∙_}
 use mathlib.Core.Bool.{Bool, true, false, cond}
-use mathlib.Core.List.{List, [], _∷_, _++_, map}
+use mathlib.Core.List.{List, [], _∷_, _++_, map, foldl}
 use Prim.Native.Nat.{ℕ, zero, suc, _+_, _-_, _≤_, _<_}
 use native.Mathlib.Nat.{suc-add, add-suc, add-zero}
 use native.Mathlib.Omega.{arith}
@@ -13,19 +13,19 @@ use Rattle.theory.specs.Sort.{Sort, bv, sort-of, sort-width, is-bv-sort,
 use Rattle.theory.specs.Value.{Val, value, truth}
 use Rattle.theory.specs.Gates.{term-gates}
 use Rattle.theory.specs.Circuit.{zip-with, ripple-carry-adder, negate, bitblast-ult, slt, gather, equality, shift-add-multiplier}
-use Rattle.theory.specs.Bits.{select, get-term-bits, bb, fold-terms, add-bits, product, concat-bits, extract-bits, extend-bits}
+use Rattle.theory.specs.Bits.{select, get-term-bits, bb, fold-terms, zipped, add-bits, product, concat-bits, extract-bits, extend-bits}
 use Rattle.theory.specs.Move.{bits, bit-of}
 use Rattle.theory.specs.Alethe.{bitwise, bvnot, bvult, bvslt, bvadd, bvneg, bvmul, bvequal, bvcomp, extract, sign-extend}
 use Rattle.theory.specs.Verdict.{Verdict, held, not-bit-vector, terms-differ}
 use Rattle.theory.specs.RuleTable.{Rule, by-extract, by-concat}
 use Rattle.theory.specs.Rule.{args-of, compare, of-bits, on-sides, verdict}
-use Rattle.theory.specs.AletheRules.{bit, Both, Prints, Exactly, AletheRules, bitblast-var, bitblast-and, bitblast-or, bitblast-xor, bitblast-xnor, bitblast-not, bitblast-slt, bitblast-add, bitblast-mult, bitblast-neg, bitblast-equal, bitblast-comp, bitblast-extract, bitblast-concat, bitblast-sign-extend-0, bitblast-sign-extend}
+use Rattle.theory.specs.AletheRules.{bit, Both, Prints, Exactly, AletheRules, bitblast-var, bitblast-and, bitblast-or, bitblast-xor, bitblast-xnor, bitblast-not, bitblast-slt, bitblast-add, bitblast-mult, bitblast-neg, bitblast-equal, bitblast-comp, bitblast-extract, bitblast-concat, bitblast-sign-extend-0, bitblast-sign-extend, FromLeft, alone, and-then, bitblast-ands, bitblast-ors, bitblast-xors, bitblast-mults, bitblast-adds}
 use Rattle.theory.specs.AletheRules as A
 use Rattle.theory.specs.Specimen.{x-and-y}
 use Rattle.theory.proofs.Same.{eq-same}
-use Rattle.theory.proofs.Basics.{T-true}
+use Rattle.theory.proofs.Basics.{T-true, foldl-append}
 use Rattle.theory.proofs.Form.{form-held, same-of}
-use Rattle.theory.proofs.Blast.{bits-of, not-bb}
+use Rattle.theory.proofs.Blast.{bits-of, not-bb, to-from-list}
 use Rattle.theory.proofs.Indexed.{length-bits, getD-bits, bits-by, bits-same, map-bits, zip-bits, append-bits}
 use Rattle.theory.proofs.Alethe.{adder-by, ult-by, slt-by, mult-by, gather-by, extract-indexed, extend-indexed}
 
@@ -114,6 +114,54 @@ not-zero k = go (eqb (suc k) 0) (eqb→eq (suc k) 0)
     go true f = absurd (let e = f tt in omega arith)
     go false f = refl
 
+-- ---- more arguments
+-- some argument is the first
+record First (ts : List Term) : Type 0 where
+  head : Term
+  tail : List Term
+  is : ts ≡ head ∷ tail
+
+first-of : {first : ℕ → Term → Term} {prints : ℕ → (ℕ → Term) → (ℕ → Term) → Term} {ts : List Term} {e : Term} → FromLeft first prints ts e → First ts
+first-of (alone {x} s) = record { head = x; tail = []; is = refl }
+first-of (and-then {y = y} f b) = let g = first-of f in record { head = g .head; tail = g .tail ++ (y ∷ []); is = ap (λ (l : List Term). l ++ (y ∷ [])) (g .is) }
+
+-- what folds the arguments from the left is that term
+from-left : {first : ℕ → Term → Term} {prints : ℕ → (ℕ → Term) → (ℕ → Term) → Term} (g : List Term → Term)
+    → ((x : Term) (n : ℕ) → sort-of x ≡ bv n → g (x ∷ []) ≡ first n x)
+    → ((t : Term) (ts : List Term) (y : Term) (n : ℕ) → Both (g (t ∷ ts)) y n → g (t ∷ ts ++ (y ∷ [])) ≡ prints n (bit (g (t ∷ ts))) (bit y))
+    → {ts : List Term} {e : Term} → FromLeft first prints ts e → g ts ≡ e
+from-left g base step (alone {x} {n} s) = base x n s
+from-left {prints = prints} g base step (and-then {ts} {e} {y} {n} f b) =
+    let h = from-left g base step f in
+    let w = first-of f in
+    let k : g (w .head ∷ w .tail) ≡ e = ap g (sym (w .is)) ∙ h in
+    ap (λ (l : List Term). g (l ++ (y ∷ []))) (w .is)
+    ∙ step (w .head) (w .tail) y n (record { left = ap sort-of k ∙ b .left; right = b .right })
+    ∙ ap (λ (t : Term). prints n (bit t) (bit y)) k
+
+-- a fold of a circuit of two terms
+folds : {prints : ℕ → (ℕ → Term) → (ℕ → Term) → Term} (f : Term → Term → Term) → ((x y : Term) (n : ℕ) → Both x y n → f x y ≡ prints n (bit x) (bit y))
+    → {ts : List Term} {e : Term} → FromLeft (λ n x. x) prints ts e → fold-terms f ts ≡ e
+unfolding fold-terms
+folds f two-are w = from-left (fold-terms f) (λ x n s. refl) (λ t ts y n b. foldl-append f t ts (y ∷ []) ∙ two-are (foldl f t ts) y n b) w
+
+sums : {ts : List Term} {e : Term} → FromLeft (λ n x. bb (bits n (bit x))) (λ n x y. bb (bvadd term-gates n x y)) ts e → bb (add-bits ts) ≡ e
+unfolding add-bits
+sums w =
+    from-left (λ ts. bb (add-bits ts)) (λ x n s. ap bb (bits-are x n s))
+    (λ t ts y n b.
+    let adder = ripple-carry-adder term-gates (node False nil) in
+    let so-far = add-bits (t ∷ ts) in
+    ap bb
+    (foldl-append (λ a u. adder a (get-term-bits u)) (get-term-bits t) ts (y ∷ [])
+    ∙ ap (λ (l : List Term). adder l (get-term-bits y)) (sym (bb-is BvBbTerm (from-list so-far) refl ∙ to-from-list so-far))
+    ∙ two-bits b adder ∙ adder-by term-gates (bit (bb so-far)) (bit y) n (node False nil))) w
+
+-- the last test over arguments that are a list
+of-list : {rule : Rule} {o : Op} {e r : Term} (g : List Term → Term) (ts : List Term)
+    → verdict rule (two Equals (node o (from-list ts)) r) ≡ compare held (g (to-list (from-list ts))) r → g ts ≡ e → Exactly rule (node o (from-list ts)) e r
+of-list g ts v p = exactly (g (to-list (from-list ts))) v (ap g (to-from-list ts) ∙ p)
+
 pub alethe-rules : AletheRules
 unfolding verdict on-sides args-of fold-terms add-bits concat-bits
 alethe-rules rule l e r (bitblast-var {x} {n} s) = exactly (bb (get-term-bits x)) (of-sort x s (compare held (bb (get-term-bits x)) r)) (ap bb (bits-are x n s))
@@ -158,3 +206,12 @@ alethe-rules rule l e r (bitblast-concat {x} {y} {m} {n} s q) =
 alethe-rules rule l e r (bitblast-sign-extend-0 {x}) = exactly x refl refl
 alethe-rules rule l e r (bitblast-sign-extend {x} {n} {k} s) =
     exactly (bb (extend-bits (suc k) (get-term-bits x))) (ap (λ (b : Bool). compare held (cond b x (bb (extend-bits (suc k) (get-term-bits x)))) r) (not-zero k)) (ap bb (extend-same x s (suc k)))
+alethe-rules rule l e r (bitblast-ands {ts} w) =
+    of-list (fold-terms (zipped (two And))) ts refl (folds (zipped (two And)) (λ x y n b. ap bb (two-bits b (zip-with (two And)) ∙ zip-bits (two And) n (bit x) (bit y))) w)
+alethe-rules rule l e r (bitblast-ors {ts} w) =
+    of-list (fold-terms (zipped (two Or))) ts refl (folds (zipped (two Or)) (λ x y n b. ap bb (two-bits b (zip-with (two Or)) ∙ zip-bits (two Or) n (bit x) (bit y))) w)
+alethe-rules rule l e r (bitblast-xors {ts} w) =
+    of-list (fold-terms (zipped (two Xor))) ts refl (folds (zipped (two Xor)) (λ x y n b. ap bb (two-bits b (zip-with (two Xor)) ∙ zip-bits (two Xor) n (bit x) (bit y))) w)
+alethe-rules rule l e r (bitblast-mults {ts} w) =
+    of-list (fold-terms product) ts refl (folds product (λ x y n b. ap bb (two-bits b (shift-add-multiplier term-gates) ∙ mult-by term-gates (bit x) (bit y) n)) w)
+alethe-rules rule l e r (bitblast-adds {ts} w) = of-list (λ us. bb (add-bits us)) ts refl (sums w)

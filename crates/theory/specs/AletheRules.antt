@@ -2,11 +2,12 @@
 -- or argument i where x is a @bbterm.
 use mathlib.Core.Path.{_≡_}
 use mathlib.Core.Bool.{cond}
+use mathlib.Core.List.{List, [], _∷_, _++_}
 use Prim.Native.Nat.{ℕ, suc, _+_, _-_, _≤_, _<_}
 use lib.Dec.{eqb, ltb}
 use lib.ListN.{getD}
 use Rattle.theory.specs.Kind.{False, And, Or, Xor, Equals, BvBitOf, BvBbTerm, BvNot, BvNeg, BvAnd, BvOr, BvXor, BvAdd, BvMul, BvXNor, BvComp, BvULt, BvSLt, BvConcat, BvExtract, SignExtend, kind}
-use Rattle.theory.specs.Term.{Term, node, nil, cons, to-list, two}
+use Rattle.theory.specs.Term.{Term, node, nil, cons, to-list, from-list, two}
 use Rattle.theory.specs.Sort.{bv, sort-of}
 use Rattle.theory.specs.Gates.{term-gates}
 use Rattle.theory.specs.Bits.{bb}
@@ -24,6 +25,11 @@ bit (node o ts) i = cond (eqb (kind o) (kind BvBbTerm)) (getD (to-list ts) i (no
 pub record Both (x y : Term) (n : ℕ) : Type 0 where
   pub left : sort-of x ≡ bv n
   pub right : sort-of y ≡ bv n
+
+-- more arguments are read from the left: `first` is what stands for one argument, `prints` for the term so far and one argument more
+pub data FromLeft (first : ℕ → Term → Term) (prints : ℕ → (ℕ → Term) → (ℕ → Term) → Term) : List Term → Term → Type 0 where
+  alone : {x : Term} {n : ℕ} → sort-of x ≡ bv n → FromLeft first prints (x ∷ []) (first n x)
+  and-then : {ts : List Term} {e y : Term} {n : ℕ} → FromLeft first prints ts e → Both e y n → FromLeft first prints (ts ++ (y ∷ [])) (prints n (bit e) (bit y))
 
 -- the rule, its left side, and the right side that it has
 pub data Prints : Rule → Term → Term → Type 0 where
@@ -44,6 +50,11 @@ pub data Prints : Rule → Term → Term → Type 0 where
   bitblast-concat : {x y : Term} {m n : ℕ} → sort-of x ≡ bv m → sort-of y ≡ bv n → Prints by-concat (two BvConcat x y) (bb (bits (n + m) (λ k. cond (ltb k n) (bit y k) (bit x (k - n)))))
   bitblast-sign-extend-0 : {x : Term} → Prints by-sign-extend (node (SignExtend 0) (cons x nil)) x
   bitblast-sign-extend : {x : Term} {n k : ℕ} → sort-of x ≡ bv (suc n) → Prints by-sign-extend (node (SignExtend (suc k)) (cons x nil)) (bb (sign-extend (suc k) (suc n) (bit x)))
+  bitblast-ands : {ts : List Term} {e : Term} → FromLeft (λ n x. x) (λ n x y. bb (bitwise (two And) n x y)) ts e → Prints by-and (node BvAnd (from-list ts)) e
+  bitblast-ors : {ts : List Term} {e : Term} → FromLeft (λ n x. x) (λ n x y. bb (bitwise (two Or) n x y)) ts e → Prints by-or (node BvOr (from-list ts)) e
+  bitblast-xors : {ts : List Term} {e : Term} → FromLeft (λ n x. x) (λ n x y. bb (bitwise (two Xor) n x y)) ts e → Prints by-xor (node BvXor (from-list ts)) e
+  bitblast-mults : {ts : List Term} {e : Term} → FromLeft (λ n x. x) (λ n x y. bb (bvmul term-gates n x y)) ts e → Prints by-mult (node BvMul (from-list ts)) e
+  bitblast-adds : {ts : List Term} {e : Term} → FromLeft (λ n x. bb (bits n (bit x))) (λ n x y. bb (bvadd term-gates n x y)) ts e → Prints by-add (node BvAdd (from-list ts)) e
 
 -- a step of such a rule is accepted exactly when its right side is that term
 pub record Exactly (rule : Rule) (l e r : Term) : Type 0 where
