@@ -50,3 +50,4 @@ pub mod ShutOutHeld
 pub mod Demands
 pub mod AletheRules
 pub mod LeftOut
+pub mod AletheConst

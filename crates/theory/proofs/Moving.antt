@@ -44,7 +44,7 @@ low-bit [] = refl
 low-bit (true ∷ l) = rw (odd true (to-number l))
 low-bit (false ∷ l) = rw (odd false (to-number l))
 
-bit-is : (bs : List Bool) (i : ℕ) → bit-at i (to-number bs) ≡ getD bs i false
+pub bit-is : (bs : List Bool) (i : ℕ) → bit-at i (to-number bs) ≡ getD bs i false
 bit-is bs i =
     ap (λ (z : ℕ). eqb (z % 2) 1) (sym (to-number-drop i bs)) ∙ low-bit (drop i bs)
     ∙ getD-drop i bs 0 false ∙ ap (λ (k : ℕ). getD bs k false) (add-zero i)
@@ -78,7 +78,7 @@ same-from x i (suc k) =
     (bits-same k (λ j. bit-at (i + suc j) x) (λ j. bit-at (suc i + j) x) (λ j. ap (λ (z : ℕ). bit-at z x) (let z : i + suc j ≡ suc i + j = omega arith in z)) ∙ same-from x (suc i) k)
 
 -- m bits of x, each at its place
-stay : (m x : ℕ) → x < 2 ^ m → to-number (bits m (λ j. bit-at j x)) ≡ x
+pub stay : (m x : ℕ) → x < 2 ^ m → to-number (bits m (λ j. bit-at j x)) ≡ x
 stay m x h =
     ap to-number (bits-same m (λ j. bit-at j x) (λ j. bit-at (0 + j) x) (λ j. ap (λ (z : ℕ). bit-at z x) (let z : j ≡ 0 + j = omega arith in z)) ∙ same-from x 0 m)
     ∙ to-number-bits-from x 0 m ∙ ap (λ (z : ℕ). z % 2 ^ m) (div-one x) ∙ mod-eq-of-lt h

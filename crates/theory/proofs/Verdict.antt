@@ -222,7 +222,7 @@ literals-sort bs n e =
     let g = guard-yes _ (bv (length (sorts-of (from-list (map literal bs))))) (bv n) tt e .1 in
     sym (length-map bs literal) ∙ sym (length-map (map literal bs) sort-of) ∙ ap length (sym (folds-from-list sort-op (map literal bs))) ∙ ap sort-width g
 
-value-bits-held : (x : ℕ) (q : Option (List Bool)) → value-bits x q ≡ held → (bs : List Bool) × (q ≡ some bs) × (x ≡ to-number bs)
+pub value-bits-held : (x : ℕ) (q : Option (List Bool)) → value-bits x q ≡ held → (bs : List Bool) × (q ≡ some bs) × (x ≡ to-number bs)
 value-bits-held x none e = absurd (not-held bit-not-literal tt e)
 value-bits-held x (some bs) e = (bs, refl, eqb→eq x (to-number bs) (then-held (eqb x (to-number bs)) other-value held tt e .0))
 

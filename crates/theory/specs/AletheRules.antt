@@ -3,18 +3,19 @@
 use mathlib.Core.Path.{_≡_}
 use mathlib.Core.Bool.{cond}
 use mathlib.Core.List.{List, [], _∷_, _++_}
-use Prim.Native.Nat.{ℕ, suc, _+_, _-_, _≤_, _<_}
+use Prim.Native.Nat.{ℕ, suc, _+_, _-_, _^_, _≤_, _<_}
 use lib.Dec.{eqb, ltb}
 use lib.ListN.{getD}
-use Rattle.theory.specs.Kind.{False, And, Or, Xor, Equals, BvBitOf, BvBbTerm, BvNot, BvNeg, BvAnd, BvOr, BvXor, BvAdd, BvMul, BvXNor, BvComp, BvULt, BvSLt, BvConcat, BvExtract, SignExtend, kind}
+use Rattle.theory.specs.Kind.{True, False, Const, And, Or, Xor, Equals, BvBitOf, BvBbTerm, BvNot, BvNeg, BvAnd, BvOr, BvXor, BvAdd, BvMul, BvXNor, BvComp, BvULt, BvSLt, BvConcat, BvExtract, SignExtend, kind}
 use Rattle.theory.specs.Term.{Term, node, nil, cons, to-list, from-list, two}
-use Rattle.theory.specs.Sort.{bv, sort-of}
+use Rattle.theory.specs.Sort.{bool, bv, sort-of}
+use Rattle.theory.specs.Value.{bit-at}
 use Rattle.theory.specs.Gates.{term-gates}
 use Rattle.theory.specs.Bits.{bb}
 use Rattle.theory.specs.Move.{bits}
 use Rattle.theory.specs.Alethe.{bitwise, bvnot, bvult, bvslt, bvadd, bvneg, bvmul, bvequal, bvcomp, extract, sign-extend}
 use Rattle.theory.specs.Verdict.{held}
-use Rattle.theory.specs.RuleTable.{Rule, by-var, by-and, by-or, by-xor, by-xnor, by-not, by-ult, by-slt, by-add, by-mult, by-neg, by-equality, by-comp, by-extract, by-concat, by-sign-extend}
+use Rattle.theory.specs.RuleTable.{Rule, by-value, by-var, by-and, by-or, by-xor, by-xnor, by-not, by-ult, by-slt, by-add, by-mult, by-neg, by-equality, by-comp, by-extract, by-concat, by-sign-extend}
 use Rattle.theory.specs.Rule.{verdict}
 
 -- bit i of a term; past the bits of a @bbterm `false`, which no rule reads
@@ -60,6 +61,12 @@ pub data Prints : Rule → Term → Term → Type 0 where
 pub record Exactly (rule : Rule) (l e r : Term) : Type 0 where
   pub only : verdict rule (two Equals l r) ≡ held → r ≡ e
   pub always : r ≡ e → verdict rule (two Equals l r) ≡ held
+
+-- bitblast_const, of a literal whose sides have one sort: bit i of the constant's value, as `true` or `false`
+abbrev pub AletheConst : Type 0
+AletheConst =
+    (n v : ℕ) (r : Term) → v < 2 ^ n → sort-of (two Equals (node (Const n v) nil) r) ≡ bool
+    → Exactly by-value (node (Const n v) nil) (bb (bits n (λ i. cond (bit-at i v) (node True nil) (node False nil)))) r
 
 -- of every rule above
 abbrev pub AletheRules : Type 0
