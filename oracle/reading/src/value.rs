@@ -40,20 +40,9 @@ fn value(term: &Term, v: &[u64], n: usize, m: usize, widths: &[usize]) -> u64 {
         BV_XNOR => !(v[0] ^ v[1]) & all,
         BV_ULT => u64::from(v[0] < v[1]),
         BV_SLT => u64::from(signed(v[0], n) < signed(v[1], n)),
-        BV_SHL => {
-            if small {
-                v[0] << v[1] & all
-            } else {
-                0
-            }
-        }
-        BV_LSHR => {
-            if small {
-                v[0] >> v[1]
-            } else {
-                0
-            }
-        }
+        BV_SHL if small => v[0] << v[1] & all,
+        BV_LSHR if small => v[0] >> v[1],
+        BV_SHL | BV_LSHR => 0,
         BV_ASHR => (signed(v[0], n) >> v[1].min(n as u64)) as u64 & all,
         BV_UDIV => v[0].checked_div(v[1]).unwrap_or(all),
         BV_UREM => v[0].checked_rem(v[1]).unwrap_or(v[0]),

@@ -21,6 +21,7 @@ impl Maker {
             match self.rng.below(12) {
                 0 => self.a_premise(),
                 1 => self.maybe_back(60),
+                4 => self.dropped_at_the_edge(),
                 2 => self.any_chain(),
                 3 => {
                     // A literal that may have been dropped is added again.
@@ -47,6 +48,22 @@ impl Maker {
             return self.wrong_step(rule, left, claim);
         }
         self.step(rule, &[claim], Some(true));
+    }
+
+    /// A back to a premise's literal or just above it, the literal again, and a chain that names the premise.
+    fn dropped_at_the_edge(&mut self) {
+        let usable = self.usable();
+        if usable.is_empty() {
+            return;
+        }
+        let place = self.rng.pick(&usable);
+        let premise = self.premises[usize::from(place) - 1];
+        let kept = self.rng.chance(50);
+        self.back(usize::from(premise.number) + usize::from(kept));
+        self.emit(premise.literal);
+        let (a, b) = self.sides_at(place);
+        let turned = self.equals(b, a);
+        self.chain(SYMM, &[place], turned, Some(kept));
     }
 
     /// A chain of any earlier steps and any literal.
@@ -112,7 +129,8 @@ impl Maker {
     fn cong(&mut self, usable: &[u16]) -> Option<Joining> {
         let kinds: Vec<u16> = terms().filter(|&kind| shape(kind).is_some_and(|s| s.least > 0)).collect();
         for _ in 0..60 {
-            let kind = self.rng.pick(&kinds);
+            let indexed = [BIT_OF, EXTRACT, SIGN_EXTEND, ROTATE_LEFT, ROTATE_RIGHT];
+            let kind = if self.rng.chance(25) { self.rng.pick(&indexed) } else { self.rng.pick(&kinds) };
             let shape = shape(kind).expect("a kind of term");
             let count = self.rng.pick(&[1, 2, 3, 3, 64]).clamp(shape.least, shape.most);
             let first = self.rng.pick(usable);
@@ -134,7 +152,7 @@ impl Maker {
         let own = self.claims.len() as u16 + 1;
         let places = &mut joining.places;
         let k = self.rng.below(places.len());
-        match self.rng.below(9) {
+        match self.rng.below(if joining.rule == CONG { 14 } else { 9 }) {
             0 => places[k] = self.rng.pick(&[0, own, own, own + 1, 65_535]),
             1 => places[k] = self.rng.range(1, usize::from(own)) as u16,
             2 => places.reverse(),
@@ -153,23 +171,32 @@ impl Maker {
         }
     }
 
-    /// The right side of the conclusion with another index, kind or number of arguments.
+    /// The right side of the conclusion with another index, kind or number of arguments, where one is found that fits.
     fn spoil_right_side(&mut self, joining: &mut Joining) {
         let (left, right) = self.pool.sides(joining.conclusion).expect("a conclusion is an Equals");
-        let term = self.pool.term(right).clone();
+        for _ in 0..20 {
+            let other = self.near(right).filter(|&other| self.pool.sort(other) == self.pool.sort(left));
+            if let Some(other) = other {
+                joining.conclusion = self.equals(left, other);
+                return;
+            }
+        }
+    }
+
+    /// The same operation but for one thing.
+    fn near(&mut self, id: Id) -> Option<Id> {
+        let term = self.pool.term(id).clone();
         let (mut kind, mut numbers, mut args) = (term.kind, term.numbers, term.args);
-        match self.rng.below(3) {
+        match self.rng.below(4) {
             0 if !numbers.is_empty() => {
-                let k = self.rng.below(numbers.len());
-                numbers[k] = numbers[k].wrapping_add(self.rng.pick(&[1, u64::MAX])) & 0xFFFF;
+                // Both indices of an extract move together, which keeps its width.
+                let by = self.rng.pick(&[1, 2, 65_535]);
+                numbers.iter_mut().for_each(|number| *number = (*number + by) & 0xFFFF);
             }
             1 if args.len() > 1 => drop(args.pop()),
-            1 if (1..64).contains(&args.len()) => args.push(args[0]),
+            2 if (1..64).contains(&args.len()) => args.push(args[0]),
             _ => kind = self.rng.range(usize::from(NOT), usize::from(REPEAT)) as u16,
         }
-        let fits = |s: Shape| s.own == 2 * numbers.len() && (s.least..=s.most).contains(&args.len());
-        let other = shape(kind).is_some_and(fits).then(|| self.pool.try_add(kind, &numbers, &args)).flatten();
-        let other = other.filter(|&other| self.pool.sort(other) == self.pool.sort(left));
-        joining.conclusion = self.equals(left, other.unwrap_or(left));
+        self.pool.try_shaped(kind, &numbers, &args).filter(|&other| other != id)
     }
 }

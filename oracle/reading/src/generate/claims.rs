@@ -117,21 +117,6 @@ impl Maker {
         self.equals(left, right)
     }
 
-    /// A bvand cut into slices, from the top down.
-    pub fn sliced(&mut self, left: Id) -> Id {
-        let args = self.pool.args(left).to_vec();
-        let mut top = self.pool.width(left);
-        let mut slices = Vec::new();
-        while top > 0 {
-            let low = if self.rng.chance(40) { top - 1 } else { self.rng.below(top) };
-            let numbers = [top as u64 - 1, low as u64];
-            let parts: Vec<Id> = args.iter().map(|&x| self.pool.add(EXTRACT, &numbers, &[x])).collect();
-            slices.push(self.pool.op(BV_AND, &parts));
-            top = low;
-        }
-        self.pool.op(CONCAT, &slices)
-    }
-
     /// A job about one rule: right claims and wrong ones.
     pub fn claims_of(&mut self, rule: u16) {
         for _ in 0..self.rng.range(1, 2) {

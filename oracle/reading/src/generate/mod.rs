@@ -1,9 +1,11 @@
 //! Jobs made from a seed: right and wrong claims of every rule, bad records of every kind, lent memory around what is needed.
+mod alike;
 mod chains;
 mod claims;
 mod large;
 mod maker;
 mod records;
+mod slices;
 mod terms;
 mod wrong;
 

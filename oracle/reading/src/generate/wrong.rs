@@ -1,6 +1,5 @@
 //! Wrong claims: made from the right one by a small change.
 use super::Maker;
-use crate::divide::{RUST, STANDARD};
 use crate::kind::*;
 use crate::pool::{Id, NO, YES};
 use crate::rule::{expected, left_kind};
@@ -74,9 +73,7 @@ impl Maker {
         } else {
             kind = self.rng.range(usize::from(BV_NOT), usize::from(REPEAT)) as u16;
         }
-        let fits =
-            shape(kind).is_some_and(|s| s.own == 2 * term.numbers.len() && (s.least..=s.most).contains(&args.len()));
-        let other = fits.then(|| self.pool.try_add(kind, &term.numbers, &args)).flatten();
+        let other = self.pool.try_shaped(kind, &term.numbers, &args);
         let other = other.filter(|&x| self.pool.sort(x) == self.pool.sort(right));
         let other = other.unwrap_or_else(|| self.stranger(left));
         self.equals(other, right)
@@ -104,51 +101,6 @@ impl Maker {
         }
     }
 
-    /// A circuit that is easily taken for the rule's own: dividers with one thing as the other rule has it or with the carries
-    /// exchanged, shifts with another last choice.
-    fn look_alike(&mut self, rule: u16, left: Id) -> Option<Id> {
-        let args = self.pool.args(left).to_vec();
-        let bits = match rule {
-            21 | 22 | 24 | 25 => {
-                let mut divider = if rule < 23 { RUST } else { STANDARD };
-                match self.rng.below(6) {
-                    k @ (0 | 1) => divider.carry_out[k] ^= true,
-                    2 => divider.carry_out = divider.carry_out.map(|out| !out),
-                    3 => divider.difference ^= true,
-                    4 => divider.quotient_by = 1,
-                    _ => divider = if rule < 23 { STANDARD } else { RUST },
-                }
-                let (quotient, remainder) = self.pool.divided(args[0], args[1], divider);
-                if matches!(rule, 21 | 24) { quotient } else { remainder }
-            }
-            20 | 26 => {
-                let x = self.pool.bits(args[0]);
-                let beyond = self.rng.pick(&[x[0], x[x.len() - 1], NO, YES]);
-                self.pool.shifted(BV_ASHR, args[0], args[1], beyond)
-            }
-            27..=30 => self.misplaced(rule, left),
-            _ => return None,
-        };
-        Some(self.pool.bb(&bits))
-    }
-
-    /// The operand's bits moved otherwise: the other way or one place too far, zeros below, a copy fewer, copies of bits.
-    fn misplaced(&mut self, rule: u16, left: Id) -> Vec<Id> {
-        let (x, width) = (self.pool.args(left)[0], self.pool.width(left));
-        let (mut x, amount) = (self.pool.bits(x), self.pool.term(left).numbers[0] as usize);
-        let (added, top) = (width - x.len(), x[x.len() - 1]);
-        match (rule, self.rng.below(2)) {
-            (27, 0) => return [vec![NO; added], x].concat(),
-            (27, _) => x.resize(width, top),
-            (28 | 29, 0) => x.rotate_left((amount + 1) % width),
-            (28, _) => x.rotate_left(amount % width),
-            (29, _) => x.rotate_right(amount % width),
-            (_, 0) => return [x.repeat(amount - 1), vec![NO; x.len()]].concat(),
-            _ => return (0..width).map(|i| x[i / amount]).collect(),
-        }
-        x
-    }
-
     /// The circuit of another rule over the same operands, or the rule's with its operands the other way round.
     fn other_circuit(&mut self, rule: u16, left: Id) -> Option<Id> {
         let term = self.pool.term(left).clone();
@@ -160,54 +112,12 @@ impl Maker {
             other = self.any_rule();
             kind = left_kind(other).unwrap_or(CONSTANT);
         }
-        let fits =
-            shape(kind).is_some_and(|s| s.own == 2 * term.numbers.len() && (s.least..=s.most).contains(&args.len()));
-        if !fits || kind == CONSTANT || (kind == EQUALS && self.pool.sort(args[0]) == Sort::Bool) {
+        if kind == EQUALS && args.iter().any(|&x| self.pool.sort(x) == Sort::Bool) {
             return None;
         }
-        let twin = self.pool.try_add(kind, &term.numbers, &args)?;
+        let twin = self.pool.try_shaped(kind, &term.numbers, &args)?;
         let right = if other == 23 { self.sliced(twin) } else { expected(&mut self.pool, other, twin) };
         (self.pool.sort(right) == self.pool.sort(left)).then_some(right)
-    }
-
-    /// Slices in another order, or one of them changed.
-    fn other_slices(&mut self, right: Id) -> Id {
-        let mut slices = self.pool.args(right).to_vec();
-        let k = self.rng.below(slices.len());
-        if self.rng.chance(30) {
-            slices.rotate_left(k);
-            return self.pool.op(CONCAT, &slices);
-        }
-        let mut parts = self.pool.args(slices[k]).to_vec();
-        let mut kind = BV_AND;
-        match self.rng.below(6) {
-            2 => parts.reverse(),
-            3 => kind = self.rng.pick(&[BV_OR, BV_XNOR]),
-            4 => parts.push(parts[0]),
-            n => {
-                let which = self.rng.below(2);
-                parts[which] = self.moved(parts[which], n == 1);
-                if n == 1 && self.rng.chance(50) {
-                    parts[1 - which] = self.moved(parts[1 - which], true);
-                }
-            }
-        }
-        slices[k] = self.pool.op(kind, &parts);
-        self.pool.op(CONCAT, &slices)
-    }
-
-    /// An extract of as many bits, from one place lower or higher, or of another operand.
-    fn moved(&mut self, part: Id, place: bool) -> Id {
-        let term = self.pool.term(part).clone();
-        let (i, j, x) = (term.numbers[0], term.numbers[1], term.args[0]);
-        if !place {
-            let other = self.stranger(x);
-            return self.pool.add(EXTRACT, &term.numbers, &[other]);
-        }
-        let lower = [i.wrapping_sub(1), j.wrapping_sub(1)];
-        let moved =
-            self.pool.try_add(EXTRACT, &lower, &[x]).or_else(|| self.pool.try_add(EXTRACT, &[i + 1, j + 1], &[x]));
-        moved.unwrap_or(part)
     }
 
     /// The term with one gate or bit changed.
