@@ -227,7 +227,7 @@ impl Counts {
 fn reachable(rule: u16, code: u16) -> bool {
     match code {
         _ if usize::from(rule) > words::ORIGINAL_RULES => false,
-        0 => !matches!(rule, 20..=22),
+        0 => !matches!(rule, 21 | 22),
         1 => matches!(rule, 20..=22),
         10 | 11 => true,
         12 => matches!(rule, 2 | 13),
