@@ -5,6 +5,7 @@ use std::{error::Error, fs, io::Read, path::Path, process::exit};
 
 const USAGE: &str = "usage:
   reading run < FILE.job          prints what bbcheck prints
+  reading case FILE WORK ROOM     prints the .expect text for that much work memory and answer room
   reading gen SEED COUNT DIR      writes COUNT cases and a summary; status 1 where the cases show a fault
   reading verify DIR              reads the cases of a folder against their .expect files; status 1 where one differs";
 
@@ -26,6 +27,10 @@ fn commands() -> Result<i32, Box<dyn Error>> {
             let mut input = Vec::new();
             std::io::stdin().read_to_end(&mut input)?;
             print!("{}", job::bbcheck(&input));
+            Ok(0)
+        }
+        ["case", file, work, room] => {
+            print!("{}", job::expect_text(&fs::read(file)?, Lent { work: work.parse()?, room: room.parse()? }));
             Ok(0)
         }
         ["gen", seed, count, folder] => {
