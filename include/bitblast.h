@@ -1,6 +1,6 @@
 /* The verified checker of bit-blasting steps, for C.
  *
- * Link target/staticlib/libbitblast.a, which `rt staticlib bitblast` writes.
+ * Link target/staticlib/libbitblast.a, which `rt staticlib bitblast` writes. docs/FORMAT.md has the format of a job, and every code.
  *
  * Pointers are not NULL, also where their length is 0, and the lent memories do not overlap. The library has no memory of its
  * own: calls on different memories may run at the same time.

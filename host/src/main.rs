@@ -16,9 +16,9 @@ fn about() -> String {
         "\
 bbhost: asks the verified checker of bit-blasting steps
 
-A job is a file of records. Some records build terms: variables, constants, bit-vector operations, gates over bits. A step
-claims that an operation equals a circuit of gates, under one of {} rules, or joins earlier claims
-into one (symm, trans, cong). The checker answers each step:
+A job is a file of records; docs/FORMAT.md has their format. Some records build terms: variables, constants, bit-vector
+operations, gates over bits. A step claims that an operation equals a circuit of gates, under one of {} rules, or joins
+earlier claims into one (symm, trans, cong). The checker answers each step:
   held       the claim is the rule's circuit, and both sides are equal for all values of the variables
   form only  the claim is the rule's circuit, but for this rule (ashr, udiv, urem) that is not the standard's operation
   refused    for a reason that is named
