@@ -37,13 +37,120 @@ extern "C" {
 /* The bytes of work memory that a kept term costs; no job keeps more than 65,535 terms, two of them free. */
 #define BB_TERM_BYTES 8
 
-/* The bytes of an answer: five numbers of two bytes, low byte first: 8, 200, rule, code, depth.
- * Code 0 is held, 1 form only, 10 to 17 and 24 refused. */
+/* The bytes of an answer: five numbers of two bytes, low byte first: 8, 200, rule, code, depth. */
 #define BB_ANSWER_BYTES 10
+
+/* The kinds of records. */
+enum BbKind {
+    BB_KIND_BOOLVAR = 10,
+    BB_KIND_BVVAR = 11,
+    BB_KIND_CONSTANT = 12,
+    BB_KIND_NOT = 20,
+    BB_KIND_AND = 21,
+    BB_KIND_OR = 22,
+    BB_KIND_XOR = 23,
+    BB_KIND_EQUALS = 24,
+    BB_KIND_ITE = 25,
+    BB_KIND_BVBITOF = 30,
+    BB_KIND_BVBBTERM = 31,
+    BB_KIND_BVNOT = 40,
+    BB_KIND_BVNEG = 41,
+    BB_KIND_BVAND = 42,
+    BB_KIND_BVOR = 43,
+    BB_KIND_BVXOR = 44,
+    BB_KIND_BVADD = 45,
+    BB_KIND_BVMUL = 46,
+    BB_KIND_BVXNOR = 47,
+    BB_KIND_BVCOMP = 48,
+    BB_KIND_BVULT = 49,
+    BB_KIND_BVSLT = 50,
+    BB_KIND_BVSHL = 51,
+    BB_KIND_BVLSHR = 52,
+    BB_KIND_BVASHR = 53,
+    BB_KIND_BVUDIV = 54,
+    BB_KIND_BVUREM = 55,
+    BB_KIND_BVCONCAT = 56,
+    BB_KIND_BVEXTRACT = 57,
+    BB_KIND_SIGNEXTEND = 58,
+    BB_KIND_ZEROEXTEND = 60,
+    BB_KIND_ROTATELEFT = 61,
+    BB_KIND_ROTATERIGHT = 62,
+    BB_KIND_REPEAT = 63,
+    BB_KIND_STEP = 100,
+    BB_KIND_BACK = 101,
+    BB_KIND_CHAIN = 104
+};
+
+/* The rules of steps, 1 to 30, and of chains, 31 to 33. */
+enum BbRule {
+    BB_RULE_VALUE = 1,
+    BB_RULE_VAR = 2,
+    BB_RULE_AND = 3,
+    BB_RULE_OR = 4,
+    BB_RULE_XOR = 5,
+    BB_RULE_XNOR = 6,
+    BB_RULE_NOT = 7,
+    BB_RULE_ULT = 8,
+    BB_RULE_SLT = 9,
+    BB_RULE_ADD = 10,
+    BB_RULE_MULT = 11,
+    BB_RULE_NEG = 12,
+    BB_RULE_EQUALITY = 13,
+    BB_RULE_COMP = 14,
+    BB_RULE_EXTRACT = 15,
+    BB_RULE_CONCAT = 16,
+    BB_RULE_SIGN_EXTEND = 17,
+    BB_RULE_SHL = 18,
+    BB_RULE_LSHR = 19,
+    BB_RULE_ASHR = 20,
+    BB_RULE_UDIV = 21,
+    BB_RULE_UREM = 22,
+    BB_RULE_BITWISE_SLICING = 23,
+    BB_RULE_UDIV_STANDARD = 24,
+    BB_RULE_UREM_STANDARD = 25,
+    BB_RULE_ASHR_STANDARD = 26,
+    BB_RULE_ZERO_EXTEND = 27,
+    BB_RULE_ROTATE_LEFT = 28,
+    BB_RULE_ROTATE_RIGHT = 29,
+    BB_RULE_REPEAT = 30,
+    BB_RULE_SYMM = 31,
+    BB_RULE_TRANS = 32,
+    BB_RULE_CONG = 33
+};
+
+/* The codes that stop a job, and 0 where it ran to its end. */
+enum BbStop {
+    BB_STOP_END = 0,                  /* the job ran to its end */
+    BB_STOP_TOO_LONG = 2,             /* the job is longer than 16,777,216 bytes */
+    BB_STOP_CUT = 3,                  /* the record is cut: just one byte is left, or its length is below 2 or beyond the job's end */
+    BB_STOP_UNKNOWN_KIND = 4,         /* the record's kind is unknown */
+    BB_STOP_WRONG_LENGTH = 5,         /* the record's length is not its kind's */
+    BB_STOP_NOT_KEPT = 6,             /* an argument or literal is not the number of a kept term */
+    BB_STOP_NOT_SORTED = 7,           /* a sort, width, index or value does not fit */
+    BB_STOP_NO_ROOM = 8,              /* no room for a new term: the work memory or the term numbers are spent */
+    BB_STOP_NO_RULE = 9,              /* the record's kind has no such rule */
+    BB_STOP_WRONG_BACK = 18,          /* a back to below 2 or above the number of terms */
+    BB_STOP_NO_ANSWER_ROOM = 19       /* fewer than 10 bytes are left for the step's answer */
+};
+
+/* The codes of answers: 0 and 1 are accepted, all others refused. */
+enum BbAnswer {
+    BB_ANSWER_HELD = 0,               /* held */
+    BB_ANSWER_FORM_ONLY = 1,          /* form only: the circuit is the rule's, which is not the standard's operation */
+    BB_ANSWER_NOT_ONE_LITERAL = 10,   /* the clause has not exactly one literal */
+    BB_ANSWER_WRONG_FORM = 11,        /* the literal is not of the rule's form */
+    BB_ANSWER_NOT_BIT_VECTOR = 12,    /* the left side, or what it compares, is not a bit-vector */
+    BB_ANSWER_NOT_CONSTANT = 13,      /* the left side is not a constant */
+    BB_ANSWER_BIT_NOT_LITERAL = 14,   /* a bit of the right side is neither true nor false */
+    BB_ANSWER_OTHER_VALUE = 15,       /* the right side is another value */
+    BB_ANSWER_TERMS_DIFFER = 16,      /* the right side is not the expected term */
+    BB_ANSWER_INDEX_NOT_NEXT = 17,    /* a slice does not begin just below the one before */
+    BB_ANSWER_PREMISE_BROKEN = 24     /* a premise is not an earlier step that is held and whose literal is kept since */
+};
 
 /* What a job came to. */
 typedef struct BbOutcome {
-    uint32_t stop;    /* 0 where the job ran to its end, else the code that stopped it */
+    uint32_t stop;    /* BB_STOP_END where the job ran to its end, else the code that stopped it */
     uint32_t records; /* records done, the stopping one not counted */
     uint32_t answers; /* answers written */
     uint32_t terms;   /* terms kept at the end, `true` and `false` among them */

@@ -1,5 +1,11 @@
 //! Writes jobs. Equal terms are one term, and a term's record is written when a step first needs it, its arguments before it.
-use crate::{MAX_TERMS, circuits::is_quadratic, rng::Rng, words::RULES};
+pub use crate::words::Kind;
+use crate::{
+    MAX_TERMS,
+    circuits::is_quadratic,
+    rng::Rng,
+    words::{RULES, Rule},
+};
 use std::{collections::HashMap, rc::Rc};
 
 /// A term of a writer.
@@ -9,55 +15,10 @@ pub struct Term(u32);
 pub const TRUE: Term = Term(0);
 pub const FALSE: Term = Term(1);
 
-/// The kinds of terms, by their numbers in a record. Later versions may add kinds.
-#[non_exhaustive]
-#[derive(Clone, Copy, Debug, PartialEq, Eq, Hash)]
-#[repr(u16)]
-pub enum Kind {
-    BoolVar = 10,
-    BvVar = 11,
-    Constant = 12,
-    Not = 20,
-    And = 21,
-    Or = 22,
-    Xor = 23,
-    Equals = 24,
-    Ite = 25,
-    BvBitOf = 30,
-    BvBbTerm = 31,
-    BvNot = 40,
-    BvNeg = 41,
-    BvAnd = 42,
-    BvOr = 43,
-    BvXor = 44,
-    BvAdd = 45,
-    BvMul = 46,
-    BvXNor = 47,
-    BvComp = 48,
-    BvULt = 49,
-    BvSLt = 50,
-    BvShl = 51,
-    BvLShr = 52,
-    BvAShr = 53,
-    BvUDiv = 54,
-    BvURem = 55,
-    BvConcat = 56,
-    BvExtract = 57,
-    SignExtend = 58,
-    ZeroExtend = 60,
-    RotateLeft = 61,
-    RotateRight = 62,
-    Repeat = 63,
-}
-
-const STEP: u16 = 100;
-const BACK: u16 = 101;
-const CHAIN: u16 = 104;
-
 /// The rules of chains.
-pub const SYMM: u16 = 31;
-pub const TRANS: u16 = 32;
-pub const CONG: u16 = 33;
+pub const SYMM: u16 = Rule::Symm.number();
+pub const TRANS: u16 = Rule::Trans.number();
+pub const CONG: u16 = Rule::Cong.number();
 
 /// A term's record before its arguments have numbers.
 #[derive(Debug, PartialEq, Eq, Hash)]
@@ -207,10 +168,10 @@ impl JobWriter {
 
     // Records
 
-    fn record(&mut self, kind: u16, words: impl Iterator<Item = u16>) {
+    fn record(&mut self, kind: Kind, words: impl Iterator<Item = u16>) {
         let start = self.bytes.len();
         self.bytes.extend([0, 0]);
-        self.bytes.extend(kind.to_le_bytes());
+        self.bytes.extend(kind.number().to_le_bytes());
         for word in words {
             self.bytes.extend(word.to_le_bytes());
         }
@@ -231,7 +192,7 @@ impl JobWriter {
             if open.len() == waiting {
                 assert!(self.kept.len() < MAX_TERMS, "a job keeps at most {MAX_TERMS} terms");
                 let arguments: Vec<u16> = node.arguments.iter().map(|a| self.numbers[a]).collect();
-                self.record(node.kind as u16, node.numbers.iter().copied().chain(arguments));
+                self.record(node.kind, node.numbers.iter().copied().chain(arguments));
                 self.numbers.insert(term, self.kept.len() as u16);
                 self.kept.push(term);
                 open.pop();
@@ -243,7 +204,7 @@ impl JobWriter {
     /// Writes a step.
     pub fn step(&mut self, rule: u16, literals: &[Term]) {
         let literals: Vec<u16> = literals.iter().map(|&l| self.number(l)).collect();
-        self.record(STEP, std::iter::once(rule).chain(literals));
+        self.record(Kind::Step, std::iter::once(rule).chain(literals));
         self.steps += 1;
     }
 
@@ -257,13 +218,13 @@ impl JobWriter {
     pub fn chain(&mut self, rule: u16, premises: &[u16], literal: Term) {
         let literal = self.number(literal);
         let words = [rule, premises.len() as u16].into_iter().chain(premises.iter().copied()).chain([literal]);
-        self.record(CHAIN, words);
+        self.record(Kind::Chain, words);
         self.steps += 1;
     }
 
     /// Writes a back: only the first `count` terms stay.
     pub fn back(&mut self, count: usize) {
-        self.record(BACK, std::iter::once(count as u16));
+        self.record(Kind::Back, std::iter::once(count as u16));
         for term in self.kept.drain(count.max(2).min(self.kept.len())..) {
             self.numbers.remove(&term);
         }

@@ -21,6 +21,7 @@ pub mod words;
 
 pub use ffi::{Outcome, Tally, interface, run_job, tally_answers};
 pub use service::{Answer, Answers, Report, Service, Verdict};
+pub use words::{AnswerCode, Kind, Rule, StopCode};
 
 /// The number of the library's interface that this crate is written for.
 pub const INTERFACE: u32 = 2;

@@ -41,11 +41,11 @@ static void every_length(void) {
             memset(work + FENCE, OLD, work_len);
             memset(answers + FENCE, OLD, room);
             BbOutcome o = bb_job(specimen, sizeof specimen, work + FENCE, work_len, answers + FENCE, room);
-            uint32_t stop = work_len < 64 ? 8 : room < 10 ? 19 : 0;
+            uint32_t stop = work_len < 64 ? BB_STOP_NO_ROOM : room < 10 ? BB_STOP_NO_ANSWER_ROOM : BB_STOP_END;
             expect(o.stop == stop, "stop code");
             expect(o.repeats == 0, "no repeats");
             expect(o.answers == (stop == 0), "number of answers");
-            expect(stop == 8 || (o.terms == 10 && o.records == 8 + o.answers), "terms and records");
+            expect(stop == BB_STOP_NO_ROOM || (o.terms == 10 && o.records == 8 + o.answers), "terms and records");
             expect(all(work, FENCE, FENCE + work_len, 0), "work memory is zero");
             expect(all(work, 0, FENCE, POST) && all(work, FENCE + work_len, sizeof work, POST), "fences of the work memory");
             size_t written = BB_ANSWER_BYTES * o.answers;
@@ -60,9 +60,9 @@ static void stopped(void) {
     static const uint8_t cut[] = {0x06, 0, 0x0B};
     uint8_t work[8], answers[10];
     BbOutcome o = bb_job(cut, sizeof cut, work, sizeof work, answers, sizeof answers);
-    expect(o.stop == 3 && o.records == 0 && o.answers == 0 && o.terms == 2 && o.repeats == 0, "a cut record");
+    expect(o.stop == BB_STOP_CUT && o.records == 0 && o.answers == 0 && o.terms == 2 && o.repeats == 0, "a cut record");
     o = bb_job(cut, 0, work, 0, answers, 0);
-    expect(o.stop == 0 && o.records == 0 && o.answers == 0 && o.terms == 2 && o.repeats == 0, "an empty job");
+    expect(o.stop == BB_STOP_END && o.records == 0 && o.answers == 0 && o.terms == 2 && o.repeats == 0, "an empty job");
 }
 
 /* A variable three times, a back that drops it, the variable twice, and a back that stops the job: three repeats, of which the first back
@@ -79,7 +79,7 @@ static void repeats(void) {
     } o;
     memset(&o, POST, sizeof o);
     o.outcome = bb_job(job, sizeof job, work, sizeof work, answers, sizeof answers);
-    expect(o.outcome.stop == 18 && o.outcome.records == 6 && o.outcome.answers == 0 && o.outcome.terms == 3 && o.outcome.repeats == 3, "repeats");
+    expect(o.outcome.stop == BB_STOP_WRONG_BACK && o.outcome.records == 6 && o.outcome.answers == 0 && o.outcome.terms == 3 && o.outcome.repeats == 3, "repeats");
     expect(all((const uint8_t *)&o.before, 0, sizeof o.before, POST) && all((const uint8_t *)o.behind, 0, sizeof o.behind, POST), "fences of the outcome");
 }
 
@@ -93,8 +93,8 @@ static void tally(void) {
     for (int k = 0; k < 3; k++) {
         memcpy(answers + k * BB_ANSWER_BYTES, answer, BB_ANSWER_BYTES);
     }
-    answers[16] = 1;
-    answers[26] = 16;
+    answers[16] = BB_ANSWER_FORM_ONLY;
+    answers[26] = BB_ANSWER_TERMS_DIFFER;
     bb_tally(&t.tally, answers, sizeof answers, 3);
     bb_tally(&t.tally, answers, sizeof answers, 1);
     expect(t.tally.jobs == 2 && t.tally.held == 2 && t.tally.form_only == UINT64_MAX && t.tally.refused == 1, "the tally");
