@@ -66,6 +66,11 @@ impl JobWriter {
         &self.bytes
     }
 
+    /// The kept terms in the order of their numbers.
+    pub fn kept(&self) -> &[Term] {
+        &self.kept
+    }
+
     /// The number of terms kept.
     pub fn count(&self) -> usize {
         self.kept.len()
@@ -79,6 +84,11 @@ impl JobWriter {
     /// Whether a term is kept.
     pub fn is_kept(&self, term: Term) -> bool {
         self.numbers.contains_key(&term)
+    }
+
+    /// The number of a kept term.
+    pub fn number_of(&self, term: Term) -> Option<u16> {
+        self.numbers.get(&term).copied()
     }
 
     pub fn finish(self) -> Vec<u8> {

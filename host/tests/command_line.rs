@@ -1,13 +1,14 @@
 //! The command line: exit statuses, what it prints, and JSON that a reader of JSON takes.
+mod run;
+
 use bitblast_host::{
     INTERFACE,
     jobs::{self, CONG, JobWriter, Kind, SYMM, TRANS},
 };
+use run::{bbhost, text};
 use std::{
     fs,
-    io::Write,
     path::{Path, PathBuf},
-    process::{Command, Output, Stdio},
 };
 
 fn folder(name: &str) -> PathBuf {
@@ -17,25 +18,8 @@ fn folder(name: &str) -> PathBuf {
     folder
 }
 
-fn bbhost(arguments: &[&str], input: &[u8]) -> Output {
-    let mut child = Command::new(env!("CARGO_BIN_EXE_bbhost"))
-        .args(arguments)
-        .stdin(Stdio::piped())
-        .stdout(Stdio::piped())
-        .stderr(Stdio::piped())
-        .spawn()
-        .unwrap();
-    // A command that reads no input may end before this is written.
-    let _ = child.stdin.take().unwrap().write_all(input);
-    child.wait_with_output().unwrap()
-}
-
 fn status(arguments: &[&str], input: &[u8]) -> i32 {
     bbhost(arguments, input).status.code().unwrap()
-}
-
-fn text(bytes: &[u8]) -> &str {
-    std::str::from_utf8(bytes).unwrap()
 }
 
 /// Reads one JSON value and gives what stands after it; panics where the text is no JSON.
@@ -142,8 +126,9 @@ fn exit_statuses_of_check() {
     assert_eq!(one.status.code(), Some(0));
     assert_eq!(
         text(&one.stdout),
-        "{\"files\":[{\"file\":\"-\",\"bytes\":70,\"stop\":0,\"stop_meaning\":\"the job ran to its end\",\"records\":9,\"terms\":10,\"repeats\":0,\
-         \"all_held\":true,\"steps\":[\n{\"step\":1,\"rule\":9,\"name\":\"slt\",\"verdict\":\"held\",\"code\":0,\"meaning\":\"held\",\
+        "{\"files\":[{\"file\":\"-\",\"bytes\":70,\"stop\":0,\"stop_meaning\":\"the job ran to its end\",\"stop_offset\":null,\
+         \"looks_like\":null,\"records\":9,\"terms\":10,\"repeats\":0,\
+         \"all_held\":true,\"steps\":[\n{\"step\":1,\"record\":9,\"offset\":62,\"rule\":9,\"name\":\"slt\",\"verdict\":\"held\",\"code\":0,\"meaning\":\"held\",\
          \"depth\":2}]}],\"tally\":{\"jobs\":1,\"held\":1,\"form_only\":0,\"refused\":0},\"all_held\":true}\n"
     );
     assert!(is_json(text(&one.stdout)));
@@ -223,6 +208,11 @@ fn usage() {
         &["check", "--work"],
         &["check", "--work", "many", "-"],
         &["check", "--steps", "0", "-"],
+        &["check", "--explain", "--json", "-"],
+        &["check", "-q", "--explain", "-"],
+        &["show"],
+        &["show", "--all", "-"],
+        &["show", "no-such-file"],
         &["soak"],
         &["soak", "soon"],
         &["soak", "-1"],
@@ -240,11 +230,11 @@ fn usage() {
     for word in ["--help", "-h", "help"] {
         let output = bbhost(&[word], b"");
         assert_eq!(output.status.code(), Some(0));
-        for command in ["check", "soak", "bench", "compare"] {
+        for command in ["check", "show", "soak", "bench", "compare"] {
             assert!(text(&output.stdout).contains(&format!("\n  bbhost {command} ")), "{command}");
         }
     }
-    for command in ["check", "soak", "bench", "compare"] {
+    for command in ["check", "show", "soak", "bench", "compare"] {
         for words in [&[command, "--help"][..], &[command, "-h"], &[command, "file", "-h"]] {
             let output = bbhost(words, b"");
             assert_eq!(output.status.code(), Some(0), "{words:?}");

@@ -1,26 +1,36 @@
 //! `bbhost check`: the jobs in some files.
-use super::{Failure, Status, counted, json, number, progress::Progress, unknown};
+use super::{
+    Failure, Status, counted,
+    explain::explain,
+    job_bytes, json, no_file, number,
+    progress::Progress,
+    reader::{Reader, Record, records},
+    unknown,
+};
 use bitblast_host::{
-    MAX_JOB_BYTES, Report, Service, Tally, Verdict,
+    Answer, MAX_JOB_BYTES, Report, Service, Tally, Verdict,
     service::{MAX_ANSWER_BYTES, MAX_WORK_BYTES},
 };
 use std::{
-    ffi::{OsStr, OsString},
-    fs::File,
-    io::{self, Read, Write},
+    ffi::OsString,
+    io::{self, Write},
     num::NonZero,
 };
 
 /// How the command is used.
-pub const USAGE: &str = "  bbhost check [--json] [-q] [--steps N] [--work BYTES] [--answers BYTES] FILE..
+pub const USAGE: &str = "  bbhost check [--json | --explain] [-q] [--steps N] [--work BYTES] [--answers BYTES] FILE..
       Checks the job in each file (- is the standard input; up to 16 MiB each) and prints a table of its steps.
       A repeat is a record of a term that was there already.
       --json     prints one JSON object instead
+      --explain  prints below each refused step what is claimed, what is expected, and where they first differ
       -q         prints nothing
       --steps N  demands exactly N answers of each job, so that a job that lost its end does not pass
       --work, --answers   lend that much memory only (a kept term takes 8 bytes, an answer 10)
       Exit status 0: every job ran to its end, has a step (or the demanded number), and every step is held. 1: not so; a job
       without a step was not checked. 2: usage, or a file that cannot be read.";
+
+/// The bytes at a file's start by which text is told.
+const LOOKED_AT: usize = 512;
 
 #[derive(Clone, Copy, PartialEq)]
 enum Form {
@@ -31,6 +41,7 @@ enum Form {
 
 struct Options<'a> {
     form: Form,
+    explain: bool,
     work: usize,
     answers: usize,
     /// The number of answers that each job must have.
@@ -39,12 +50,13 @@ struct Options<'a> {
 }
 
 fn options(words: &[OsString]) -> Result<Options<'_>, Failure> {
-    let mut options =
-        Options { form: Form::Table, work: MAX_WORK_BYTES, answers: MAX_ANSWER_BYTES, steps: None, files: Vec::new() };
+    let (work, answers) = (MAX_WORK_BYTES, MAX_ANSWER_BYTES);
+    let mut options = Options { form: Form::Table, explain: false, work, answers, steps: None, files: Vec::new() };
     let mut rest = words.iter();
     while let Some(word) = rest.next() {
         match word.to_str() {
             Some("--json") => options.form = Form::Json,
+            Some("--explain") => options.explain = true,
             Some("-q") => options.form = Form::Quiet,
             Some("--work") => options.work = number("--work", &mut rest)?,
             Some("--answers") => options.answers = number("--answers", &mut rest)?,
@@ -54,22 +66,13 @@ fn options(words: &[OsString]) -> Result<Options<'_>, Failure> {
             _ => options.files.push(word),
         }
     }
+    if options.explain && options.form != Form::Table {
+        return Err(Failure::Usage("--explain adds to the table, which --json and -q do not print".to_owned()));
+    }
     if options.files.is_empty() {
-        return Err(Failure::Usage("check needs a file, or - for the standard input".to_owned()));
+        return Err(no_file("check"));
     }
     Ok(options)
-}
-
-/// At most one byte more than the longest job, which the checker then refuses.
-fn read(file: &OsStr) -> io::Result<Vec<u8>> {
-    let mut job = Vec::new();
-    let most = MAX_JOB_BYTES as u64 + 1;
-    if file == "-" {
-        io::stdin().lock().take(most).read_to_end(&mut job)?;
-    } else {
-        File::open(file)?.take(most).read_to_end(&mut job)?;
-    }
-    Ok(job)
 }
 
 pub fn run(words: &[OsString], out: &mut impl Write) -> Result<Status, Failure> {
@@ -86,7 +89,7 @@ pub fn run(words: &[OsString], out: &mut impl Write) -> Result<Status, Failure> 
             writeln!(out, ",")?;
         }
         progress.show(|| format!("file {} of {}: {name}", k + 1, options.files.len()));
-        match read(file) {
+        match job_bytes(file) {
             Ok(job) => all_held &= check(&name, &job, &options, &mut service, out)?,
             Err(error) => {
                 unreadable = true;
@@ -118,8 +121,8 @@ fn check(
     let report = service.check(job);
     let success = report.all_held() && options.steps.is_none_or(|steps| steps == report.outcome().answers);
     match options.form {
-        Form::Table => table(name, job.len(), &report, options.steps, out)?,
-        Form::Json => object(name, job.len(), &report, success, out)?,
+        Form::Table => table(name, job, &report, options, out)?,
+        Form::Json => object(name, job, &report, success, out)?,
         Form::Quiet => {}
     }
     Ok(success)
@@ -159,12 +162,12 @@ fn tally_of(report: &Report) -> Tally {
     tally
 }
 
-fn table(name: &str, bytes: usize, report: &Report, steps: Option<u32>, out: &mut impl Write) -> io::Result<()> {
+fn table(name: &str, job: &[u8], report: &Report, options: &Options, out: &mut impl Write) -> io::Result<()> {
     let outcome = report.outcome();
-    let bytes = if bytes > MAX_JOB_BYTES {
+    let bytes = if job.len() > MAX_JOB_BYTES {
         format!("more than {}", counted(MAX_JOB_BYTES as u64, "byte"))
     } else {
-        counted(bytes as u64, "byte")
+        counted(job.len() as u64, "byte")
     };
     writeln!(
         out,
@@ -174,23 +177,9 @@ fn table(name: &str, bytes: usize, report: &Report, steps: Option<u32>, out: &mu
         counted(outcome.repeats.into(), "repeat"),
         counted(outcome.answers.into(), "step")
     )?;
-    if outcome.answers > 0 {
-        writeln!(out, "   step  rule                code  depth")?;
-    }
-    for answer in report.answers() {
-        writeln!(
-            out,
-            "{:>7}  {:>2} {:<16} {:>4} {:>6}  {}",
-            answer.step,
-            answer.rule,
-            answer.rule_name(),
-            answer.code,
-            answer.depth,
-            answer.meaning()
-        )?;
-    }
-    writeln!(out, "  {}", end(report))?;
-    match steps {
+    steps(job, report, options.explain, out)?;
+    writeln!(out, "  {}", end(job, report))?;
+    match options.steps {
         Some(steps) if steps != outcome.answers => {
             writeln!(out, "  WRONG NUMBER OF STEPS: {} answered, {steps} demanded", outcome.answers)
         }
@@ -198,55 +187,113 @@ fn table(name: &str, bytes: usize, report: &Report, steps: Option<u32>, out: &mu
     }
 }
 
+/// The table of the answers, with the refused ones explained.
+fn steps(job: &[u8], report: &Report, explained: bool, out: &mut impl Write) -> io::Result<()> {
+    if report.outcome().answers > 0 {
+        writeln!(out, "   step  rule                code  depth")?;
+    }
+    let mut answers = report.answers();
+    if !explained {
+        return answers.try_for_each(|answer| writeln!(out, "{}", row(&answer)));
+    }
+    let mut reader = Reader::new();
+    for record in records(job).take(report.outcome().records as usize) {
+        let item = reader.read(record);
+        let Some(answer) = record.is_step().then(|| answers.next()).flatten() else { continue };
+        writeln!(out, "{}", row(&answer))?;
+        if answer.verdict() == Verdict::Refused {
+            writeln!(out, "         record {}, byte {}", record.place, record.offset)?;
+            for line in explain(&mut reader, &item, &answer) {
+                writeln!(out, "         {line}")?;
+            }
+        }
+    }
+    Ok(())
+}
+
+fn row(answer: &Answer) -> String {
+    let Answer { step, rule, code, depth, .. } = *answer;
+    format!("{step:>7}  {rule:>2} {:<16} {code:>4} {depth:>6}  {}", answer.rule_name(), answer.meaning())
+}
+
+/// What a file that is no job looks like, where it stops at its first record.
+fn looks_like(job: &[u8], report: &Report) -> Option<&'static str> {
+    match job {
+        _ if report.outcome().stop == 0 || report.outcome().records > 0 => None,
+        [0x1F, 0x8B, ..] => Some("gzip"),
+        _ => is_text(&job[..job.len().min(LOOKED_AT)]).then_some("text"),
+    }
+}
+
+/// Whether these bytes are text, of which the last character may be cut.
+fn is_text(bytes: &[u8]) -> bool {
+    let whole = match std::str::from_utf8(bytes) {
+        Ok(text) => text,
+        Err(error) if error.error_len().is_none() => std::str::from_utf8(&bytes[..error.valid_up_to()]).unwrap_or(""),
+        Err(_) => "",
+    };
+    !whole.is_empty() && whole.chars().all(|c| !c.is_control() || matches!(c, '\t' | '\n' | '\r'))
+}
+
 /// How a job ended.
-fn end(report: &Report) -> String {
+fn end(job: &[u8], report: &Report) -> String {
     let outcome = report.outcome();
     let classes = classes(tally_of(report));
+    let looks =
+        looks_like(job, report).map_or(String::new(), |what| format!("; this looks like {what}, not like a job"));
     match outcome.stop {
         0 if outcome.answers == 0 => "NOTHING CHECKED: the job ran to its end and has no step".to_owned(),
         0 => format!("ran to its end: {classes}"),
-        2 => format!("NOT READ (code 2): {}", report.stop_meaning()),
+        2 => format!("NOT READ (code 2): {}{looks}", report.stop_meaning()),
         stop => format!(
-            "STOPPED at record {} (code {stop}): {}; before it: {classes}",
+            "STOPPED at record {} (code {stop}): {}; before it: {classes}{looks}",
             u64::from(outcome.records) + 1,
             report.stop_meaning()
         ),
     }
 }
 
-fn object(name: &str, bytes: usize, report: &Report, all_held: bool, out: &mut impl Write) -> io::Result<()> {
+fn object(name: &str, job: &[u8], report: &Report, all_held: bool, out: &mut impl Write) -> io::Result<()> {
     let outcome = report.outcome();
     // Of a longer file not all is read.
-    let bytes = if bytes > MAX_JOB_BYTES { "null".to_owned() } else { bytes.to_string() };
+    let bytes = if job.len() > MAX_JOB_BYTES { "null".to_owned() } else { job.len().to_string() };
+    let stopping = records(job).nth(outcome.records as usize).filter(|_| outcome.stop != 0);
     write!(
         out,
-        "{{\"file\":{},\"bytes\":{bytes},\"stop\":{},\"stop_meaning\":{},\"records\":{},\"terms\":{},\"repeats\":{},\"all_held\":{},\"steps\":[",
+        "{{\"file\":{},\"bytes\":{bytes},\"stop\":{},\"stop_meaning\":{},\"stop_offset\":{},\"looks_like\":{},\
+         \"records\":{},\"terms\":{},\"repeats\":{},\"all_held\":{},\"steps\":[",
         json::string(name),
         outcome.stop,
         json::string(report.stop_meaning()),
+        stopping.map_or("null".to_owned(), |record| record.offset.to_string()),
+        looks_like(job, report).map_or("null".to_owned(), json::string),
         outcome.records,
         outcome.terms,
         outcome.repeats,
         all_held
     )?;
-    for (k, answer) in report.answers().enumerate() {
-        let verdict = match answer.verdict() {
-            Verdict::Held => "held",
-            Verdict::FormOnly => "form only",
-            Verdict::Refused => "refused",
-        };
-        write!(
-            out,
-            "{}\n{{\"step\":{},\"rule\":{},\"name\":{},\"verdict\":{},\"code\":{},\"meaning\":{},\"depth\":{}}}",
-            if k == 0 { "" } else { "," },
-            answer.step,
-            answer.rule,
-            json::string(answer.rule_name()),
-            json::string(verdict),
-            answer.code,
-            json::string(answer.meaning()),
-            answer.depth
-        )?;
+    for (answer, record) in report.answers().zip(records(job).filter(Record::is_step)) {
+        write!(out, "{}\n{}", if answer.step == 1 { "" } else { "," }, step_object(&answer, record))?;
     }
     write!(out, "]}}")
+}
+
+fn step_object(answer: &Answer, record: Record) -> String {
+    let verdict = match answer.verdict() {
+        Verdict::Held => "held",
+        Verdict::FormOnly => "form only",
+        Verdict::Refused => "refused",
+    };
+    format!(
+        "{{\"step\":{},\"record\":{},\"offset\":{},\"rule\":{},\"name\":{},\"verdict\":{},\"code\":{},\"meaning\":{},\"depth\":{}}}",
+        answer.step,
+        record.place,
+        record.offset,
+        answer.rule,
+        json::string(answer.rule_name()),
+        json::string(verdict),
+        answer.code,
+        json::string(answer.meaning()),
+        answer.depth
+    )
 }

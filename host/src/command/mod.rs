@@ -2,11 +2,22 @@
 pub mod bench;
 pub mod check;
 pub mod compare;
+mod explain;
 mod json;
 mod progress;
+mod reader;
+pub mod show;
+mod smtlib;
 pub mod soak;
 
-use std::{ffi::OsString, io, slice::Iter, str::FromStr};
+use bitblast_host::MAX_JOB_BYTES;
+use std::{
+    ffi::{OsStr, OsString},
+    fs::File,
+    io::{self, Read},
+    slice::Iter,
+    str::FromStr,
+};
 
 /// The exit statuses.
 #[derive(Clone, Copy, PartialEq, Eq)]
@@ -35,6 +46,36 @@ fn about(what: impl std::fmt::Display, error: io::Error) -> Failure {
 
 fn unknown(word: &OsString) -> Failure {
     Failure::Usage(format!("cannot make sense of {}", word.display()))
+}
+
+/// The files of a command that has no options.
+fn files<'a>(command: &str, words: &'a [OsString]) -> Result<Vec<&'a OsString>, Failure> {
+    let mut files = Vec::new();
+    let mut rest = words.iter();
+    while let Some(word) = rest.next() {
+        match word.to_str() {
+            Some("--") => files.extend(rest.by_ref()),
+            Some(text) if text.starts_with('-') && text != "-" => return Err(unknown(word)),
+            _ => files.push(word),
+        }
+    }
+    if files.is_empty() { Err(no_file(command)) } else { Ok(files) }
+}
+
+fn no_file(command: &str) -> Failure {
+    Failure::Usage(format!("{command} needs a file, or - for the standard input"))
+}
+
+/// The bytes of a file: at most one more than the longest job, which the checker then refuses.
+fn job_bytes(file: &OsStr) -> io::Result<Vec<u8>> {
+    let mut job = Vec::new();
+    let most = MAX_JOB_BYTES as u64 + 1;
+    if file == "-" {
+        io::stdin().lock().take(most).read_to_end(&mut job)?;
+    } else {
+        File::open(file)?.take(most).read_to_end(&mut job)?;
+    }
+    Ok(job)
 }
 
 /// The word after an option.
