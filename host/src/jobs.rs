@@ -1,4 +1,5 @@
-//! Writes jobs. Equal terms are one term, and a term's record is written when a step first needs it, its arguments before it.
+//! Writes jobs, for tests and the command line: widths, counts and terms are taken as they come, and are not tested. Equal terms are
+//! one term, and a term's record is written when a step first needs it, its arguments before it.
 pub use crate::words::Kind;
 use crate::{
     MAX_TERMS,

@@ -1,20 +1,37 @@
 //! The verified checker of bit-blasting steps, for Rust.
 //!
 //! ```
-//! use bitblast_host::{Service, jobs};
+//! use bitblast_host::{AnswerCode, Rule, Service};
 //!
+//! // A variable of width 1, its bit, the bit as a bit-vector, their equality, and a step that claims it under rule 2, var.
+//! let job = [
+//!     6, 0, 11, 0, 1, 0, 0, 0, 6, 0, 30, 0, 0, 0, 2, 0, 4, 0, 31, 0, 3, 0, 6, 0, 24, 0, 2, 0, 4, 0, 6, 0, 100, 0, 2, 0, 5, 0,
+//! ];
 //! let mut service = Service::new(1024, 100);
-//! let report = service.check(&jobs::specimen());
+//! let report = service.check(&job);
 //! assert!(report.all_held());
 //! for answer in report.answers() {
 //!     println!("{} {} {}", answer.rule_name(), answer.meaning(), answer.depth);
+//!     assert_eq!(Rule::try_from(answer.rule), Ok(Rule::Var));
+//!     assert_eq!(AnswerCode::try_from(answer.code), Ok(AnswerCode::Held));
 //! }
 //! ```
+//!
+//! docs/FORMAT.md in the repository has the format of a job, and every kind, rule and code; [`words`] has them as enums. [`Service`] says how much
+//! memory, stack and time a job takes.
+//!
+//! The crate has no writer of jobs. The modules `jobs`, `circuits`, `lent` and `rng` are public for its own tests and command line alone
+//! and are not shown here: they take widths, counts and terms as they come, so that what is out of range panics or makes another job
+//! than was meant, and they may change at any time.
 
+#[doc(hidden)]
 pub mod circuits;
 pub mod ffi;
+#[doc(hidden)]
 pub mod jobs;
+#[doc(hidden)]
 pub mod lent;
+#[doc(hidden)]
 pub mod rng;
 pub mod service;
 pub mod words;
