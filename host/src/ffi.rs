@@ -52,6 +52,12 @@ impl Outcome {
         let Outcome { stop, records, answers, terms, repeats } = *self;
         [stop, records, answers, terms, repeats]
     }
+
+    /// The outcome of which these are all numbers.
+    #[doc(hidden)]
+    pub fn from_numbers([stop, records, answers, terms, repeats]: [u32; 5]) -> Self {
+        Outcome { stop, records, answers, terms, repeats }
+    }
 }
 
 impl Tally {

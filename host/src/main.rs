@@ -2,7 +2,7 @@
 mod command;
 
 use bitblast_host::{interface, words::RULES};
-use command::{Failure, Status, bench, check, compare, show, soak};
+use command::{Failure, Status, bench, check, checker, compare, show, soak};
 use std::{
     env,
     ffi::OsString,
@@ -70,6 +70,7 @@ fn run(words: &[OsString], out: &mut impl Write) -> Result<Status, Failure> {
         Some("soak") => soak::run(rest, out),
         Some("bench") => bench::run(rest, out),
         Some("compare") => compare::run(rest, out),
+        Some(checker::WORKER) => checker::work(rest, out),
         Some("--help" | "-h" | "help") => {
             out.write_all(about().as_bytes())?;
             print(&[check::USAGE, show::USAGE, soak::USAGE, bench::USAGE, compare::USAGE, USAGE], out)

@@ -24,7 +24,8 @@ pub struct Service {
 }
 
 impl Service {
-    /// A service with that much memory to lend; more than [`MAX_WORK_BYTES`] or [`MAX_ANSWER_BYTES`] is cut to these.
+    /// A service with that much memory to lend; more than [`MAX_WORK_BYTES`] or [`MAX_ANSWER_BYTES`] is cut to these. The second number
+    /// bounds the steps of a job, and with them its time: ten bytes are one answer, and [`Service::with_answer_limit`] says it in answers.
     pub fn new(work_bytes: usize, answer_bytes: usize) -> Self {
         Service {
             work: vec![0; work_bytes.min(MAX_WORK_BYTES)],
@@ -33,11 +34,17 @@ impl Service {
         }
     }
 
+    /// The same service with room for at most so many answers: a job with more steps stops with code 19.
+    pub fn with_answer_limit(mut self, answers: usize) -> Self {
+        self.answers.truncate(answers.saturating_mul(ANSWER_BYTES));
+        self
+    }
+
     /// Checks a job and adds it to the tally.
     pub fn check(&mut self, job: &[u8]) -> Report<'_> {
         let outcome = run_job(job, &mut self.work, &mut self.answers);
         tally_answers(&mut self.tally, &self.answers, outcome.answers);
-        Report { outcome, answers: &self.answers, tally: self.tally }
+        Report::new(outcome, &self.answers, self.tally)
     }
 
     /// What all jobs so far came to.
@@ -55,6 +62,11 @@ pub struct Report<'a> {
 }
 
 impl<'a> Report<'a> {
+    /// The report on a job that was run elsewhere, in another process say, from what came back and the tally after it.
+    pub fn new(outcome: Outcome, answers: &'a [u8], tally: Tally) -> Self {
+        Report { outcome, answers, tally }
+    }
+
     pub fn outcome(&self) -> Outcome {
         self.outcome
     }

@@ -156,6 +156,19 @@ fn services_of_any_size() {
     }
 }
 
+/// The limit on answers is a limit on steps; it lends no more than there is.
+#[test]
+fn a_limit_on_answers() {
+    let job = jobs::right_claims(8, 2, 5);
+    for (room, limit, answers) in
+        [(1 << 10, 2, 2), (1 << 10, 0, 0), (1 << 10, 5, 5), (30, 4, 3), (1 << 10, usize::MAX, 5)]
+    {
+        let mut service = Service::new(1 << 10, room).with_answer_limit(limit);
+        let outcome = service.check(&job).outcome();
+        assert_eq!((outcome.stop, outcome.answers), (if answers < 5 { 19 } else { 0 }, answers));
+    }
+}
+
 #[test]
 fn all_held_asks_for_a_step() {
     let mut service = Service::new(1 << 16, 1 << 16);

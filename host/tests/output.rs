@@ -7,7 +7,11 @@ use bitblast_host::jobs;
 use json::{Value, parse};
 use page::{page, table};
 use run::{bbhost, text};
-use std::{fs, path::Path};
+use std::{
+    fs,
+    path::Path,
+    time::{Duration, Instant},
+};
 
 /// The fields and types that the page has for some object.
 fn fields(page: &str, of: &str) -> Vec<(String, String)> {
@@ -129,6 +133,47 @@ fn what_the_files_say() {
     assert_eq!(get(file(7), "error_kind"), &word("unreadable"));
 }
 
+/// Divisions of width 64, which take milliseconds each: seconds together.
+fn slow_job() -> Vec<u8> {
+    jobs::right_claims(21, 64, 3_000)
+}
+
+/// A job that takes too long has no answer; the files beside it have theirs.
+#[test]
+fn a_job_that_is_ended() {
+    let page = page("OUTPUT.md");
+    let files = files("ended");
+    let slow = Path::new(env!("CARGO_TARGET_TMPDIR")).join("ended").join("slow.job");
+    fs::write(&slow, slow_job()).unwrap();
+    let begun = Instant::now();
+    let output = bbhost(&["check", "--json", "--timeout", "0.5", slow.to_str().unwrap(), &files[0]], b"");
+    assert!(begun.elapsed() < Duration::from_secs(5), "{:?}", begun.elapsed());
+    assert_eq!(output.status.code(), Some(3));
+    assert!(text(&output.stderr).ends_with("slow.job: no answer within 0.5 s; the check was ended\n"));
+    let one = parse(text(&output.stdout));
+    let (ended, held) = (&list(get(&one, "files"))[0], &list(get(&one, "files"))[1]);
+    hold_file(&page, ended, &[]);
+    hold_file(&page, held, &[]);
+    assert_eq!(get(ended, "error_kind"), &Value::Text("timeout".to_owned()));
+    assert_eq!((get(held, "all_held"), get(&one, "all_held")), (&Value::Bool(true), &Value::Bool(false)));
+    assert_eq!(
+        (get(get(&one, "tally"), "jobs"), get(get(&one, "tally"), "held")),
+        (&Value::Number(1), &Value::Number(1))
+    );
+}
+
+/// A check in a process of its own says what a check in this one says.
+#[test]
+fn checks_in_a_process_of_its_own() {
+    let files = files("own");
+    let names: Vec<&str> = files.iter().map(String::as_str).collect();
+    for form in [&["--json"][..], &["--jsonl"], &["--explain"], &["-q"], &["--work", "63"], &["--answers", "9"]] {
+        let here = bbhost(&[&["check"], form, &names[..]].concat(), b"");
+        let there = bbhost(&[&["check", "--timeout", "600"], form, &names[..]].concat(), b"");
+        assert_eq!((here.status, text(&here.stdout)), (there.status, text(&there.stdout)), "{form:?}");
+    }
+}
+
 /// The example of the page is what is printed, and the exit statuses are those that it lists.
 #[test]
 fn the_example_and_the_statuses() {
@@ -143,6 +188,7 @@ fn the_example_and_the_statuses() {
         status(&["check", "-q", "-"], &jobs::specimen()),
         status(&["check", "-q", "-"], b""),
         status(&["check", "-q", "no-such-file"], b""),
+        status(&["check", "-q", "--timeout", "0.3", "-"], &slow_job()),
     ];
     assert_eq!(statuses, found);
 }

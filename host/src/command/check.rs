@@ -1,17 +1,25 @@
 //! `bbhost check`: the jobs in some files.
-use super::{Checked, Failure, Status, job_bytes, json, no_file, number, progress::Progress, table, unknown};
+use super::{
+    Checked, Failure, Status,
+    checker::{Checker, Trouble},
+    job_bytes, json, no_file, number,
+    progress::Progress,
+    table, unknown,
+};
 use bitblast_host::{
-    Service, Tally,
+    Report, Tally,
     service::{MAX_ANSWER_BYTES, MAX_WORK_BYTES},
 };
 use std::{
     ffi::OsString,
     io::{self, Write},
     num::NonZero,
+    time::Duration,
 };
 
 /// How the command is used.
-pub const USAGE: &str = "  bbhost check [--explain | --json | --jsonl | -q] [--steps N] [--work BYTES] [--answers BYTES] FILE..
+pub const USAGE: &str = "  bbhost check [--explain | --json | --jsonl | -q] [--steps N] [--timeout S] [--work BYTES] [--answers BYTES]
+                FILE..
       Checks the job in each file (- is the standard input; up to 16 MiB each) and prints a table of its steps.
       A repeat is a record of a term that was there already.
       --explain  prints below each refused step what is claimed, what is expected, and where they first differ
@@ -19,9 +27,10 @@ pub const USAGE: &str = "  bbhost check [--explain | --json | --jsonl | -q] [--s
       --jsonl    prints an object in a line for each file, as soon as it is checked, and one for all
       -q         prints nothing
       --steps N  demands exactly N answers of each job, so that a job that lost its end does not pass
+      --timeout S  checks each job in a process of its own, which is ended where it takes longer than S seconds
       --work, --answers   lend that much memory only (a kept term takes 8 bytes, an answer 10)
       Exit status 0: every job ran to its end, has a step (or the demanded number), and every step is held. 1: not so; a job
-      without a step was not checked. 2: usage, or a file that cannot be read.";
+      without a step was not checked. 2: usage, or a file that cannot be read. 3: a job took longer than --timeout allows.";
 
 #[derive(Clone, Copy, PartialEq)]
 enum Form {
@@ -38,12 +47,15 @@ struct Options<'a> {
     answers: usize,
     /// The number of answers that each job must have.
     steps: Option<u32>,
+    /// The time that each job may take.
+    limit: Option<Duration>,
     files: Vec<&'a OsString>,
 }
 
 fn options(words: &[OsString]) -> Result<Options<'_>, Failure> {
     let (work, answers) = (MAX_WORK_BYTES, MAX_ANSWER_BYTES);
-    let mut options = Options { form: Form::Table, explain: false, work, answers, steps: None, files: Vec::new() };
+    let mut options =
+        Options { form: Form::Table, explain: false, work, answers, steps: None, limit: None, files: Vec::new() };
     let mut rest = words.iter();
     while let Some(word) = rest.next() {
         match word.to_str() {
@@ -54,6 +66,7 @@ fn options(words: &[OsString]) -> Result<Options<'_>, Failure> {
             Some("--work") => options.work = number("--work", &mut rest)?,
             Some("--answers") => options.answers = number("--answers", &mut rest)?,
             Some("--steps") => options.steps = Some(number::<NonZero<u32>>("--steps", &mut rest)?.get()),
+            Some("--timeout") => options.limit = Some(seconds(number("--timeout", &mut rest)?)?),
             Some("--") => options.files.extend(rest.by_ref()),
             Some(text) if text.starts_with('-') && text != "-" => return Err(unknown(word)),
             _ => options.files.push(word),
@@ -70,9 +83,16 @@ fn options(words: &[OsString]) -> Result<Options<'_>, Failure> {
     Ok(options)
 }
 
+/// A time above 0.
+fn seconds(number: f64) -> Result<Duration, Failure> {
+    let time = Duration::try_from_secs_f64(number).ok().filter(|time| !time.is_zero());
+    time.ok_or_else(|| Failure::Usage(format!("--timeout needs a number of seconds, not {number}")))
+}
+
 pub fn run(words: &[OsString], out: &mut impl Write) -> Result<Status, Failure> {
     let options = options(words)?;
-    let mut service = Service::new(options.work, options.answers);
+    let (work, answers) = (options.work.min(MAX_WORK_BYTES), options.answers.min(MAX_ANSWER_BYTES));
+    let mut checker = Checker::new(work, answers, options.limit);
     let mut progress = Progress::new();
     let mut status = Status::Fine;
     if options.form == Form::Json {
@@ -82,25 +102,27 @@ pub fn run(words: &[OsString], out: &mut impl Write) -> Result<Status, Failure> 
         let (place, name) = (k + 1, file.to_string_lossy());
         progress.show(|| format!("file {place} of {}: {name}", options.files.len()));
         let outcome = match job_bytes(file) {
-            Ok(job) => check(place, &name, &job, &options, &mut service, out)?,
-            Err(error) => failed(place, &name, "unreadable", &error.to_string(), &options, out)?,
+            Ok(job) => match checker.check(&job) {
+                Ok(report) => print(place, &name, &job, &report, &options, out)?,
+                Err(trouble) => failed(place, &name, &trouble, &options, out)?,
+            },
+            Err(error) => failed(place, &name, &Trouble::Unreadable(error), &options, out)?,
         };
         status = status.max(outcome);
     }
-    sum(&options, service.tally(), status == Status::Fine, out)?;
+    sum(&options, checker.tally(), status == Status::Fine, out)?;
     Ok(status)
 }
 
-/// Checks one job and prints what came of it.
-fn check(
+/// Prints what came of a job.
+fn print(
     place: usize,
     name: &str,
     job: &[u8],
+    report: &Report,
     options: &Options,
-    service: &mut Service,
     out: &mut impl Write,
 ) -> io::Result<Status> {
-    let report = &service.check(job);
     let success = report.all_held() && options.steps.is_none_or(|steps| steps == report.outcome().answers);
     let checked = Checked { place, name, job, report, success, demanded: options.steps };
     match options.form {
@@ -112,17 +134,10 @@ fn check(
 }
 
 /// Says that a file has no answer.
-fn failed(
-    place: usize,
-    name: &str,
-    kind: &str,
-    error: &str,
-    options: &Options,
-    out: &mut impl Write,
-) -> io::Result<Status> {
-    eprintln!("bbhost: {name}: {error}");
-    object(place, json::failed(place, name, kind, error), options, out)?;
-    Ok(Status::Trouble)
+fn failed(place: usize, name: &str, trouble: &Trouble, options: &Options, out: &mut impl Write) -> io::Result<Status> {
+    eprintln!("bbhost: {name}: {}", trouble.words());
+    object(place, json::failed(place, name, trouble.kind(), &trouble.words()), options, out)?;
+    Ok(trouble.status())
 }
 
 /// Prints the object of a file, in the forms that have one. Lines are for programs that read while this one still works.

@@ -1,6 +1,7 @@
 //! The commands, and what they share.
 pub mod bench;
 pub mod check;
+pub mod checker;
 pub mod compare;
 mod explain;
 mod json;
@@ -27,6 +28,7 @@ pub enum Status {
     Fine = 0,
     Failed = 1,
     Trouble = 2,
+    TimedOut = 3,
 }
 
 /// A file whose job was checked.
