@@ -26,7 +26,7 @@ extern "C" {
 
 /* The number of the interface that is declared here. It grows with each change of a function or struct below: a program that is
  * compiled with this header must be linked with a library whose bb_version() gives the same number. */
-#define BB_VERSION 2
+#define BB_VERSION 3
 
 /* The longest job, in bytes. */
 #define BB_MAX_JOB 16777216
@@ -36,6 +36,9 @@ extern "C" {
 
 /* The bytes of work memory that a kept term costs; no job keeps more than 65,535 terms, two of them free. */
 #define BB_TERM_BYTES 8
+
+/* The bytes of a value buffer that a kept term needs, `true` and `false` too. */
+#define BB_VALUE_BYTES 8
 
 /* The bytes of an answer: five numbers of two bytes, low byte first: 8, 200, rule, code, depth. */
 #define BB_ANSWER_BYTES 10
@@ -157,6 +160,14 @@ typedef struct BbOutcome {
     uint32_t repeats; /* term records done whose term was there already; no back lowers it */
 } BbOutcome;
 
+/* What a sweep came to. */
+typedef struct BbSwept {
+    uint32_t code;        /* 0 where the sweep was made, else 20 or 21; both counts are 0 then */
+    uint32_t assignments; /* how many assignments the variables have */
+    uint32_t differing;   /* on how many of them the sides differ */
+    BbOutcome outcome;    /* what the job came to */
+} BbSwept;
+
 /* What the jobs of a service came to. Each number saturates. */
 typedef struct BbTally {
     uint64_t jobs;
@@ -173,6 +184,16 @@ uint32_t bb_version(void);
 BbOutcome bb_job(const uint8_t *job, size_t job_len,
                  uint8_t *work, size_t work_len,
                  uint8_t *answers, size_t answers_len);
+
+/* Runs a job as bb_job does, and evaluates both sides of the Equals of that number in its final store on every assignment of the variables
+ * that stand in it: up to 65,536 assignments, each with one evaluation of each term that stands there. All of `values` is zero after an
+ * accepted sweep, and as it was after a refused one. The code is 20 where the job stops early, the number is not that of an Equals, or its
+ * variables have more than 16 bits; else 21 where `values` has fewer than BB_VALUE_BYTES for each kept term. */
+BbSwept bb_sweep(const uint8_t *job, size_t job_len,
+                 uint8_t *work, size_t work_len,
+                 uint8_t *answers, size_t answers_len,
+                 uint8_t *values, size_t values_len,
+                 uint32_t number);
 
 /* Adds one job and its first `count` answers to a tally; where `answers` is shorter, those that it has whole. */
 void bb_tally(BbTally *tally, const uint8_t *answers, size_t answers_len, uint32_t count);

@@ -12,7 +12,7 @@ ROOT = os.path.join(os.path.dirname(os.path.abspath(__file__)), '..')
 # Theorems whose type is written out; the others have a claim of their own in specs/.
 WRITTEN_OUT = ['demand-1', 'demand-2', 'demand-3', 'demand-2-call', 'demand-3-call', 'answers-kept', 'shut-out', 'shut-out-held',
                'specimens-hold', 'worked-right', 'computed', 'counted']
-EXPORTED = ['bb_job', 'bb_tally', 'bb_version']
+EXPORTED = ['bb_job', 'bb_sweep', 'bb_tally', 'bb_version']
 
 
 def sources(*parts):
@@ -24,9 +24,9 @@ def lines(path):
 
 
 def claims():
-    """By its name each `abbrev pub NAME : Type 0` of theory's specs/: comment, statement, place."""
+    """By its name each `abbrev pub NAME : Type 0` of the specs/ of theory and sweeps: comment, statement, place."""
     found = {}
-    for path in sources('theory', 'specs', '*.antt'):
+    for path in sources('theory', 'specs', '*.antt') + sources('sweeps', 'specs', '*.antt'):
         text = lines(path)
         for k, line in enumerate(text):
             m = re.match(r'abbrev pub ([A-Z]\w*) : Type 0$', line)
@@ -47,7 +47,7 @@ def place(path, k):
 
 def theorems(known):
     """Each theorem: name, comment, statement, where it is stated, where it is proved."""
-    for path in sources('theory', 'proofs', '*.antt') + sources('bitblast', 'proofs', '*.antt'):
+    for path in sources('theory', 'proofs', '*.antt') + sources('sweeps', 'proofs', '*.antt') + sources('bitblast', 'proofs', '*.antt'):
         text = lines(path)
         for k, line in enumerate(text):
             m = re.match(r'(  )?pub ([a-z][\w-]*) : (.*)$', line)

@@ -1,5 +1,5 @@
 //! The functions of the static library, declared by hand: nothing checks these declarations against the Rattle source
-//! (`bb_job`, `bb_version` and `Outcome` in crates/bitblast, `Tally` in crates/tally). tests/ffi.rs does what can be done: it
+//! (`bb_job`, `bb_sweep`, `bb_version` and what they return in crates/bitblast, `Tally` in crates/tally). tests/ffi.rs does what can be done: it
 //! compares the text of both, the interface's number, and sizes, offsets and the bytes around each lent slice.
 
 /// What a job came to. Later interfaces may add numbers.
@@ -30,6 +30,21 @@ pub struct Tally {
     pub refused: u64,
 }
 
+/// What a sweep came to. Later interfaces may add numbers.
+#[repr(C)]
+#[non_exhaustive]
+#[derive(Clone, Copy, Debug, Default, PartialEq, Eq)]
+pub struct Swept {
+    /// 0 where the sweep was made, else the code that refused it; both counts are 0 then.
+    pub code: u32,
+    /// How many assignments the variables have.
+    pub assignments: u32,
+    /// On how many of them the sides differ.
+    pub differing: u32,
+    /// What the job came to.
+    pub outcome: Outcome,
+}
+
 unsafe extern "C" {
     fn bb_job(
         job: *const u8,
@@ -39,6 +54,18 @@ unsafe extern "C" {
         answers: *mut u8,
         answers_len: usize,
     ) -> Outcome;
+
+    fn bb_sweep(
+        job: *const u8,
+        job_len: usize,
+        work: *mut u8,
+        work_len: usize,
+        answers: *mut u8,
+        answers_len: usize,
+        values: *mut u8,
+        values_len: usize,
+        number: u32,
+    ) -> Swept;
 
     fn bb_tally(tally: *mut Tally, answers: *const u8, answers_len: usize, count: u32);
 
@@ -79,6 +106,29 @@ pub fn interface() -> u32 {
 pub fn run_job(job: &[u8], work: &mut [u8], answers: &mut [u8]) -> Outcome {
     // SAFETY: each pointer is valid for its length, and the borrows keep the three apart.
     unsafe { bb_job(job.as_ptr(), job.len(), work.as_mut_ptr(), work.len(), answers.as_mut_ptr(), answers.len()) }
+}
+
+/// Runs a job as [`run_job`] does, and evaluates both sides of the Equals of that number in its final store on every assignment of the
+/// variables that stand in it. `values` may be of any length and content: all of it is zero after an accepted sweep, and as it was after
+/// a refused one.
+///
+/// The code is 20 where the job stops early, the number is not that of an Equals, or its variables have more than 16 bits; else 21 where
+/// `values` has fewer than [`VALUE_BYTES`](crate::VALUE_BYTES) for each term kept, `true` and `false` among them.
+pub fn sweep_job(job: &[u8], work: &mut [u8], answers: &mut [u8], values: &mut [u8], number: u32) -> Swept {
+    // SAFETY: each pointer is valid for its length, and the borrows keep the four apart.
+    unsafe {
+        bb_sweep(
+            job.as_ptr(),
+            job.len(),
+            work.as_mut_ptr(),
+            work.len(),
+            answers.as_mut_ptr(),
+            answers.len(),
+            values.as_mut_ptr(),
+            values.len(),
+            number,
+        )
+    }
 }
 
 /// Adds one job and its first `count` answers to a tally; where `answers` is shorter, those that it has whole.

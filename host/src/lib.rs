@@ -32,16 +32,18 @@ pub mod jobs;
 #[doc(hidden)]
 pub mod lent;
 #[doc(hidden)]
+pub mod plain;
+#[doc(hidden)]
 pub mod rng;
 pub mod service;
 pub mod words;
 
-pub use ffi::{Outcome, Tally, interface, run_job, tally_answers};
-pub use service::{Answer, Answers, Report, Service, Verdict};
+pub use ffi::{Outcome, Swept, Tally, interface, run_job, sweep_job, tally_answers};
+pub use service::{Answer, Answers, Report, Service, Sweep, Verdict};
 pub use words::{AnswerCode, Kind, Rule, StopCode};
 
 /// The number of the library's interface that this crate is written for.
-pub const INTERFACE: u32 = 2;
+pub const INTERFACE: u32 = 3;
 
 /// The longest job, in bytes; a longer one is answered with stop code 2.
 pub const MAX_JOB_BYTES: usize = 16_777_216;
@@ -51,6 +53,12 @@ pub const MAX_TERMS: usize = 65_535;
 
 /// The bytes of work memory that a kept term costs.
 pub const TERM_BYTES: usize = 8;
+
+/// The bytes of a value buffer that a kept term needs, `true` and `false` too.
+pub const VALUE_BYTES: usize = 8;
+
+/// The most bits that the variables of a swept term have.
+pub const MAX_SWEPT_BITS: usize = 16;
 
 /// The bytes of an answer.
 pub const ANSWER_BYTES: usize = 10;

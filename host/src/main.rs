@@ -2,7 +2,7 @@
 mod command;
 
 use bitblast_host::{interface, words::RULES};
-use command::{Failure, Status, bench, check, checker, compare, show, soak};
+use command::{Failure, Status, bench, check, checker, compare, show, soak, sweep};
 use std::{
     env,
     ffi::OsString,
@@ -62,18 +62,20 @@ fn run(words: &[OsString], out: &mut impl Write) -> Result<Status, Failure> {
     match command.to_str() {
         Some("check") if help => print(&[check::USAGE], out),
         Some("show") if help => print(&[show::USAGE], out),
+        Some("sweep") if help => print(&[sweep::USAGE], out),
         Some("soak") if help => print(&[soak::USAGE], out),
         Some("bench") if help => print(&[bench::USAGE], out),
         Some("compare") if help => print(&[compare::USAGE], out),
         Some("check") => check::run(rest, out),
         Some("show") => show::run(rest, out),
+        Some("sweep") => sweep::run(rest, out),
         Some("soak") => soak::run(rest, out),
         Some("bench") => bench::run(rest, out),
         Some("compare") => compare::run(rest, out),
         Some(checker::WORKER) => checker::work(rest, out),
         Some("--help" | "-h" | "help") => {
             out.write_all(about().as_bytes())?;
-            print(&[check::USAGE, show::USAGE, soak::USAGE, bench::USAGE, compare::USAGE, USAGE], out)
+            print(&[check::USAGE, show::USAGE, sweep::USAGE, soak::USAGE, bench::USAGE, compare::USAGE, USAGE], out)
         }
         Some("--version" | "-V") => {
             let (version, kit) = (env!("CARGO_PKG_VERSION"), env!("BITBLAST_KIT"));

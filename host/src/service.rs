@@ -1,11 +1,17 @@
 //! A service: memory of its own, a tally, and reports in words.
-use crate::{ANSWER_BYTES, MAX_JOB_BYTES, Outcome, SHORTEST_RECORD, Tally, run_job, tally_answers, words};
+use crate::{
+    ANSWER_BYTES, MAX_JOB_BYTES, Outcome, SHORTEST_RECORD, Swept, Tally, VALUE_BYTES, run_job, sweep_job,
+    tally_answers, words,
+};
 
 /// No job needs more work memory: this is twice what the most terms cost.
 pub const MAX_WORK_BYTES: usize = 1 << 20;
 
 /// No job writes more: the answers of a longest job of steps only.
 pub const MAX_ANSWER_BYTES: usize = MAX_JOB_BYTES / SHORTEST_RECORD * ANSWER_BYTES;
+
+/// The code of a question for which the value buffer is too short.
+const SHORT_VALUES: u32 = 21;
 
 /// Checks jobs one after the other on the same memory, and counts what they came to.
 ///
@@ -17,9 +23,14 @@ pub const MAX_ANSWER_BYTES: usize = MAX_JOB_BYTES / SHORTEST_RECORD * ANSWER_BYT
 /// (docs/PERFORMANCE.md); it takes seconds where the terms fill the memory or are made to collide in the table over them. So the
 /// time is bounded by the answers lent and, for terms that collide, by the job's length: for jobs of strangers lend few answers,
 /// and check where the check can be ended, in a process of its own.
+///
+/// A sweep takes one evaluation for each assignment and each term that stands in the Equals, up to 65,536 times 65,535 of them, after the
+/// job's own time.
 pub struct Service {
     work: Vec<u8>,
     answers: Vec<u8>,
+    /// As long as the largest job needed that was asked about.
+    values: Vec<u8>,
     tally: Tally,
 }
 
@@ -30,6 +41,7 @@ impl Service {
         Service {
             work: vec![0; work_bytes.min(MAX_WORK_BYTES)],
             answers: vec![0; answer_bytes.min(MAX_ANSWER_BYTES)],
+            values: Vec::new(),
             tally: Tally::default(),
         }
     }
@@ -45,6 +57,18 @@ impl Service {
         let outcome = run_job(job, &mut self.work, &mut self.answers);
         tally_answers(&mut self.tally, &self.answers, outcome.answers);
         Report::new(outcome, &self.answers, self.tally)
+    }
+
+    /// Runs a job, and evaluates both sides of the Equals of that number in its final store on every assignment of the variables that stand
+    /// in it. The job is not added to the tally.
+    pub fn sweep(&mut self, job: &[u8], number: u32) -> Sweep<'_> {
+        let mut swept = sweep_job(job, &mut self.work, &mut self.answers, &mut self.values, number);
+        if swept.code == SHORT_VALUES {
+            // Only the job itself says how many terms it keeps.
+            self.values.resize(VALUE_BYTES * swept.outcome.terms as usize, 0);
+            swept = sweep_job(job, &mut self.work, &mut self.answers, &mut self.values, number);
+        }
+        Sweep { swept, answers: &self.answers }
     }
 
     /// What all jobs so far came to.
@@ -91,6 +115,50 @@ impl<'a> Report<'a> {
     pub fn all_held(&self) -> bool {
         let mut answers = self.answers().peekable();
         self.outcome.stop == 0 && answers.peek().is_some() && answers.all(|answer| answer.verdict() == Verdict::Held)
+    }
+}
+
+/// What a service says about both sides of an Equals.
+#[derive(Clone, Copy)]
+pub struct Sweep<'a> {
+    swept: Swept,
+    answers: &'a [u8],
+}
+
+impl<'a> Sweep<'a> {
+    /// 0 where every assignment was evaluated, else why not.
+    pub fn code(&self) -> u32 {
+        self.swept.code
+    }
+
+    /// How many assignments there were, 0 where the sweep is refused.
+    pub fn assignments(&self) -> u32 {
+        self.swept.assignments
+    }
+
+    /// On how many of them the sides differ.
+    pub fn differing(&self) -> u32 {
+        self.swept.differing
+    }
+
+    /// Whether every assignment was evaluated and the sides differ on none.
+    pub fn no_difference(&self) -> bool {
+        self.swept.code == 0 && self.swept.differing == 0
+    }
+
+    /// What the job came to.
+    pub fn outcome(&self) -> Outcome {
+        self.swept.outcome
+    }
+
+    /// The job's answers, in the order of its steps.
+    pub fn answers(&self) -> Answers<'a> {
+        Answers::new(self.answers, self.swept.outcome.answers)
+    }
+
+    /// The code in words.
+    pub fn meaning(&self) -> &'static str {
+        words::sweep_meaning(self.swept.code)
     }
 }
 

@@ -223,6 +223,13 @@ pub const ANSWERS: [(u16, &str); AnswerCode::ALL.len()] = {
     answers
 };
 
+/// The codes of sweeps.
+pub const SWEEPS: [(u32, &str); 3] = [
+    (0, "every assignment was evaluated"),
+    (20, "the job stops early, the number is not that of an Equals, or its variables have more than 16 bits"),
+    (21, "the value buffer has fewer than 8 bytes for each kept term"),
+];
+
 /// All rules with their numbers.
 pub fn rules() -> impl Iterator<Item = (u16, &'static str)> {
     Rule::ALL.iter().map(|rule| (rule.number(), rule.name()))
@@ -241,4 +248,9 @@ pub fn stop_meaning(code: u32) -> &'static str {
 /// An answer's code in words.
 pub fn answer_meaning(code: u16) -> &'static str {
     AnswerCode::try_from(code).map_or("unknown code", AnswerCode::words)
+}
+
+/// A sweep's code in words.
+pub fn sweep_meaning(code: u32) -> &'static str {
+    SWEEPS.iter().find(|(c, _)| *c == code).map_or("unknown code", |(_, words)| words)
 }

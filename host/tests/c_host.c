@@ -1,4 +1,4 @@
-/* Calls the library from C: layout, the specimen at every length of lent memory, a stopped job, a tally. */
+/* Calls the library from C: layout, the specimen at every length of lent memory, a stopped job, a sweep, a tally. */
 #include "bitblast.h"
 #include <stdio.h>
 #include <string.h>
@@ -83,6 +83,53 @@ static void repeats(void) {
     expect(all((const uint8_t *)&o.before, 0, sizeof o.before, POST) && all((const uint8_t *)o.behind, 0, sizeof o.behind, POST), "fences of the outcome");
 }
 
+/* The specimen's ten terms need 80 bytes of values; its one Equals is term 9. A job that stops early is refused first. */
+static void sweep(void) {
+    static const uint32_t numbers[] = {0, 1, 2, 8, 9, 10, 65545, UINT32_MAX};
+    for (size_t size = 0; size <= 100; size++) {
+        for (size_t k = 0; k < 2 * sizeof numbers / sizeof numbers[0]; k++) {
+            uint32_t number = numbers[k / 2];
+            size_t room = k % 2 ? 10 : 9;
+            uint8_t work[FENCE + 64 + FENCE], answers[FENCE + 10 + FENCE], values[FENCE + 100 + FENCE];
+            memset(work, POST, sizeof work);
+            memset(answers, POST, sizeof answers);
+            memset(values, POST, sizeof values);
+            memset(work + FENCE, OLD, 64);
+            memset(answers + FENCE, OLD, room);
+            memset(values + FENCE, OLD, size);
+            struct {
+                uint32_t before;
+                BbSwept swept;
+                uint32_t behind[4];
+            } s;
+            memset(&s, POST, sizeof s);
+            s.swept = bb_sweep(specimen, sizeof specimen, work + FENCE, 64, answers + FENCE, room, values + FENCE, size, number);
+            uint32_t code = number != 9 || room == 9 ? 20 : size < 10 * BB_VALUE_BYTES ? 21 : 0;
+            expect(s.swept.code == code, "code of a sweep");
+            expect(s.swept.assignments == (code == 0 ? 4 : 0) && s.swept.differing == 0, "counts of a sweep");
+            BbOutcome o = s.swept.outcome;
+            expect(o.stop == (room == 9 ? 19 : 0) && o.records == 8 + o.answers && o.answers == room - 9 && o.terms == 10 && o.repeats == 0, "outcome of a swept job");
+            expect(all((const uint8_t *)&s.before, 0, sizeof s.before, POST) && all((const uint8_t *)s.behind, 0, sizeof s.behind, POST), "fences of a swept");
+            expect(all(work, FENCE, FENCE + 64, 0), "work memory of a sweep is zero");
+            expect(all(work, 0, FENCE, POST) && all(work, FENCE + 64, sizeof work, POST), "fences of a sweep's work memory");
+            size_t written = BB_ANSWER_BYTES * o.answers;
+            expect(memcmp(answers + FENCE, answer, written) == 0, "the answer of a swept job");
+            expect(all(answers, FENCE + written, FENCE + room, OLD), "untouched answers of a sweep");
+            expect(all(answers, 0, FENCE, POST) && all(answers, FENCE + room, sizeof answers, POST), "fences of a sweep's answers");
+            expect(all(values, FENCE, FENCE + size, code == 0 ? 0 : OLD), "the value buffer");
+            expect(all(values, 0, FENCE, POST) && all(values, FENCE + size, sizeof values, POST), "fences of the value buffer");
+        }
+    }
+}
+
+/* A Bool variable beside true: two assignments, and the sides differ on one. */
+static void sweep_that_differs(void) {
+    static const uint8_t job[] = {0x04, 0, 0x0A, 0, 0, 0, 0x06, 0, 0x18, 0, 2, 0, 0, 0};
+    uint8_t work[16], answers[1], values[32];
+    BbSwept s = bb_sweep(job, sizeof job, work, sizeof work, answers, 0, values, sizeof values, 3);
+    expect(s.code == 0 && s.assignments == 2 && s.differing == 1 && s.outcome.terms == 4, "a sweep that differs");
+}
+
 static void tally(void) {
     struct {
         uint64_t before;
@@ -109,9 +156,14 @@ int main(void) {
     expect(sizeof(BbTally) == 32 && offsetof(BbTally, held) == 8 && offsetof(BbTally, form_only) == 16 &&
                offsetof(BbTally, refused) == 24,
            "layout of BbTally");
+    expect(sizeof(BbSwept) == 32 && offsetof(BbSwept, assignments) == 4 && offsetof(BbSwept, differing) == 8 &&
+               offsetof(BbSwept, outcome) == 12,
+           "layout of BbSwept");
     every_length();
     stopped();
     repeats();
+    sweep();
+    sweep_that_differs();
     tally();
     if (failures == 0) {
         printf("ok\n");

@@ -3,7 +3,7 @@ mod json;
 mod run;
 
 use bitblast_host::{
-    INTERFACE,
+    INTERFACE, Service,
     jobs::{self, CONG, JobWriter, Kind, SYMM, TRANS},
 };
 use run::{bbhost, text};
@@ -100,6 +100,33 @@ fn jobs_without_the_steps_that_they_should_have() {
 }
 
 #[test]
+fn sweeps_in_words() {
+    let held = bbhost(&["sweep", "-", "9"], &jobs::specimen());
+    assert_eq!(
+        (held.status.code(), text(&held.stdout)),
+        (Some(0), "-: term 9: 4 assignments, the sides are equal on all\n")
+    );
+    // The division of rule 21 is not the standard's.
+    let form_only = jobs::right_claim(21, 1);
+    let number = Service::new(1 << 16, 10).check(&form_only).outcome().terms - 1;
+    let form_only = bbhost(&["sweep", "-", &number.to_string()], &form_only);
+    let found = format!("-: term {number}: 4 assignments, the sides DIFFER on 1\n");
+    assert_eq!((form_only.status.code(), text(&form_only.stdout)), (Some(1), &found[..]));
+    let other = bbhost(&["sweep", "-", "8"], &jobs::specimen());
+    assert_eq!(other.status.code(), Some(1));
+    assert!(
+        text(&other.stdout)
+            .starts_with("-: term 8: REFUSED (code 20): the job stops early, the number is not that of an Equals")
+    );
+    let cut = bbhost(&["sweep", "-", "9"], &jobs::specimen()[..69]);
+    assert_eq!(cut.status.code(), Some(1));
+    assert!(
+        text(&cut.stdout)
+            .starts_with("-: term 9: REFUSED (code 20): the job stops at record 9 (code 3): the record is cut")
+    );
+}
+
+#[test]
 fn chains_in_words() {
     let mut job = JobWriter::new();
     let x = job.bv_var(1, 0);
@@ -165,6 +192,12 @@ fn usage() {
         &["soak", "1", "2"],
         &["bench", "fast"],
         &["bench", "--write"],
+        &["sweep"],
+        &["sweep", "-"],
+        &["sweep", "-", "-1"],
+        &["sweep", "-", "4294967296"],
+        &["sweep", "-", "1", "2"],
+        &["sweep", "no-such-file", "1"],
         &["compare"],
         &["compare", "a", "b"],
         &["compare", "no-such-folder"],
@@ -176,11 +209,11 @@ fn usage() {
     for word in ["--help", "-h", "help"] {
         let output = bbhost(&[word], b"");
         assert_eq!(output.status.code(), Some(0));
-        for command in ["check", "show", "soak", "bench", "compare"] {
+        for command in ["check", "show", "sweep", "soak", "bench", "compare"] {
             assert!(text(&output.stdout).contains(&format!("\n  bbhost {command} ")), "{command}");
         }
     }
-    for command in ["check", "show", "soak", "bench", "compare"] {
+    for command in ["check", "show", "sweep", "soak", "bench", "compare"] {
         for words in [&[command, "--help"][..], &[command, "-h"], &[command, "file", "-h"]] {
             let output = bbhost(words, b"");
             assert_eq!(output.status.code(), Some(0), "{words:?}");
@@ -232,15 +265,32 @@ fn compare_finds_differences() {
     let output = bbhost(&arguments, b"");
     assert_eq!(output.status.code(), Some(0), "{}", text(&output.stdout));
     assert!(text(&output.stdout).contains("in all 1 jobs, 0 differences"));
-    for (from, to) in [("terms 10", "terms 11"), ("0200\n", "0300\n"), ("work 64", "work 63"), ("room 10", "room 9")] {
+    let right = format!("{right}sweep 9 80\nswept 0 4 0\nsweep 9 79\nswept 21 0 0\nsweep 8 0\nswept 20 0 0\n");
+    expect(&right);
+    let output = bbhost(&arguments, b"");
+    assert_eq!(output.status.code(), Some(0), "{}", text(&output.stdout));
+    assert!(text(&output.stdout).contains("3 questions about final stores; in all 2 jobs, 0 differences"));
+    for (from, to) in [
+        ("terms 10", "terms 11"),
+        ("0200\n", "0300\n"),
+        ("work 64", "work 63"),
+        ("room 10", "room 9"),
+        ("swept 0 4 0", "swept 0 4 1"),
+        ("swept 0 4 0", "swept 0 5 0"),
+        ("swept 21", "swept 20"),
+        ("sweep 9 79", "sweep 9 80"),
+        ("sweep 8", "sweep 9"),
+    ] {
         expect(&right.replace(from, to));
         let output = bbhost(&arguments, b"");
         assert_eq!(output.status.code(), Some(1), "{from}");
         assert!(text(&output.stdout).contains("DIFFERS"), "{from}");
     }
-    assert!(fs::read_to_string(&counts).unwrap().starts_with("jobs 5\ndifferences 4\n"));
-    expect("work many\n");
-    assert_eq!(status(&arguments, b""), 2);
+    assert!(fs::read_to_string(&counts).unwrap().starts_with("jobs 11\ndifferences 9\n"));
+    for unreadable in ["work many\n".to_owned(), format!("{right}swept 0 4 0\n"), format!("{right}sweep 9 80\n")] {
+        expect(&unreadable);
+        assert_eq!(status(&arguments, b""), 2, "{unreadable}");
+    }
     fs::remove_file(folder.join("00000.expect")).unwrap();
     assert_eq!(status(&arguments, b""), 2);
 }

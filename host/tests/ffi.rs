@@ -1,10 +1,10 @@
 //! What can be tested of declarations that nothing checks: the text of the Rattle source, the layout of the structs, and the
 //! bytes around each lent slice.
 use bitblast_host::{
-    INTERFACE, Outcome, Tally, interface,
+    INTERFACE, Outcome, Swept, Tally, interface,
     jobs::{self, SPECIMEN_ANSWER},
     lent::Lent,
-    run_job, tally_answers,
+    run_job, sweep_job, tally_answers,
 };
 use std::{
     fs,
@@ -24,6 +24,16 @@ fn layout() {
             offset_of!(Outcome, repeats)
         ],
         [0, 4, 8, 12, 16]
+    );
+    assert_eq!((size_of::<Swept>(), align_of::<Swept>()), (32, 4));
+    assert_eq!(
+        [
+            offset_of!(Swept, code),
+            offset_of!(Swept, assignments),
+            offset_of!(Swept, differing),
+            offset_of!(Swept, outcome)
+        ],
+        [0, 4, 8, 12]
     );
     assert_eq!((size_of::<Tally>(), align_of::<Tally>()), (32, 8));
     assert_eq!(
@@ -52,14 +62,16 @@ fn the_source_says_the_same() {
     source(&Path::new(env!("CARGO_MANIFEST_DIR")).join("../crates"), &mut text);
     for declared in [
         "#[no_mangle] pub extern \"C\" fn bb_job(job: &[u8], work: &mut [u8], answers: &mut [u8]) -> Outcome ",
+        "#[no_mangle] pub extern \"C\" fn bb_sweep( job: &[u8], work: &mut [u8], answers: &mut [u8], values: &mut [u8], number: u32, ) -> Swept ",
         "#[no_mangle] pub extern \"C\" fn bb_version() -> u32 ",
         "#[no_mangle] pub extern \"C\" fn bb_tally(tally: &mut Tally, answers: &[u8], count: u32) ",
         "#[repr(C)] pub struct Outcome { pub stop: u32, pub records: u32, pub answers: u32, pub terms: u32, pub repeats: u32, }",
+        "#[repr(C)] pub struct Swept { pub code: u32, pub assignments: u32, pub differing: u32, pub outcome: Outcome, }",
         "#[repr(C)] pub struct Tally { pub jobs: u64, pub held: u64, pub form_only: u64, pub refused: u64, }",
     ] {
         assert!(text.contains(declared), "crates/ has no `{declared}`: does src/ffi.rs still fit?");
     }
-    assert_eq!(text.matches("pub extern \"C\" fn").count(), 3, "src/ffi.rs declares three functions");
+    assert_eq!(text.matches("pub extern \"C\" fn").count(), 4, "src/ffi.rs declares four functions");
 }
 
 /// Declarations here, the header and the linked library are of one interface.
@@ -135,6 +147,86 @@ fn slices_at_any_address() {
         for (k, byte) in answers.iter().enumerate() {
             let at = k.wrapping_sub(shift + 3);
             assert_eq!(*byte, if at < 10 { SPECIMEN_ANSWER[at] } else { 0xDD });
+        }
+    }
+}
+
+/// The memories of a sweep, with garbage in them and fences around them.
+struct Memories {
+    work: Lent,
+    answers: Lent,
+    values: Lent,
+}
+
+impl Memories {
+    fn new() -> Self {
+        Memories { work: Lent::new(80), answers: Lent::new(40), values: Lent::new(120) }
+    }
+
+    /// Sweeps the specimen, and looks at everything around the sweep.
+    fn sweep(&mut self, [work, room, size]: [usize; 3], number: u32) -> Swept {
+        #[repr(C)]
+        struct Fenced {
+            before: u32,
+            swept: Swept,
+            behind: [u32; 4],
+        }
+        let lent = (work, room, size, number);
+        let Memories { work: rows, answers, values } = self;
+        let mut fenced = Fenced { before: 7, swept: Swept::default(), behind: [7; 4] };
+        fenced.swept = sweep_job(
+            &jobs::specimen(),
+            rows.ready(work, size as u64),
+            answers.ready(room, work as u64),
+            values.ready(size, room as u64 + 1),
+            number,
+        );
+        assert_eq!((fenced.before, fenced.behind), (7, [7; 4]));
+        assert!(rows.is_zero() && rows.fences_stand(), "{lent:?}");
+        let written = 10 * fenced.swept.outcome.answers as usize;
+        assert_eq!(answers.bytes()[..written], SPECIMEN_ANSWER[..written]);
+        assert!(answers.untouched_from(written) && answers.fences_stand(), "{lent:?}");
+        assert!(values.fences_stand(), "{lent:?}");
+        let left = if fenced.swept.code == 0 { values.is_zero() } else { values.untouched_from(0) };
+        assert!(left, "the value buffer, {lent:?}");
+        fenced.swept
+    }
+}
+
+/// The specimen's ten terms need 80 bytes of values; its one Equals is term 9.
+#[test]
+fn fences_around_a_sweep() {
+    let mut memories = Memories::new();
+    for size in 0..=120 {
+        for number in [0, 1, 2, 7, 8, 9, 10, 11, 65_545, u32::MAX] {
+            let swept = memories.sweep([64, 10, size], number);
+            let expected = match (number, size) {
+                (9, 80..) => [0, 4, 0],
+                (9, _) => [21, 0, 0],
+                _ => [20, 0, 0],
+            };
+            assert_eq!([swept.code, swept.assignments, swept.differing], expected, "term {number}, values {size}");
+            assert_eq!(swept.outcome.numbers(), [0, 9, 1, 10, 0]);
+        }
+    }
+}
+
+/// A job that stops early is refused before the value buffer is looked at.
+#[test]
+fn fences_around_the_sweep_of_a_job_that_stops() {
+    let mut memories = Memories::new();
+    for work in 0..=80 {
+        for room in [0, 9, 10, 40] {
+            for size in [0, 79, 80] {
+                let swept = memories.sweep([work, room, size], 9);
+                let code = match (work, room, size) {
+                    (0..64, _, _) | (_, 0..10, _) => 20,
+                    (_, _, 0..80) => 21,
+                    _ => 0,
+                };
+                let assignments = if code == 0 { 4 } else { 0 };
+                assert_eq!([swept.code, swept.assignments, swept.differing], [code, assignments, 0]);
+            }
         }
     }
 }

@@ -1,6 +1,15 @@
 //! The stack that a call needs.
-use bitblast_host::{STACK_BYTES, jobs, run_job};
+use bitblast_host::{
+    STACK_BYTES,
+    jobs::{self, JobWriter, Kind},
+    run_job, sweep_job,
+};
 use std::{fs, path::Path, thread};
+
+/// What a call gives on a thread with just that much stack.
+fn on_little_stack<T: Send + 'static>(call: impl FnOnce() -> T + Send + 'static) -> T {
+    thread::Builder::new().stack_size(STACK_BYTES).spawn(call).unwrap().join().unwrap()
+}
 
 /// The widest divisions on a thread with just that much stack. The job is written before, on a larger one.
 #[test]
@@ -8,10 +17,32 @@ fn the_deepest_jobs() {
     for rule in [21, 22, 24, 25] {
         let job = jobs::right_claim(rule, 64);
         let (mut work, mut answers) = (vec![0; 1 << 20], vec![0; 10]);
-        let call = move || run_job(&job, &mut work, &mut answers);
-        let outcome = thread::Builder::new().stack_size(STACK_BYTES).spawn(call).unwrap().join().unwrap();
+        let (outcome, swept) = on_little_stack(move || {
+            let outcome = run_job(&job, &mut work, &mut answers);
+            (outcome, sweep_job(&job, &mut work, &mut answers, &mut [], outcome.terms - 1))
+        });
         assert_eq!((outcome.stop, outcome.answers), (0, 1), "rule {rule}");
+        // The variables have 128 bits.
+        assert_eq!((swept.code, swept.outcome), (20, outcome), "rule {rule}");
     }
+}
+
+/// Terms that stand 60,000 deep in each other.
+#[test]
+fn the_deepest_sweep() {
+    let mut job = JobWriter::new();
+    let x = job.bool_var(0);
+    let mut last = x;
+    for _ in 0..60_000 {
+        last = job.term(Kind::Xor, &[last, x]);
+        job.number(last);
+    }
+    let equality = job.term(Kind::Equals, &[last, x]);
+    let number = job.number(equality).into();
+    let job = job.finish();
+    let (mut work, mut values) = (vec![0; 1 << 20], vec![0; 1 << 20]);
+    let swept = on_little_stack(move || sweep_job(&job, &mut work, &mut [], &mut values, number));
+    assert_eq!((swept.code, swept.assignments, swept.differing), (0, 2, 0));
 }
 
 #[test]

@@ -4,3 +4,4 @@ pub mod Walks
 pub mod Calls
 pub mod Enough
 pub mod Tallied
+pub mod AskingLaws

@@ -261,6 +261,8 @@ walked {job} {old} {work} {answers} {size} {s} short t {given-size} same =
       few-answers = omega arith;
       few-terms = omega arith;
       few-repeats = omega arith;
+      store = h .store;
+      list-is = t .done .listed-is;
     }
   where
     told-of : ℕ → ℕ → Returned

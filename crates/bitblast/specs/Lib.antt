@@ -1,2 +1,4 @@
 -- What the contracts of `bitblast` cite.
 pub mod Walking
+pub mod Finished
+pub mod Asking

@@ -12,6 +12,7 @@ use Rattle.terms.specs.declared.Frame.the-variants.{Broken}
 use Rattle.terms.specs.Framing.{frame-code}
 use Rattle.steps.specs.Answering.{sealed}
 use Rattle.chains.specs.Premises.{Noted}
+use Rattle.store.specs.Store.{Store, listed}
 use Rattle.bitblast.specs.declared.Outcome.{Outcome}
 use Rattle.records.specs.declared.Turn.{Turn}
 use Rattle.bitblast.specs.declared.walk.State.{State}
@@ -66,8 +67,8 @@ unfoldable pub memory-left : Bytes → Bytes → ℕ → Bytes
 memory-left job work space = cond (leb (length job) max-job) (memory-run job (length work) (run job (length work) space .records)) work
 
 -- ---- the whole job
--- what the host is to be told of it, and the answers' memory once its answers have their length and kind; where the records done end, and the work
--- memory after them; the numbers fit into 32 bits
+-- what the host is to be told of it, and the answers' memory once its answers have their length and kind; where the records done end, the work
+-- memory after them, and the terms that are kept then; the numbers fit into 32 bits
 pub record Walked (job : Bytes) (size : ℕ) (old work answers : Bytes) (s : State) : Type 0 where
   pub result-is : reached s ≡ returned (run job size (length old))
   pub at-is : s .at ≡ total-length (take (s .records) (records-of job))
@@ -78,3 +79,5 @@ pub record Walked (job : Bytes) (size : ℕ) (old work answers : Bytes) (s : Sta
   pub few-answers : s .answers ≤ max-job
   pub few-terms : s .rows + first-terms ≤ max-terms
   pub few-repeats : s .repeats ≤ max-job
+  pub store : Store job work (s .rows)
+  pub list-is : listed job work (s .rows) ≡ plain-after (s .records) job

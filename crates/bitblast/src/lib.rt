@@ -1,4 +1,6 @@
 // The checker of a job: its records one after the other, the terms kept in work memory, and an answer for each step.
+mod finished;
+pub mod sweep;
 pub mod totals;
 mod walk;
 
@@ -9,14 +11,14 @@ ghost use Rattle.theory.specs.Job.{call};
 ghost use Rattle.theory.specs.Demand.{Demand3};
 ghost use Rattle.theory.specs.Demands.{Stops, Demand2};
 ghost use Rattle.bitblast.specs.Walking.{told, Enough, memory-left};
-use crate::walk::walk;
-use steps::answers::seal;
+use crate::finished::outcome_of;
+use crate::finished::run_job;
 
 // The longest job, in bytes.
 pub const MAX_JOB: usize = 16777216;
 
 // The number of the interface. It grows with each change of an exported function, or of a struct that one takes or returns.
-pub const VERSION: u32 = 2;
+pub const VERSION: u32 = 3;
 
 // What a job comes to: the code that stopped it or 0, the records done, the answers written, the terms kept at the end, and the repeats: the term
 // records done whose term was there already.
@@ -29,35 +31,18 @@ pub struct Outcome {
     pub repeats: u32,
 }
 
-// The outcome of a job, and its answers; 2 where the job is too long. The work memory is left as the job used it.
+// The outcome of a job, and its answers. The work memory is left as the job used it.
 fn check_job(job: &[u8], work: &mut [u8], answers: &mut [u8]) -> Outcome
     ensures result { λ r. ⌜ told r ≡ call (now (job .entry)) (now (work .entry)) (now (answers .entry)) .result ⌝ }
     ensures answers { λ _. ⌜ now (answers .exit) ≡ call (now (job .entry)) (now (work .entry)) (now (answers .entry)) .answer-memory ⌝ }
     ensures work { λ _. ⌜ now (work .exit) ≡ memory-left (now (job .entry)) (now (work .entry)) (length (now (answers .entry))) ⌝ }
 {
-    if MAX_JOB < job.len() {
-        return Outcome {
-            stop: 2,
-            records: 0,
-            answers: 0,
-            terms: 2,
-            repeats: 0,
-        };
-    }
-    let s = walk(job, work, answers);
-    seal(answers, s.answers);
-    Outcome {
-        stop: s.stop,
-        records: s.records as u32,
-        answers: s.answers as u32,
-        terms: (s.rows + rows::FIRST_PLACE) as u32,
-        repeats: s.repeats as u32,
-    }
+    outcome_of(run_job(job, work, answers))
 }
 
 // The bytes of work memory that a job of `size` bytes is given of those lent: four for each of its own, which leaves room in the table over
 // its terms. A short job is not spread over a long memory.
-fn used(size: usize, lent: usize) -> usize
+pub fn used(size: usize, lent: usize) -> usize
     ensures { λ r. ⌜ Enough size lent r ⌝ }
 {
     if size < lent / 4 { 4 * size } else { lent }
@@ -84,7 +69,7 @@ pub extern "C" fn bb_job(job: &[u8], work: &mut [u8], answers: &mut [u8]) -> Out
 // The number of the interface, for a host to compare with the one that it was written for.
 #[no_mangle]
 pub extern "C" fn bb_version() -> u32
-    ensures { λ r. ⌜ r ≡ 2 ⌝ }
+    ensures { λ r. ⌜ r ≡ 3 ⌝ }
 {
     VERSION
 }

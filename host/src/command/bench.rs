@@ -1,5 +1,5 @@
 //! `bbhost bench`: how long jobs take.
-use super::{Failure, Status, about, grouped, number, progress::Progress, unknown, value};
+use super::{Failure, Status, about, grouped, number, progress::Progress, sweeps, unknown, value};
 use bitblast_host::{
     Answers,
     jobs::{self, CONG},
@@ -19,7 +19,7 @@ use std::{
 
 /// How the command is used.
 pub const USAGE: &str = "  bbhost bench [--work BYTES] [--against COMMAND] [--write DIR]
-      Measures a list of jobs. --against also runs `COMMAND FILE RUNS` on each that has only rules of the original, as with
+      Measures a list of jobs, and sweeps beside a plain Rust evaluator of the same terms. --against also runs `COMMAND FILE RUNS` on each that has only rules of the original, as with
       `oracle bench`, and prints the ratio. --write only writes the jobs as files.";
 
 /// The memory lent: work unless an option says otherwise, and answers.
@@ -99,7 +99,8 @@ pub fn run(words: &[OsString], out: &mut impl Write) -> Result<Status, Failure> 
     if against.is_some() {
         fs::remove_dir_all(&folder).map_err(|error| about(folder.display(), error))?;
     }
-    done
+    let swept = sweeps::measure_all(&mut memory, out)?;
+    done.map(|status| if status == Status::Fine { swept } else { status })
 }
 
 fn write_jobs(folder: &Path) -> Result<(), Failure> {
@@ -152,14 +153,19 @@ fn measure_all(
     Ok(status)
 }
 
-/// The seconds of the fastest run, and the number of runs.
+/// The seconds of the fastest run of a job, and the number of runs.
 fn measure(job: &[u8], memory: &mut (Vec<u8>, Vec<u8>)) -> (f64, u32) {
+    fastest(|| run_job(black_box(job), black_box(&mut memory.0), black_box(&mut memory.1)))
+}
+
+/// The seconds of the fastest run, and the number of runs.
+pub fn fastest<T>(mut run: impl FnMut() -> T) -> (f64, u32) {
     let begun = Instant::now();
     let mut best = f64::MAX;
     let mut runs = 0;
     while runs < LEAST_RUNS || (begun.elapsed() < TIME && runs < MOST_RUNS) {
         let one = Instant::now();
-        black_box(run_job(black_box(job), black_box(&mut memory.0), black_box(&mut memory.1)));
+        black_box(run());
         best = best.min(one.elapsed().as_secs_f64());
         runs += 1;
     }

@@ -1,6 +1,12 @@
 //! `bbhost compare`: jobs with what the original answers, against the library.
-use super::{Failure, Status, about, grouped, progress::Progress, unknown, value};
-use bitblast_host::{ANSWER_BYTES, Answers, Outcome, lent::Lent, run_job, words};
+use super::{
+    Failure, Status, about,
+    case::{Call, Expected},
+    grouped,
+    progress::Progress,
+    unknown, value,
+};
+use bitblast_host::{Answers, Outcome, words};
 use std::{
     collections::BTreeMap,
     ffi::OsString,
@@ -11,8 +17,8 @@ use std::{
 
 /// How the command is used.
 pub const USAGE: &str = "  bbhost compare DIR [--counts FILE]
-      Runs each NNNNN.job of a folder against its NNNNN.expect (both from `oracle gen`), and prints which answers of which
-      rule were reached. --counts adds the counts in a file to the table, and keeps the sums there. Exit status 1 on any difference.";
+      Runs each NNNNN.job of a folder against its NNNNN.expect (both from the oracle), asks the questions about the job's final
+      store that stand there, and prints which answers of which rule were reached. --counts adds the counts in a file to the table, and keeps the sums there. Exit status 1 on any difference.";
 
 /// The differences that are printed one by one.
 const SHOWN: usize = 20;
@@ -73,68 +79,27 @@ fn cases(folder: &Path) -> Result<Vec<PathBuf>, Failure> {
     Ok(cases)
 }
 
-/// What the original answers: the memory lent, the outcome and the answers' bytes.
-struct Expected {
-    work: usize,
-    room: usize,
-    /// The outcome's numbers.
-    outcome: [u32; 5],
-    answers: Vec<u8>,
-}
-
-impl Expected {
-    fn parse(text: &str) -> Option<Self> {
-        let field =
-            |name: &str| text.lines().find_map(|line| line.strip_prefix(name)).and_then(|rest| rest.strip_prefix(' '));
-        let number = |name: &str| field(name)?.trim().parse::<u32>().ok();
-        let hex = field("bytes")?.trim().as_bytes();
-        let digit = |c: u8| (c as char).to_digit(16);
-        let answers = hex.chunks(2).map(|pair| match pair {
-            &[high, low] => Some((digit(high)? * 16 + digit(low)?) as u8),
-            _ => None,
-        });
-        Some(Expected {
-            work: number("work")? as usize,
-            room: number("room")? as usize,
-            outcome: [number("stop")?, number("records")?, number("answers")?, number("terms")?, number("repeats")?],
-            answers: answers.collect::<Option<_>>()?,
-        })
-    }
-}
-
 /// Runs a case; the first difference, if there is one.
 fn compare(path: &Path, seed: u64, counts: &mut Counts) -> Result<Option<String>, Failure> {
     let job = fs::read(path).map_err(|error| about(path.display(), error))?;
     let file = path.with_extension("expect");
     let text = fs::read_to_string(&file).map_err(|error| about(file.display(), error))?;
     let expected = Expected::parse(&text)
-        .ok_or_else(|| Failure::Usage(format!("{} is not as `oracle gen` writes it", file.display())))?;
-    let (mut work, mut answers) = (Lent::new(expected.work), Lent::new(expected.room));
-    let outcome = run_job(&job, work.ready(expected.work, seed), answers.ready(expected.room, seed.wrapping_mul(7)));
-    counts.add(outcome, answers.bytes());
-    let written = ANSWER_BYTES * outcome.answers as usize;
-    Ok(if outcome.numbers() != expected.outcome {
-        Some(format!("expected {:?}, found {outcome:?}", expected.outcome))
-    } else if answers.bytes().get(..written) != Some(&expected.answers[..]) {
-        let pairs =
-            Answers::new(&expected.answers, outcome.answers).zip(Answers::new(answers.bytes(), outcome.answers));
-        let first = pairs.into_iter().find(|(a, b)| a != b);
-        Some(format!("answers differ, the first (expected, found): {first:?}"))
-    } else if !answers.untouched_from(written) {
-        Some("answer bytes past the last answer are not as they were".to_owned())
-    } else if !work.is_zero() {
-        Some("work memory is not zero".to_owned())
-    } else if !work.fences_stand() || !answers.fences_stand() {
-        Some("memory that was not lent was written".to_owned())
-    } else {
-        None
-    })
+        .ok_or_else(|| Failure::Usage(format!("{} is not as the oracle writes it", file.display())))?;
+    let mut call = Call::new(&job, &expected, seed);
+    let mut difference = call.job(|outcome, answers| counts.add(outcome, answers));
+    for question in &expected.questions {
+        counts.questions += 1;
+        difference = difference.or_else(|| call.ask(question));
+    }
+    Ok(difference)
 }
 
 /// How often each answer and each stop was seen.
 #[derive(Default)]
 struct Counts {
     jobs: u64,
+    questions: u64,
     differences: u64,
     answers: BTreeMap<(u16, u16), u64>,
     stops: BTreeMap<u32, u64>,
@@ -150,7 +115,7 @@ impl Counts {
     }
 
     fn text(&self) -> String {
-        let mut text = format!("jobs {}\ndifferences {}\n", self.jobs, self.differences);
+        let mut text = format!("jobs {}\ndifferences {}\nquestions {}\n", self.jobs, self.differences, self.questions);
         for (stop, n) in &self.stops {
             text.push_str(&format!("stop {stop} {n}\n"));
         }
@@ -166,6 +131,7 @@ impl Counts {
             match line.split(' ').collect::<Vec<_>>()[..] {
                 ["jobs", n] => counts.jobs = n.parse().ok()?,
                 ["differences", n] => counts.differences = n.parse().ok()?,
+                ["questions", n] => counts.questions = n.parse().ok()?,
                 ["stop", stop, n] => drop(counts.stops.insert(stop.parse().ok()?, n.parse().ok()?)),
                 ["answer", rule, code, n] => {
                     counts.answers.insert((rule.parse().ok()?, code.parse().ok()?), n.parse().ok()?);
@@ -201,6 +167,9 @@ impl Counts {
             writeln!(out, "every answer that a rule of the original can give was reached, and every stop code")?;
         } else {
             writeln!(out, "not reached: {}", missed.join(", "))?;
+        }
+        if self.questions > 0 {
+            write!(out, "{} questions about final stores; ", grouped(self.questions))?;
         }
         writeln!(out, "in all {} jobs, {} differences", grouped(self.jobs), self.differences)
     }

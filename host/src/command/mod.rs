@@ -1,5 +1,6 @@
 //! The commands, and what they share.
 pub mod bench;
+mod case;
 pub mod check;
 pub mod checker;
 pub mod compare;
@@ -11,6 +12,8 @@ mod reader;
 pub mod show;
 mod smtlib;
 pub mod soak;
+pub mod sweep;
+mod sweeps;
 mod table;
 
 use bitblast_host::{MAX_JOB_BYTES, Report};

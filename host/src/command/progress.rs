@@ -1,6 +1,8 @@
 //! A line on a terminal that says how far long work is.
 use std::{
     io::{IsTerminal, Write, stderr},
+    sync::mpsc::{RecvTimeoutError, channel},
+    thread,
     time::{Duration, Instant},
 };
 
@@ -35,4 +37,20 @@ impl Drop for Progress {
             let _ = write!(stderr(), "\r\x1b[K");
         }
     }
+}
+
+/// Does long work, and shows meanwhile how many seconds it has taken: the library says nothing before it is done.
+pub fn during<T>(what: &str, work: impl FnOnce() -> T) -> T {
+    let (done, end) = channel::<()>();
+    thread::scope(|scope| {
+        scope.spawn(move || {
+            let (mut progress, begun) = (Progress::new(), Instant::now());
+            while end.recv_timeout(EVERY) == Err(RecvTimeoutError::Timeout) {
+                progress.show(|| format!("{what}: {} s", begun.elapsed().as_secs()));
+            }
+        });
+        let result = work();
+        drop(done);
+        result
+    })
 }

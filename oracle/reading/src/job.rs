@@ -61,16 +61,27 @@ struct Run<'a> {
     lent: Lent,
 }
 
+/// The list as a job left it: a term's place is its number.
+pub struct Final {
+    pub pool: Pool,
+    pub list: Vec<Id>,
+}
+
 /// Runs a job; `seen` gets each answered step.
-pub fn run(job: &[u8], lent: Lent, mut seen: impl FnMut(Step)) -> Outcome {
+pub fn run(job: &[u8], lent: Lent, seen: impl FnMut(Step)) -> Outcome {
+    run_whole(job, lent, seen).0
+}
+
+/// The same with the list at the end.
+pub fn run_whole(job: &[u8], lent: Lent, mut seen: impl FnMut(Step)) -> (Outcome, Final) {
     let mut outcome = Outcome { stop: 0, records: 0, answers: 0, terms: 2, repeats: 0 };
-    if job.len() > LONGEST {
-        outcome.stop = 2;
-        return outcome;
-    }
     let (records, kept, steps) = Default::default();
     let mut run = Run { pool: Pool::default(), list: vec![YES, NO], records, kept, steps, repeats: 0, lent };
     let mut rest = job;
+    if job.len() > LONGEST {
+        outcome.stop = 2;
+        rest = &[];
+    }
     while !rest.is_empty() {
         match cut(rest).and_then(|(record, after)| run.record(record, &mut seen).map(|()| after)) {
             Ok(after) => rest = after,
@@ -84,7 +95,7 @@ pub fn run(job: &[u8], lent: Lent, mut seen: impl FnMut(Step)) -> Outcome {
     outcome.answers = run.steps.len();
     outcome.terms = run.list.len();
     outcome.repeats = run.repeats;
-    outcome
+    (outcome, Final { pool: run.pool, list: run.list })
 }
 
 fn word(bytes: &[u8]) -> u16 {
@@ -230,7 +241,7 @@ fn own_numbers(kind: u16, own: &[u8]) -> Vec<u64> {
     words(own).iter().map(|&n| n as u64).collect()
 }
 
-/// The text of an .expect file.
+/// The text of an .expect file, as far as it is about the job.
 pub fn expect_text(job: &[u8], lent: Lent) -> String {
     let mut bytes = String::new();
     let out = run(job, lent, |step| {

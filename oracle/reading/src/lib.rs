@@ -8,10 +8,12 @@ pub mod generate;
 pub mod job;
 pub mod kind;
 pub mod pool;
+pub mod question;
 pub mod rng;
 pub mod rule;
 pub mod shift;
 pub mod sort;
+pub mod survey;
 pub mod value;
 
 /// Document 01's specimen of a job.

@@ -1,12 +1,14 @@
 //! The command line `reading`.
-use reading::generate::write_all;
+use reading::generate::{write_all, write_asked};
 use reading::job::{self, Lent};
+use reading::question::Question;
 use std::{error::Error, fs, io::Read, path::Path, process::exit};
 
 const USAGE: &str = "usage:
   reading run < FILE.job          prints what bbcheck prints
   reading case FILE WORK ROOM     prints the .expect text for that much work memory and answer room
   reading gen SEED COUNT DIR      writes COUNT cases and a summary; status 1 where the cases show a fault
+  reading ask SEED COUNT DIR      the same with questions about the jobs' final lists
   reading verify DIR              reads the cases of a folder against their .expect files; status 1 where one differs";
 
 fn main() {
@@ -38,6 +40,11 @@ fn commands() -> Result<i32, Box<dyn Error>> {
             print!("{}", summary.text());
             Ok(i32::from(!summary.faults.is_empty()))
         }
+        ["ask", seed, count, folder] => {
+            let survey = write_asked(seed.parse()?, count.parse()?, Path::new(folder))?;
+            print!("{}", survey.text());
+            Ok(i32::from(!survey.faults.is_empty()))
+        }
         ["verify", folder] => verify(Path::new(folder)),
         _ => Err(USAGE.into()),
     }
@@ -57,7 +64,11 @@ fn verify(folder: &Path) -> Result<i32, Box<dyn Error>> {
             return Err(format!("{} lends no memory", path.with_extension("expect").display()).into());
         };
         cases += 1;
-        if job::expect_text(&fs::read(&path)?, Lent { work, room }) != expected {
+        let (job, lent) = (fs::read(&path)?, Lent { work, room });
+        let (outcome, store) = job::run_whole(&job, lent, |_| {});
+        let questions = expected.lines().filter_map(Question::parse);
+        let asked = questions.map(|question| question.text() + &question.answer(outcome.stop, &store).text());
+        if job::expect_text(&job, lent) + &asked.collect::<String>() != expected {
             differing += 1;
             println!("DIFFERS {}", path.display());
         }

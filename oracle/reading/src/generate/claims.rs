@@ -62,7 +62,7 @@ impl Maker {
     }
 
     /// An amount that fits, often the smallest or largest one.
-    fn amount(&mut self, kind: u16, width: usize) -> usize {
+    pub fn amount(&mut self, kind: u16, width: usize) -> usize {
         let most = match kind {
             ZERO_EXTEND => 64 - width,
             REPEAT => 64 / width,

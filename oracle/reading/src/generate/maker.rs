@@ -16,6 +16,8 @@ pub struct Maker {
     pub claims: Vec<Option<bool>>,
     /// The steps, as a chain sees them.
     pub premises: Vec<Premise>,
+    /// On how many assignments the sides of an Equals differ, where its making says so.
+    pub known: HashMap<Id, u64>,
 }
 
 /// A step's literal and its number, and whether a chain may name it, where that is known.
@@ -37,6 +39,7 @@ impl Maker {
             peak: 2,
             claims: Vec::new(),
             premises: Vec::new(),
+            known: HashMap::new(),
         }
     }
 

@@ -1,20 +1,26 @@
 //! Jobs made from a seed: right and wrong claims of every rule, bad records of every kind, lent memory around what is needed.
 mod alike;
+mod asked;
 mod chains;
 mod claims;
+mod equalities;
 mod large;
 mod maker;
+mod over;
 mod records;
 mod slices;
 mod terms;
 mod wrong;
 
+pub use asked::{Asked, asked_case};
 pub use maker::Maker;
 
 use crate::check::Summary;
 use crate::job::{ANSWER, Lent, ROW, expect_text};
 use crate::rule::STEP_RULES;
+use crate::survey::Survey;
 use std::fs::{self, File};
+use std::io;
 use std::path::Path;
 
 pub struct Case {
@@ -22,6 +28,8 @@ pub struct Case {
     pub lent: Lent,
     /// For each step, whether its claim is right, where that is known.
     pub claims: Vec<Option<bool>>,
+    /// What is asked of the final list.
+    pub asked: Vec<Asked>,
 }
 
 impl Case {
@@ -29,7 +37,13 @@ impl Case {
     fn of(maker: &mut Maker) -> Self {
         let lent = Lent { work: ROW * (maker.peak - 2), room: ANSWER * maker.claims.len() };
         let (job, claims) = (std::mem::take(&mut maker.bytes), std::mem::take(&mut maker.claims));
-        Case { job, lent, claims }
+        Case { job, lent, claims, asked: Vec::new() }
+    }
+
+    /// The text of the .expect file.
+    pub fn text(&self) -> String {
+        let asked = self.asked.iter().map(|asked| asked.question.text() + &asked.answer.text());
+        expect_text(&self.job, self.lent) + &asked.collect::<String>()
     }
 }
 
@@ -90,21 +104,38 @@ fn damage(maker: &mut Maker, case: &mut Case) {
 }
 
 /// Writes cases NNNNN.job and NNNNN.expect and summary.txt.
-pub fn write_all(seed: u64, count: usize, folder: &Path) -> std::io::Result<Summary> {
+pub fn write_all(seed: u64, count: usize, folder: &Path) -> io::Result<Summary> {
     fs::create_dir_all(folder)?;
     let mut summary = Summary::default();
     for i in 0..count {
         let case = case(seed, i);
-        let path = folder.join(format!("{i:05}.job"));
-        if case.job.iter().all(|&byte| byte == 0) {
-            // The longest jobs are zeros, which a sparse file holds in no space.
-            File::create(&path)?.set_len(case.job.len() as u64)?;
-        } else {
-            fs::write(&path, &case.job)?;
-        }
-        fs::write(path.with_extension("expect"), expect_text(&case.job, case.lent))?;
+        write(&case, i, folder)?;
         summary.look(i, &case);
     }
     fs::write(folder.join("summary.txt"), summary.text())?;
     Ok(summary)
+}
+
+/// The same for cases with questions.
+pub fn write_asked(seed: u64, count: usize, folder: &Path) -> io::Result<Survey> {
+    fs::create_dir_all(folder)?;
+    let mut survey = Survey::default();
+    for i in 0..count {
+        let case = asked_case(seed, i);
+        write(&case, i, folder)?;
+        survey.look(i, &case);
+    }
+    fs::write(folder.join("summary.txt"), survey.text())?;
+    Ok(survey)
+}
+
+fn write(case: &Case, i: usize, folder: &Path) -> io::Result<()> {
+    let path = folder.join(format!("{i:05}.job"));
+    if case.job.iter().all(|&byte| byte == 0) {
+        // The longest jobs are zeros, which a sparse file holds in no space.
+        File::create(&path)?.set_len(case.job.len() as u64)?;
+    } else {
+        fs::write(&path, &case.job)?;
+    }
+    fs::write(path.with_extension("expect"), case.text())
 }

@@ -1,0 +1,145 @@
+//! A case of the oracle: a job, the memory lent, what is expected of it, and questions about its final store.
+use bitblast_host::{ANSWER_BYTES, Answers, Outcome, lent::Lent, run_job, sweep_job};
+
+/// What is expected of a job.
+pub struct Expected {
+    work: usize,
+    room: usize,
+    /// The outcome's numbers.
+    outcome: [u32; 5],
+    answers: Vec<u8>,
+    pub questions: Vec<Question>,
+}
+
+/// The lines about the job itself.
+const JOB_LINES: usize = 8;
+
+/// A question about a job's final store, with the answer.
+pub enum Question {
+    /// The number, the bytes of value buffer, and then the code and both counts.
+    Sweep { number: u32, values: usize, swept: [u32; 3] },
+}
+
+impl Expected {
+    pub fn parse(text: &str) -> Option<Self> {
+        let field =
+            |name: &str| text.lines().find_map(|line| line.strip_prefix(name)).and_then(|rest| rest.strip_prefix(' '));
+        let number = |name: &str| field(name)?.trim().parse::<u32>().ok();
+        let hex = field("bytes")?.trim().as_bytes();
+        let digit = |c: u8| (c as char).to_digit(16);
+        let answers = hex.chunks(2).map(|pair| match pair {
+            &[high, low] => Some((digit(high)? * 16 + digit(low)?) as u8),
+            _ => None,
+        });
+        let lines: Vec<&str> = text.lines().skip(JOB_LINES).collect();
+        Some(Expected {
+            work: number("work")? as usize,
+            room: number("room")? as usize,
+            outcome: [number("stop")?, number("records")?, number("answers")?, number("terms")?, number("repeats")?],
+            answers: answers.collect::<Option<_>>()?,
+            questions: lines.chunks(2).map(Question::parse).collect::<Option<_>>()?,
+        })
+    }
+}
+
+impl Question {
+    /// A question's line and its answer's.
+    fn parse(lines: &[&str]) -> Option<Self> {
+        let words: Vec<&str> = lines.iter().flat_map(|line| line.split(' ')).collect();
+        match words[..] {
+            ["sweep", number, values, "swept", code, assignments, differing] => Some(Question::Sweep {
+                number: number.parse().ok()?,
+                values: values.parse().ok()?,
+                swept: [code.parse().ok()?, assignments.parse().ok()?, differing.parse().ok()?],
+            }),
+            _ => None,
+        }
+    }
+}
+
+/// The calls of a case, each on memory with new garbage.
+pub struct Call<'a> {
+    job: &'a [u8],
+    expected: &'a Expected,
+    seed: u64,
+    work: Lent,
+    answers: Lent,
+}
+
+impl<'a> Call<'a> {
+    pub fn new(job: &'a [u8], expected: &'a Expected, seed: u64) -> Self {
+        Call { job, expected, seed, work: Lent::new(expected.work), answers: Lent::new(expected.room) }
+    }
+
+    /// Runs the job and shows what came of it; the first difference, if there is one.
+    pub fn job(&mut self, look: impl FnOnce(Outcome, &[u8])) -> Option<String> {
+        let (work, answers) = self.lend();
+        let outcome = run_job(
+            self.job,
+            self.work.ready(self.expected.work, work),
+            self.answers.ready(self.expected.room, answers),
+        );
+        look(outcome, self.answers.bytes());
+        self.job_difference(outcome)
+    }
+
+    /// Asks a question; the first difference, if there is one.
+    pub fn ask(&mut self, question: &Question) -> Option<String> {
+        let Question::Sweep { number, values: size, swept } = *question;
+        let (mut values, (work, answers)) = (Lent::new(size), self.lend());
+        let found = sweep_job(
+            self.job,
+            self.work.ready(self.expected.work, work),
+            self.answers.ready(self.expected.room, answers),
+            values.ready(size, work ^ answers),
+            number,
+        );
+        let numbers = [found.code, found.assignments, found.differing];
+        if numbers != swept {
+            return Some(format!("sweep of term {number}: expected {swept:?}, found {numbers:?}"));
+        }
+        let difference = self.job_difference(found.outcome).or_else(|| values_difference(&values, found.code));
+        difference.map(|difference| format!("sweep of term {number}: {difference}"))
+    }
+
+    /// Seeds of garbage for the work memory and the answers.
+    fn lend(&mut self) -> (u64, u64) {
+        self.seed = self.seed.wrapping_add(1);
+        (self.seed, self.seed.wrapping_mul(7))
+    }
+
+    /// Where the outcome, the answers or the memories are not as expected.
+    fn job_difference(&self, outcome: Outcome) -> Option<String> {
+        let Call { expected, work, answers, .. } = self;
+        let written = ANSWER_BYTES * outcome.answers as usize;
+        if outcome.numbers() != expected.outcome {
+            Some(format!("expected {:?}, found {outcome:?}", expected.outcome))
+        } else if answers.bytes().get(..written) != Some(&expected.answers[..]) {
+            let pairs =
+                Answers::new(&expected.answers, outcome.answers).zip(Answers::new(answers.bytes(), outcome.answers));
+            let first = pairs.into_iter().find(|(a, b)| a != b);
+            Some(format!("answers differ, the first (expected, found): {first:?}"))
+        } else if !answers.untouched_from(written) {
+            Some("answer bytes past the last answer are not as they were".to_owned())
+        } else if !work.is_zero() {
+            Some("work memory is not zero".to_owned())
+        } else if !work.fences_stand() || !answers.fences_stand() {
+            Some("memory that was not lent was written".to_owned())
+        } else {
+            None
+        }
+    }
+}
+
+/// Where the value buffer is not as a call with that code leaves it.
+fn values_difference(values: &Lent, code: u32) -> Option<String> {
+    if code == 0 && !values.is_zero() {
+        Some("the value buffer is not zero".to_owned())
+    } else if code != 0 && !values.untouched_from(0) {
+        Some("the value buffer of a refused question is not as it was".to_owned())
+    } else if !values.fences_stand() {
+        Some("memory beside the value buffer was written".to_owned())
+    } else {
+        None
+    }
+}

@@ -1,0 +1,99 @@
+//! Sweeps: the service, and the library beside a plain evaluator of the same terms.
+use bitblast_host::{
+    MAX_SWEPT_BITS, Service, Tally, Verdict,
+    jobs::{self, JobWriter, Kind, TRUE, Term},
+    plain::Plain,
+    rng::Rng,
+    words,
+};
+
+/// A job that claims nothing, and the number of an equality in it.
+fn equality(build: impl FnOnce(&mut JobWriter) -> (Term, Term)) -> (Vec<u8>, u32) {
+    let mut job = JobWriter::new();
+    let (left, right) = build(&mut job);
+    let equality = job.term(Kind::Equals, &[left, right]);
+    let number = job.number(equality);
+    (job.finish(), number.into())
+}
+
+#[test]
+fn a_service_sweeps() {
+    let mut service = Service::new(1 << 16, 100);
+    let sweep = service.sweep(&jobs::specimen(), 9);
+    assert_eq!((sweep.code(), sweep.assignments(), sweep.differing(), sweep.no_difference()), (0, 4, 0, true));
+    assert_eq!(sweep.outcome().numbers(), [0, 9, 1, 10, 0]);
+    assert_eq!(sweep.answers().map(|answer| answer.verdict()).collect::<Vec<_>>(), [Verdict::Held]);
+    assert_eq!(service.tally(), Tally::default());
+    // A larger store, then the small one again in the larger buffer.
+    let (wide, number) = equality(|job| {
+        let (x, c) = (job.bv_var(16, 0), job.constant(16, 9));
+        for k in 0..1_000 {
+            let other = job.bool_var(k);
+            job.number(other);
+        }
+        (x, c)
+    });
+    let sweep = service.sweep(&wide, number);
+    assert_eq!((sweep.outcome().terms, number), (1_005, 1_004));
+    assert_eq!((sweep.assignments(), sweep.differing(), sweep.no_difference()), (65_536, 65_535, false));
+    assert!(service.sweep(&jobs::specimen(), 9).no_difference());
+    for number in [8, 10, u32::MAX] {
+        let sweep = service.sweep(&jobs::specimen(), number);
+        assert_eq!((sweep.code(), sweep.assignments(), sweep.no_difference()), (20, 0, false));
+        assert_eq!(sweep.meaning(), words::sweep_meaning(20));
+    }
+    assert_eq!(service.sweep(&jobs::specimen()[..69], 9).outcome().stop, 3);
+}
+
+/// One pattern of sixteen bits makes the difference, and seventeen bits are refused.
+#[test]
+fn one_assignment_in_many() {
+    let mut service = Service::new(1 << 16, 100);
+    for value in [0, 1, 300, 65_535] {
+        let (job, number) = equality(|job| {
+            let (x, y, z) = (job.bool_var(1), job.bv_var(7, 1), job.bv_var(8, 1));
+            let values = [job.constant(7, value >> 1), job.constant(8, value >> 8)];
+            let not_x = job.term(Kind::Not, &[x]);
+            let tests = [
+                if value % 2 == 1 { x } else { not_x },
+                job.term(Kind::Equals, &[y, values[0]]),
+                job.term(Kind::Equals, &[values[1], z]),
+            ];
+            let all = job.term(Kind::And, &tests);
+            (job.term(Kind::Not, &[all]), TRUE)
+        });
+        let sweep = service.sweep(&job, number);
+        assert_eq!((sweep.code(), sweep.assignments(), sweep.differing()), (0, 65_536, 1), "{value}");
+    }
+    let (job, number) = equality(|job| (job.bv_var(17, 0), job.bv_var(17, 0)));
+    assert_eq!(service.sweep(&job, number).code(), 20);
+}
+
+/// Every equality of random jobs: the library and the plain evaluator find the same, and none where the step is held.
+#[test]
+fn beside_a_plain_evaluator() {
+    let mut rng = Rng::new(20);
+    let mut service = Service::new(1 << 20, 1 << 12);
+    let (mut same, mut apart, mut refused) = (0, 0, 0);
+    for _ in 0..400 {
+        let (job, _) = jobs::random_right(&mut rng);
+        let terms = service.check(&job).outcome().terms;
+        let plain = Plain::read(&job);
+        for number in (0..terms).filter(|&number| plain.kind(number as usize) == Some(Kind::Equals)) {
+            let mut program = plain.program(number as usize).unwrap();
+            let bits = program.bits() as usize;
+            if bits > 10 && bits <= MAX_SWEPT_BITS {
+                continue;
+            }
+            let sweep = service.sweep(&job, number);
+            if bits > MAX_SWEPT_BITS {
+                refused += 1;
+                assert_eq!((sweep.code(), sweep.assignments(), sweep.differing()), (20, 0, 0));
+                continue;
+            }
+            assert_eq!((sweep.code(), (sweep.assignments(), sweep.differing())), (0, program.sweep()), "term {number}");
+            *if sweep.no_difference() { &mut same } else { &mut apart } += 1;
+        }
+    }
+    assert!(same > 100 && apart > 20 && refused > 50, "{same} equal, {apart} not, {refused} refused");
+}

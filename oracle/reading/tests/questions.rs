@@ -1,0 +1,115 @@
+//! Questions about a job's final list, with answers worked out by hand.
+use reading::generate::{Maker, asked_case};
+use reading::job::{Final, Lent, run_whole};
+use reading::kind::*;
+use reading::pool::{Id, NO, YES};
+use reading::question::{Answer, Question, Standing};
+use reading::rule::expected;
+use reading::{specimen, survey::Survey};
+
+const MUCH: Lent = Lent { work: 1 << 20, room: 1 << 16 };
+
+fn sweep(job: &[u8], lent: Lent, number: u32, values: usize) -> (u16, u64, u64) {
+    let (outcome, store) = run_whole(job, lent, |_| {});
+    let Answer::Swept { code, assignments, differing } =
+        Question::Sweep { number, values }.answer(outcome.stop, &store);
+    (code, assignments, differing)
+}
+
+/// The sweep of an Equals of two terms, with enough memory.
+fn swept(build: impl FnOnce(&mut Maker) -> (Id, Id)) -> (u16, u64, u64) {
+    let mut maker = Maker::new(0);
+    let (left, right) = build(&mut maker);
+    let equality = maker.equals(left, right);
+    let number = maker.emit(equality);
+    sweep(&maker.bytes, MUCH, number.into(), 8 * maker.list.len())
+}
+
+/// The left side of a rule over two variables, and its circuit.
+fn circuit(maker: &mut Maker, rule: u16, kind: u16, width: usize) -> (Id, Id) {
+    let (x, y) = (maker.variable(width, 0), maker.variable(width, 1));
+    let left = maker.pool.op(kind, &[x, y]);
+    (left, expected(&mut maker.pool, rule, left))
+}
+
+#[test]
+fn the_specimen() {
+    let job = specimen();
+    assert_eq!(sweep(&job, MUCH, 9, 80), (0, 4, 0));
+    assert_eq!(sweep(&job, MUCH, 9, 1000), (0, 4, 0));
+    assert_eq!(sweep(&job, MUCH, 9, 79), (21, 0, 0));
+    // Terms that are no Equals, numbers that are none's: before the buffer is looked at.
+    for number in [0, 1, 2, 8, 10, 65_536 + 9, u32::MAX] {
+        assert_eq!(sweep(&job, MUCH, number, 80), (20, 0, 0), "{number}");
+        assert_eq!(sweep(&job, MUCH, number, 0), (20, 0, 0), "{number}");
+    }
+}
+
+#[test]
+fn jobs_that_stop_early() {
+    let job = specimen();
+    assert_eq!(sweep(&job, Lent { work: 64, room: 9 }, 9, 80), (20, 0, 0));
+    assert_eq!(sweep(&job, Lent { work: 63, room: 10 }, 9, 80), (20, 0, 0));
+    assert_eq!(sweep(&job[..job.len() - 1], MUCH, 9, 80), (20, 0, 0));
+    assert_eq!(sweep(&vec![0; 16_777_217], MUCH, 9, 80), (20, 0, 0));
+}
+
+/// Document 01's rows of values at width 1: bvashr differs at x 1, y 1 alone.
+#[test]
+fn circuits_that_are_not_the_standards() {
+    assert_eq!(swept(|m| circuit(m, 20, BV_ASHR, 1)), (0, 4, 1));
+    assert_eq!(swept(|m| circuit(m, 26, BV_ASHR, 1)), (0, 4, 0));
+    assert_eq!(swept(|m| circuit(m, 11, BV_MUL, 2)), (0, 16, 0));
+    assert_eq!(swept(|m| circuit(m, 24, BV_UDIV, 3)), (0, 64, 0));
+}
+
+#[test]
+fn variables() {
+    assert_eq!(swept(|_| (YES, NO)), (0, 1, 1));
+    assert_eq!(swept(|_| (YES, YES)), (0, 1, 0));
+    // A Bool variable has one bit, and the same variable on both sides counts once.
+    assert_eq!(swept(|m| (m.pool.add(BOOL, &[3], &[]), YES)), (0, 2, 1));
+    assert_eq!(swept(|m| (m.variable(5, 3), m.variable(5, 3))), (0, 32, 0));
+    assert_eq!(swept(|m| (m.variable(5, 3), m.variable(5, 4))), (0, 1024, 1024 - 32));
+    assert_eq!(swept(|m| (m.variable(16, 0), m.pool.add(CONSTANT, &[16, 7], &[]))), (0, 65_536, 65_535));
+    assert_eq!(swept(|m| (m.variable(17, 0), m.pool.add(CONSTANT, &[17, 7], &[]))), (20, 0, 0));
+}
+
+/// The variable with the lowest number, not the one made first, is the lowest digit; assignments go upward from zero.
+#[test]
+fn the_order_of_assignments() {
+    let mut maker = Maker::new(0);
+    let (x, y) = (maker.variable(2, 0), maker.pool.add(BOOL, &[0], &[]));
+    let x0 = maker.pool.bit(0, x);
+    let equality = maker.equals(x0, y);
+    maker.emit(equality);
+    maker.back(2);
+    maker.emit(y);
+    maker.emit(x);
+    let number = maker.emit(equality);
+    let (_, store) = run_whole(&maker.bytes, MUCH, |_| {});
+    let Final { pool, list } = &store;
+    assert_eq!((pool.kind(list[2]), pool.kind(list[3])), (BOOL, VARIABLE));
+    let mut seen = Vec::new();
+    let standing = Standing::of(&store, list[usize::from(number)]);
+    standing.each_assignment(pool, |values| seen.push((values[list[2]], values[list[3]])));
+    assert_eq!(seen, [(0, 0), (1, 0), (0, 1), (1, 1), (0, 2), (1, 2), (0, 3), (1, 3)]);
+}
+
+#[test]
+fn lines() {
+    let question = Question::Sweep { number: 9, values: 80 };
+    assert_eq!(question.text(), "sweep 9 80\n");
+    assert_eq!(Question::parse("sweep 9 80"), Some(question));
+    for other in ["swept 0 4 0", "sweep 9", "sweep 9 80 1", "sweep -1 80", "terms 10"] {
+        assert_eq!(Question::parse(other), None, "{other}");
+    }
+}
+
+/// Every kind is swept with and without a difference, and nothing contradicts what is known beforehand.
+#[test]
+fn cases_reach_everything() {
+    let mut survey = Survey::default();
+    (0..2_000).for_each(|i| survey.look(i, &asked_case(7, i)));
+    assert_eq!((survey.faults.clone(), survey.missing()), (vec![], vec![]));
+}
