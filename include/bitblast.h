@@ -26,7 +26,7 @@ extern "C" {
 
 /* The number of the interface that is declared here. It grows with each change of a function or struct below: a program that is
  * compiled with this header must be linked with a library whose bb_version() gives the same number. */
-#define BB_VERSION 3
+#define BB_VERSION 4
 
 /* The longest job, in bytes. */
 #define BB_MAX_JOB 16777216
@@ -168,6 +168,12 @@ typedef struct BbSwept {
     BbOutcome outcome;    /* what the job came to */
 } BbSwept;
 
+/* What counting a term's values came to. */
+typedef struct BbCounted {
+    uint32_t code;     /* 0 where the counts were written, else 20, 21 or 22 */
+    BbOutcome outcome; /* what the job came to */
+} BbCounted;
+
 /* What the jobs of a service came to. Each number saturates. */
 typedef struct BbTally {
     uint64_t jobs;
@@ -194,6 +200,18 @@ BbSwept bb_sweep(const uint8_t *job, size_t job_len,
                  uint8_t *answers, size_t answers_len,
                  uint8_t *values, size_t values_len,
                  uint32_t number);
+
+/* Runs a job as bb_job does, and counts how many assignments of the variables that stand in the term of that number of its final store lead to
+ * each of its values. The counts stand at the start of `counts`, the lowest value's first, `false` before `true`; the numbers past the last
+ * value are as they were, and all of them where the code is not 0. `counts_len` is in numbers. `values` is left as bb_sweep leaves it. The
+ * code is 20 where the job stops early, the number is not that of a kept Bool or bit-vector of width up to 8, or its variables have more than
+ * 16 bits; else 21 as in bb_sweep; else 22 where `counts` is shorter than the number of values, which is 2, or 256 at width 8. */
+BbCounted bb_count(const uint8_t *job, size_t job_len,
+                   uint8_t *work, size_t work_len,
+                   uint8_t *answers, size_t answers_len,
+                   uint8_t *values, size_t values_len,
+                   uint32_t number,
+                   uint32_t *counts, size_t counts_len);
 
 /* Adds one job and its first `count` answers to a tally; where `answers` is shorter, those that it has whole. */
 void bb_tally(BbTally *tally, const uint8_t *answers, size_t answers_len, uint32_t count);

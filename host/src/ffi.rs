@@ -1,5 +1,5 @@
 //! The functions of the static library, declared by hand: nothing checks these declarations against the Rattle source
-//! (`bb_job`, `bb_sweep`, `bb_version` and what they return in crates/bitblast, `Tally` in crates/tally). tests/ffi.rs does what can be done: it
+//! (`bb_job`, `bb_sweep`, `bb_count`, `bb_version` and what they return in crates/bitblast, `Tally` in crates/tally). tests/ffi.rs does what can be done: it
 //! compares the text of both, the interface's number, and sizes, offsets and the bytes around each lent slice.
 
 /// What a job came to. Later interfaces may add numbers.
@@ -45,6 +45,17 @@ pub struct Swept {
     pub outcome: Outcome,
 }
 
+/// What counting a term's values came to. Later interfaces may add numbers.
+#[repr(C)]
+#[non_exhaustive]
+#[derive(Clone, Copy, Debug, Default, PartialEq, Eq)]
+pub struct Counted {
+    /// 0 where the counts were written, else the code that refused them.
+    pub code: u32,
+    /// What the job came to.
+    pub outcome: Outcome,
+}
+
 unsafe extern "C" {
     fn bb_job(
         job: *const u8,
@@ -66,6 +77,20 @@ unsafe extern "C" {
         values_len: usize,
         number: u32,
     ) -> Swept;
+
+    fn bb_count(
+        job: *const u8,
+        job_len: usize,
+        work: *mut u8,
+        work_len: usize,
+        answers: *mut u8,
+        answers_len: usize,
+        values: *mut u8,
+        values_len: usize,
+        number: u32,
+        counts: *mut u32,
+        counts_len: usize,
+    ) -> Counted;
 
     fn bb_tally(tally: *mut Tally, answers: *const u8, answers_len: usize, count: u32);
 
@@ -127,6 +152,38 @@ pub fn sweep_job(job: &[u8], work: &mut [u8], answers: &mut [u8], values: &mut [
             values.as_mut_ptr(),
             values.len(),
             number,
+        )
+    }
+}
+
+/// Runs a job as [`run_job`] does, and counts how many assignments of the variables that stand in the term of that number of its final store
+/// lead to each of its values. The counts stand at the start of `counts`, the lowest value's first, `false` before `true`; the numbers past
+/// the last value are as they were, and all of them where the code is not 0. `values` is left as [`sweep_job`] leaves it.
+///
+/// The code is 20 where the job stops early, the number is not that of a kept Bool or bit-vector of width up to 8, or its variables have
+/// more than 16 bits; else 21 as in [`sweep_job`]; else 22 where `counts` is shorter than the number of values.
+pub fn count_job(
+    job: &[u8],
+    work: &mut [u8],
+    answers: &mut [u8],
+    values: &mut [u8],
+    number: u32,
+    counts: &mut [u32],
+) -> Counted {
+    // SAFETY: each pointer is valid for its length, and the borrows keep the five apart.
+    unsafe {
+        bb_count(
+            job.as_ptr(),
+            job.len(),
+            work.as_mut_ptr(),
+            work.len(),
+            answers.as_mut_ptr(),
+            answers.len(),
+            values.as_mut_ptr(),
+            values.len(),
+            number,
+            counts.as_mut_ptr(),
+            counts.len(),
         )
     }
 }

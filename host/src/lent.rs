@@ -1,61 +1,88 @@
-//! Memory to lend to the library, with garbage in it and a fence of known bytes before and behind.
+//! Memory to lend to the library, with garbage in it and a fence of known bytes or numbers before and behind.
 
-/// The bytes of a fence.
+/// The length of a fence.
 const FENCE: usize = 64;
 
-/// What a fence holds.
-const POST: u8 = 0xA5;
+/// What memory is made of: bytes, or numbers.
+pub trait Unit: Copy + PartialEq {
+    /// What a fence holds.
+    const POST: Self;
+    const ZERO: Self;
+
+    /// The garbage at place k.
+    fn garbage(seed: u64, k: usize) -> Self;
+}
+
+impl Unit for u8 {
+    const POST: u8 = 0xA5;
+    const ZERO: u8 = 0;
+
+    fn garbage(seed: u64, k: usize) -> u8 {
+        (seed as u8).wrapping_add((k as u8).wrapping_mul(31)) ^ (k >> 8) as u8
+    }
+}
+
+impl Unit for u32 {
+    const POST: u32 = 0xA5A5_A5A5;
+    const ZERO: u32 = 0;
+
+    fn garbage(seed: u64, k: usize) -> u32 {
+        (seed as u32).wrapping_add(k as u32).wrapping_mul(0x9E37_79B1)
+    }
+}
 
 /// One run of memory of which parts are lent, job after job.
-pub struct Lent {
-    bytes: Vec<u8>,
+pub struct Lent<T = u8> {
+    units: Vec<T>,
     size: usize,
     seed: u64,
 }
 
-/// The garbage at place k.
-fn garbage(seed: u64, k: usize) -> u8 {
-    (seed as u8).wrapping_add((k as u8).wrapping_mul(31)) ^ (k >> 8) as u8
-}
-
-impl Lent {
-    /// Memory of which up to `most` bytes can be lent.
+impl<T: Unit> Lent<T> {
+    /// Memory of which up to `most` units can be lent.
     pub fn new(most: usize) -> Self {
-        Lent { bytes: vec![POST; FENCE + most + FENCE], size: 0, seed: 0 }
+        Lent { units: vec![T::POST; FENCE + most + FENCE], size: 0, seed: 0 }
     }
 
-    /// Makes the first `size` bytes ready, with garbage in them, and gives them. More than there is, is cut.
-    pub fn ready(&mut self, size: usize, seed: u64) -> &mut [u8] {
-        self.size = size.min(self.bytes.len() - 2 * FENCE);
+    /// Makes the first `size` units ready, with garbage in them, and gives them. More than there is, is cut.
+    pub fn ready(&mut self, size: usize, seed: u64) -> &mut [T] {
+        self.size = size.min(self.units.len() - 2 * FENCE);
         self.seed = seed;
-        for (k, byte) in self.bytes[FENCE..FENCE + self.size].iter_mut().enumerate() {
-            *byte = garbage(seed, k);
+        for (k, unit) in self.units[FENCE..FENCE + self.size].iter_mut().enumerate() {
+            *unit = T::garbage(seed, k);
         }
-        self.bytes[..FENCE].fill(POST);
-        self.bytes[FENCE + self.size..][..FENCE].fill(POST);
-        &mut self.bytes[FENCE..FENCE + self.size]
+        self.units[..FENCE].fill(T::POST);
+        self.units[FENCE + self.size..][..FENCE].fill(T::POST);
+        &mut self.units[FENCE..FENCE + self.size]
     }
 
     /// What was lent.
-    pub fn bytes(&self) -> &[u8] {
-        &self.bytes[FENCE..FENCE + self.size]
+    pub fn units(&self) -> &[T] {
+        &self.units[FENCE..FENCE + self.size]
     }
 
     /// Whether both fences are as they were.
     pub fn fences_stand(&self) -> bool {
-        let before = &self.bytes[..FENCE];
-        let behind = &self.bytes[FENCE + self.size..][..FENCE];
-        before.iter().chain(behind).all(|&byte| byte == POST)
+        let before = &self.units[..FENCE];
+        let behind = &self.units[FENCE + self.size..][..FENCE];
+        before.iter().chain(behind).all(|&unit| unit == T::POST)
     }
 
     /// Whether what was lent is all zero.
     pub fn is_zero(&self) -> bool {
-        self.bytes().iter().fold(0, |all, byte| all | byte) == 0
+        self.units().iter().fold(true, |all, &unit| all & (unit == T::ZERO))
     }
 
     /// Whether what was lent still holds its garbage from place `from` on.
     pub fn untouched_from(&self, from: usize) -> bool {
-        let differing = |(k, &byte): (usize, &u8)| u8::from(byte != garbage(self.seed, k));
-        self.bytes().iter().enumerate().skip(from).map(differing).fold(0, |all, one| all | one) == 0
+        let same = |(k, &unit): (usize, &T)| unit == T::garbage(self.seed, k);
+        self.units().iter().enumerate().skip(from).map(same).fold(true, |all, one| all & one)
+    }
+}
+
+impl Lent {
+    /// The bytes lent.
+    pub fn bytes(&self) -> &[u8] {
+        self.units()
     }
 }

@@ -38,12 +38,12 @@ pub mod rng;
 pub mod service;
 pub mod words;
 
-pub use ffi::{Outcome, Swept, Tally, interface, run_job, sweep_job, tally_answers};
-pub use service::{Answer, Answers, Report, Service, Sweep, Verdict};
+pub use ffi::{Counted, Outcome, Swept, Tally, count_job, interface, run_job, sweep_job, tally_answers};
+pub use service::{Answer, Answers, Count, Report, Service, Sweep, Verdict};
 pub use words::{AnswerCode, Kind, Rule, StopCode};
 
 /// The number of the library's interface that this crate is written for.
-pub const INTERFACE: u32 = 3;
+pub const INTERFACE: u32 = 4;
 
 /// The longest job, in bytes; a longer one is answered with stop code 2.
 pub const MAX_JOB_BYTES: usize = 16_777_216;
@@ -57,8 +57,11 @@ pub const TERM_BYTES: usize = 8;
 /// The bytes of a value buffer that a kept term needs, `true` and `false` too.
 pub const VALUE_BYTES: usize = 8;
 
-/// The most bits that the variables of a swept term have.
+/// The most bits that the variables of a swept or counted term have.
 pub const MAX_SWEPT_BITS: usize = 16;
+
+/// The most values that a counted term has: those of width 8.
+pub const MAX_VALUES: usize = 256;
 
 /// The bytes of an answer.
 pub const ANSWER_BYTES: usize = 10;

@@ -2,7 +2,7 @@
 mod command;
 
 use bitblast_host::{interface, words::RULES};
-use command::{Failure, Status, bench, check, checker, compare, show, soak, sweep};
+use command::{Failure, Status, bench, check, checker, compare, count, show, soak, sweep};
 use std::{
     env,
     ffi::OsString,
@@ -63,19 +63,31 @@ fn run(words: &[OsString], out: &mut impl Write) -> Result<Status, Failure> {
         Some("check") if help => print(&[check::USAGE], out),
         Some("show") if help => print(&[show::USAGE], out),
         Some("sweep") if help => print(&[sweep::USAGE], out),
+        Some("count") if help => print(&[count::USAGE], out),
         Some("soak") if help => print(&[soak::USAGE], out),
         Some("bench") if help => print(&[bench::USAGE], out),
         Some("compare") if help => print(&[compare::USAGE], out),
         Some("check") => check::run(rest, out),
         Some("show") => show::run(rest, out),
         Some("sweep") => sweep::run(rest, out),
+        Some("count") => count::run(rest, out),
         Some("soak") => soak::run(rest, out),
         Some("bench") => bench::run(rest, out),
         Some("compare") => compare::run(rest, out),
         Some(checker::WORKER) => checker::work(rest, out),
         Some("--help" | "-h" | "help") => {
             out.write_all(about().as_bytes())?;
-            print(&[check::USAGE, show::USAGE, sweep::USAGE, soak::USAGE, bench::USAGE, compare::USAGE, USAGE], out)
+            let usages = [
+                check::USAGE,
+                show::USAGE,
+                sweep::USAGE,
+                count::USAGE,
+                soak::USAGE,
+                bench::USAGE,
+                compare::USAGE,
+                USAGE,
+            ];
+            print(&usages, out)
         }
         Some("--version" | "-V") => {
             let (version, kit) = (env!("CARGO_PKG_VERSION"), env!("BITBLAST_KIT"));

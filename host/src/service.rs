@@ -1,7 +1,7 @@
 //! A service: memory of its own, a tally, and reports in words.
 use crate::{
-    ANSWER_BYTES, MAX_JOB_BYTES, Outcome, SHORTEST_RECORD, Swept, Tally, VALUE_BYTES, run_job, sweep_job,
-    tally_answers, words,
+    ANSWER_BYTES, Counted, MAX_JOB_BYTES, MAX_VALUES, Outcome, SHORTEST_RECORD, Swept, Tally, VALUE_BYTES, count_job,
+    run_job, sweep_job, tally_answers, words,
 };
 
 /// No job needs more work memory: this is twice what the most terms cost.
@@ -12,6 +12,9 @@ pub const MAX_ANSWER_BYTES: usize = MAX_JOB_BYTES / SHORTEST_RECORD * ANSWER_BYT
 
 /// The code of a question for which the value buffer is too short.
 const SHORT_VALUES: u32 = 21;
+
+/// What no count is: there are at most 65,536 assignments.
+const NO_COUNT: u32 = u32::MAX;
 
 /// Checks jobs one after the other on the same memory, and counts what they came to.
 ///
@@ -24,13 +27,14 @@ const SHORT_VALUES: u32 = 21;
 /// time is bounded by the answers lent and, for terms that collide, by the job's length: for jobs of strangers lend few answers,
 /// and check where the check can be ended, in a process of its own.
 ///
-/// A sweep takes one evaluation for each assignment and each term that stands in the Equals, up to 65,536 times 65,535 of them, after the
+/// A sweep or a count takes one evaluation for each assignment and each term that stands in the asked one, up to 65,536 times 65,535 of them, after the
 /// job's own time.
 pub struct Service {
     work: Vec<u8>,
     answers: Vec<u8>,
     /// As long as the largest job needed that was asked about.
     values: Vec<u8>,
+    counts: [u32; MAX_VALUES],
     tally: Tally,
 }
 
@@ -42,6 +46,7 @@ impl Service {
             work: vec![0; work_bytes.min(MAX_WORK_BYTES)],
             answers: vec![0; answer_bytes.min(MAX_ANSWER_BYTES)],
             values: Vec::new(),
+            counts: [NO_COUNT; MAX_VALUES],
             tally: Tally::default(),
         }
     }
@@ -69,6 +74,21 @@ impl Service {
             swept = sweep_job(job, &mut self.work, &mut self.answers, &mut self.values, number);
         }
         Sweep { swept, answers: &self.answers }
+    }
+
+    /// Runs a job, and counts how many assignments of the variables that stand in the term of that number of its final store lead to each of
+    /// its values. The job is not added to the tally.
+    pub fn count(&mut self, job: &[u8], number: u32) -> Count<'_> {
+        let Service { work, answers, values, counts, .. } = self;
+        counts.fill(NO_COUNT);
+        let mut counted = count_job(job, work, answers, values, number, counts);
+        if counted.code == SHORT_VALUES {
+            values.resize(VALUE_BYTES * counted.outcome.terms as usize, 0);
+            counted = count_job(job, work, answers, values, number, counts);
+        }
+        // The library leaves the numbers past the last value as they were.
+        let size = counts.iter().position(|&count| count == NO_COUNT).unwrap_or(MAX_VALUES);
+        Count { counted, counts: &counts[..size], answers }
     }
 
     /// What all jobs so far came to.
@@ -159,6 +179,41 @@ impl<'a> Sweep<'a> {
     /// The code in words.
     pub fn meaning(&self) -> &'static str {
         words::sweep_meaning(self.swept.code)
+    }
+}
+
+/// What a service says about the values of a term.
+#[derive(Clone, Copy)]
+pub struct Count<'a> {
+    counted: Counted,
+    counts: &'a [u32],
+    answers: &'a [u8],
+}
+
+impl<'a> Count<'a> {
+    /// 0 where every assignment was counted, else why not.
+    pub fn code(&self) -> u32 {
+        self.counted.code
+    }
+
+    /// How many assignments lead to each value, the lowest first, `false` before `true`; none where the code is not 0.
+    pub fn counts(&self) -> &'a [u32] {
+        self.counts
+    }
+
+    /// What the job came to.
+    pub fn outcome(&self) -> Outcome {
+        self.counted.outcome
+    }
+
+    /// The job's answers, in the order of its steps.
+    pub fn answers(&self) -> Answers<'a> {
+        Answers::new(self.answers, self.counted.outcome.answers)
+    }
+
+    /// The code in words.
+    pub fn meaning(&self) -> &'static str {
+        words::count_meaning(self.counted.code)
     }
 }
 

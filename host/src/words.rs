@@ -230,6 +230,17 @@ pub const SWEEPS: [(u32, &str); 3] = [
     (21, "the value buffer has fewer than 8 bytes for each kept term"),
 ];
 
+/// The codes of counts.
+pub const COUNTS: [(u32, &str); 4] = [
+    (0, "every assignment was counted"),
+    (
+        20,
+        "the job stops early, the number is not that of a Bool or of a bit-vector of width up to 8, or its variables have more than 16 bits",
+    ),
+    (21, "the value buffer has fewer than 8 bytes for each kept term"),
+    (22, "there is no room for the counts of all values"),
+];
+
 /// All rules with their numbers.
 pub fn rules() -> impl Iterator<Item = (u16, &'static str)> {
     Rule::ALL.iter().map(|rule| (rule.number(), rule.name()))
@@ -253,4 +264,9 @@ pub fn answer_meaning(code: u16) -> &'static str {
 /// A sweep's code in words.
 pub fn sweep_meaning(code: u32) -> &'static str {
     SWEEPS.iter().find(|(c, _)| *c == code).map_or("unknown code", |(_, words)| words)
+}
+
+/// A count's code in words.
+pub fn count_meaning(code: u32) -> &'static str {
+    COUNTS.iter().find(|(c, _)| *c == code).map_or("unknown code", |(_, words)| words)
 }

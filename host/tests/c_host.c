@@ -1,4 +1,4 @@
-/* Calls the library from C: layout, the specimen at every length of lent memory, a stopped job, a sweep, a tally. */
+/* Calls the library from C: layout, the specimen at every length of lent memory, a stopped job, a sweep, counts, a tally. */
 #include "bitblast.h"
 #include <stdio.h>
 #include <string.h>
@@ -130,6 +130,42 @@ static void sweep_that_differs(void) {
     expect(s.code == 0 && s.assignments == 2 && s.differing == 1 && s.outcome.terms == 4, "a sweep that differs");
 }
 
+/* The specimen's And: three of the four assignments make it false. The numbers past the two counts are as they were. */
+static void counts(void) {
+    static const size_t sizes[] = {0, 79, 80, 100}, runs[] = {0, 1, 2, 5};
+    static const uint32_t numbers[] = {7, 10, UINT32_MAX};
+    for (size_t k = 0; k < 4 * 4 * 3; k++) {
+        size_t size = sizes[k % 4], run = runs[k / 4 % 4];
+        uint32_t number = numbers[k / 16];
+        uint8_t work[64], answers[10], values[FENCE + 100 + FENCE];
+        uint32_t numbers_lent[FENCE + 5 + FENCE];
+        memset(values, POST, sizeof values);
+        memset(values + FENCE, OLD, size);
+        memset(numbers_lent, POST, sizeof numbers_lent);
+        struct {
+            uint32_t before;
+            BbCounted counted;
+            uint32_t behind[4];
+        } c;
+        memset(&c, POST, sizeof c);
+        c.counted = bb_count(specimen, sizeof specimen, work, sizeof work, answers, sizeof answers, values + FENCE, size, number,
+                             numbers_lent + FENCE, run);
+        uint32_t code = number != 7 ? 20 : size < 80 ? 21 : run < 2 ? 22 : 0;
+        expect(c.counted.code == code, "code of a count");
+        BbOutcome o = c.counted.outcome;
+        expect(o.stop == 0 && o.records == 9 && o.answers == 1 && o.terms == 10 && o.repeats == 0, "outcome of a counted job");
+        expect(all((const uint8_t *)&c.before, 0, sizeof c.before, POST) && all((const uint8_t *)c.behind, 0, sizeof c.behind, POST), "fences of a counted");
+        expect(all(work, 0, sizeof work, 0), "work memory of a count is zero");
+        expect(memcmp(answers, answer, sizeof answer) == 0, "the answer of a counted job");
+        expect(all(values, FENCE, FENCE + size, code == 0 ? 0 : OLD), "the value buffer of a count");
+        expect(all(values, 0, FENCE, POST) && all(values, FENCE + size, sizeof values, POST), "fences of a count's value buffer");
+        size_t written = code == 0 ? 2 : 0;
+        expect(written == 0 || (numbers_lent[FENCE] == 3 && numbers_lent[FENCE + 1] == 1), "counts");
+        const uint8_t *bytes = (const uint8_t *)numbers_lent;
+        expect(all(bytes, 0, 4 * FENCE, POST) && all(bytes, 4 * (FENCE + written), sizeof numbers_lent, POST), "numbers beside the counts");
+    }
+}
+
 static void tally(void) {
     struct {
         uint64_t before;
@@ -159,11 +195,13 @@ int main(void) {
     expect(sizeof(BbSwept) == 32 && offsetof(BbSwept, assignments) == 4 && offsetof(BbSwept, differing) == 8 &&
                offsetof(BbSwept, outcome) == 12,
            "layout of BbSwept");
+    expect(sizeof(BbCounted) == 24 && offsetof(BbCounted, outcome) == 4, "layout of BbCounted");
     every_length();
     stopped();
     repeats();
     sweep();
     sweep_that_differs();
+    counts();
     tally();
     if (failures == 0) {
         printf("ok\n");

@@ -127,6 +127,24 @@ fn sweeps_in_words() {
 }
 
 #[test]
+fn counts_as_bars() {
+    let found = bbhost(&["count", "-", "7"], &jobs::specimen());
+    let (long, short) = ("#".repeat(50), "#".repeat(17));
+    let expected =
+        format!("-: term 7: 4 assignments, 2 of 2 values reached\n    0       3  {long}\n    1       1  {short}\n");
+    assert_eq!((found.status.code(), text(&found.stdout)), (Some(0), &expected[..]));
+    let held = bbhost(&["count", "-", "9"], &jobs::specimen());
+    let expected = format!("-: term 9: 4 assignments, 1 of 2 values reached\n    0       0\n    1       4  {long}\n");
+    assert_eq!((held.status.code(), text(&held.stdout)), (Some(0), &expected[..]));
+    let none = bbhost(&["count", "-", "10"], &jobs::specimen());
+    assert_eq!(none.status.code(), Some(1));
+    assert!(
+        text(&none.stdout)
+            .starts_with("-: term 10: REFUSED (code 20): the job stops early, the number is not that of a Bool")
+    );
+}
+
+#[test]
 fn chains_in_words() {
     let mut job = JobWriter::new();
     let x = job.bv_var(1, 0);
@@ -198,6 +216,9 @@ fn usage() {
         &["sweep", "-", "4294967296"],
         &["sweep", "-", "1", "2"],
         &["sweep", "no-such-file", "1"],
+        &["count"],
+        &["count", "-", "x"],
+        &["count", "no-such-file", "1"],
         &["compare"],
         &["compare", "a", "b"],
         &["compare", "no-such-folder"],
@@ -209,11 +230,11 @@ fn usage() {
     for word in ["--help", "-h", "help"] {
         let output = bbhost(&[word], b"");
         assert_eq!(output.status.code(), Some(0));
-        for command in ["check", "show", "sweep", "soak", "bench", "compare"] {
+        for command in ["check", "show", "sweep", "count", "soak", "bench", "compare"] {
             assert!(text(&output.stdout).contains(&format!("\n  bbhost {command} ")), "{command}");
         }
     }
-    for command in ["check", "show", "sweep", "soak", "bench", "compare"] {
+    for command in ["check", "show", "sweep", "count", "soak", "bench", "compare"] {
         for words in [&[command, "--help"][..], &[command, "-h"], &[command, "file", "-h"]] {
             let output = bbhost(words, b"");
             assert_eq!(output.status.code(), Some(0), "{words:?}");
@@ -265,11 +286,14 @@ fn compare_finds_differences() {
     let output = bbhost(&arguments, b"");
     assert_eq!(output.status.code(), Some(0), "{}", text(&output.stdout));
     assert!(text(&output.stdout).contains("in all 1 jobs, 0 differences"));
-    let right = format!("{right}sweep 9 80\nswept 0 4 0\nsweep 9 79\nswept 21 0 0\nsweep 8 0\nswept 20 0 0\n");
+    let right = format!(
+        "{right}sweep 9 80\nswept 0 4 0\nsweep 9 79\nswept 21 0 0\nsweep 8 0\nswept 20 0 0\n\
+         count 7 80 2\ncounted 0 3 1\ncount 9 80 300\ncounted 0 0 4\ncount 7 80 1\ncounted 22\ncount 10 79 1\ncounted 20\n"
+    );
     expect(&right);
     let output = bbhost(&arguments, b"");
     assert_eq!(output.status.code(), Some(0), "{}", text(&output.stdout));
-    assert!(text(&output.stdout).contains("3 questions about final stores; in all 2 jobs, 0 differences"));
+    assert!(text(&output.stdout).contains("7 questions about final stores; in all 2 jobs, 0 differences"));
     for (from, to) in [
         ("terms 10", "terms 11"),
         ("0200\n", "0300\n"),
@@ -280,14 +304,25 @@ fn compare_finds_differences() {
         ("swept 21", "swept 20"),
         ("sweep 9 79", "sweep 9 80"),
         ("sweep 8", "sweep 9"),
+        ("counted 0 3 1", "counted 0 1 3"),
+        ("counted 0 3 1", "counted 0 3"),
+        ("counted 0 3 1", "counted 0 3 1 0"),
+        ("counted 22", "counted 21"),
+        ("counted 20", "counted 20 0"),
+        ("count 9 80 300", "count 8 80 300"),
     ] {
         expect(&right.replace(from, to));
         let output = bbhost(&arguments, b"");
         assert_eq!(output.status.code(), Some(1), "{from}");
         assert!(text(&output.stdout).contains("DIFFERS"), "{from}");
     }
-    assert!(fs::read_to_string(&counts).unwrap().starts_with("jobs 11\ndifferences 9\n"));
-    for unreadable in ["work many\n".to_owned(), format!("{right}swept 0 4 0\n"), format!("{right}sweep 9 80\n")] {
+    assert!(fs::read_to_string(&counts).unwrap().starts_with("jobs 17\ndifferences 15\n"));
+    for unreadable in [
+        "work many\n".to_owned(),
+        format!("{right}swept 0 4 0\n"),
+        format!("{right}sweep 9 80\n"),
+        format!("{right}count 9 80\ncounted 0\n"),
+    ] {
         expect(&unreadable);
         assert_eq!(status(&arguments, b""), 2, "{unreadable}");
     }

@@ -1,7 +1,7 @@
 //! What can be tested of declarations that nothing checks: the text of the Rattle source, the layout of the structs, and the
 //! bytes around each lent slice.
 use bitblast_host::{
-    INTERFACE, Outcome, Swept, Tally, interface,
+    Counted, INTERFACE, Outcome, Swept, Tally, count_job, interface,
     jobs::{self, SPECIMEN_ANSWER},
     lent::Lent,
     run_job, sweep_job, tally_answers,
@@ -35,6 +35,8 @@ fn layout() {
         ],
         [0, 4, 8, 12]
     );
+    assert_eq!((size_of::<Counted>(), align_of::<Counted>()), (24, 4));
+    assert_eq!([offset_of!(Counted, code), offset_of!(Counted, outcome)], [0, 4]);
     assert_eq!((size_of::<Tally>(), align_of::<Tally>()), (32, 8));
     assert_eq!(
         [offset_of!(Tally, jobs), offset_of!(Tally, held), offset_of!(Tally, form_only), offset_of!(Tally, refused)],
@@ -63,15 +65,17 @@ fn the_source_says_the_same() {
     for declared in [
         "#[no_mangle] pub extern \"C\" fn bb_job(job: &[u8], work: &mut [u8], answers: &mut [u8]) -> Outcome ",
         "#[no_mangle] pub extern \"C\" fn bb_sweep( job: &[u8], work: &mut [u8], answers: &mut [u8], values: &mut [u8], number: u32, ) -> Swept ",
+        "#[no_mangle] pub extern \"C\" fn bb_count( job: &[u8], work: &mut [u8], answers: &mut [u8], values: &mut [u8], number: u32, counts: &mut [u32], ) -> Counted ",
         "#[no_mangle] pub extern \"C\" fn bb_version() -> u32 ",
         "#[no_mangle] pub extern \"C\" fn bb_tally(tally: &mut Tally, answers: &[u8], count: u32) ",
         "#[repr(C)] pub struct Outcome { pub stop: u32, pub records: u32, pub answers: u32, pub terms: u32, pub repeats: u32, }",
         "#[repr(C)] pub struct Swept { pub code: u32, pub assignments: u32, pub differing: u32, pub outcome: Outcome, }",
+        "#[repr(C)] pub struct Counted { pub code: u32, pub outcome: Outcome, }",
         "#[repr(C)] pub struct Tally { pub jobs: u64, pub held: u64, pub form_only: u64, pub refused: u64, }",
     ] {
         assert!(text.contains(declared), "crates/ has no `{declared}`: does src/ffi.rs still fit?");
     }
-    assert_eq!(text.matches("pub extern \"C\" fn").count(), 4, "src/ffi.rs declares four functions");
+    assert_eq!(text.matches("pub extern \"C\" fn").count(), 5, "src/ffi.rs declares five functions");
 }
 
 /// Declarations here, the header and the linked library are of one interface.
@@ -151,16 +155,54 @@ fn slices_at_any_address() {
     }
 }
 
-/// The memories of a sweep, with garbage in them and fences around them.
+/// The memories of a sweep or a count, with garbage in them and fences around them.
 struct Memories {
     work: Lent,
     answers: Lent,
     values: Lent,
+    counts: Lent<u32>,
 }
 
 impl Memories {
     fn new() -> Self {
-        Memories { work: Lent::new(80), answers: Lent::new(40), values: Lent::new(120) }
+        Memories { work: Lent::new(80), answers: Lent::new(40), values: Lent::new(120), counts: Lent::new(300) }
+    }
+
+    /// Looks at the memories after a question about the specimen, which was answered with a code.
+    fn look(&self, code: u32, outcome: Outcome, lent: [usize; 4]) {
+        let Memories { work, answers, values, .. } = self;
+        assert!(work.is_zero() && work.fences_stand(), "{lent:?}");
+        let written = 10 * outcome.answers as usize;
+        assert_eq!(answers.bytes()[..written], SPECIMEN_ANSWER[..written]);
+        assert!(answers.untouched_from(written) && answers.fences_stand(), "{lent:?}");
+        assert!(values.fences_stand(), "{lent:?}");
+        let left = if code == 0 { values.is_zero() } else { values.untouched_from(0) };
+        assert!(left, "the value buffer, {lent:?}");
+    }
+
+    /// Counts the values of one of the specimen's terms, and looks at everything around them.
+    fn count(&mut self, [work, room, size, run]: [usize; 4], number: u32, expected: &[u32]) -> Counted {
+        #[repr(C)]
+        struct Fenced {
+            before: u32,
+            counted: Counted,
+            behind: [u32; 4],
+        }
+        let mut fenced = Fenced { before: 7, counted: Counted::default(), behind: [7; 4] };
+        fenced.counted = count_job(
+            &jobs::specimen(),
+            self.work.ready(work, size as u64),
+            self.answers.ready(room, work as u64),
+            self.values.ready(size, room as u64 + 1),
+            number,
+            self.counts.ready(run, 1 + size as u64),
+        );
+        assert_eq!((fenced.before, fenced.behind), (7, [7; 4]));
+        self.look(fenced.counted.code, fenced.counted.outcome, [work, room, size, run]);
+        let written = if fenced.counted.code == 0 { expected } else { &[] };
+        assert_eq!(&self.counts.units()[..written.len()], written, "term {number}");
+        assert!(self.counts.untouched_from(written.len()) && self.counts.fences_stand(), "term {number}");
+        fenced.counted
     }
 
     /// Sweeps the specimen, and looks at everything around the sweep.
@@ -171,24 +213,16 @@ impl Memories {
             swept: Swept,
             behind: [u32; 4],
         }
-        let lent = (work, room, size, number);
-        let Memories { work: rows, answers, values } = self;
         let mut fenced = Fenced { before: 7, swept: Swept::default(), behind: [7; 4] };
         fenced.swept = sweep_job(
             &jobs::specimen(),
-            rows.ready(work, size as u64),
-            answers.ready(room, work as u64),
-            values.ready(size, room as u64 + 1),
+            self.work.ready(work, size as u64),
+            self.answers.ready(room, work as u64),
+            self.values.ready(size, room as u64 + 1),
             number,
         );
         assert_eq!((fenced.before, fenced.behind), (7, [7; 4]));
-        assert!(rows.is_zero() && rows.fences_stand(), "{lent:?}");
-        let written = 10 * fenced.swept.outcome.answers as usize;
-        assert_eq!(answers.bytes()[..written], SPECIMEN_ANSWER[..written]);
-        assert!(answers.untouched_from(written) && answers.fences_stand(), "{lent:?}");
-        assert!(values.fences_stand(), "{lent:?}");
-        let left = if fenced.swept.code == 0 { values.is_zero() } else { values.untouched_from(0) };
-        assert!(left, "the value buffer, {lent:?}");
+        self.look(fenced.swept.code, fenced.swept.outcome, [work, room, size, 0]);
         fenced.swept
     }
 }
@@ -226,6 +260,29 @@ fn fences_around_the_sweep_of_a_job_that_stops() {
                 };
                 let assignments = if code == 0 { 4 } else { 0 };
                 assert_eq!([swept.code, swept.assignments, swept.differing], [code, assignments, 0]);
+            }
+        }
+    }
+}
+
+/// Terms 2, 7 and 9 of the specimen: x of width 1, the And, the Equals. The codes come in their order.
+#[test]
+fn fences_around_counts() {
+    let mut memories = Memories::new();
+    for size in [0, 16, 63, 64, 79, 80, 81, 120] {
+        for run in [0, 1, 2, 3, 255, 256, 257, 300] {
+            for (number, expected) in [(0, [0, 1]), (1, [1, 0]), (2, [1, 1]), (7, [3, 1]), (9, [0, 4]), (10, [0; 2])] {
+                for room in [9, 10] {
+                    let counted = memories.count([64, room, size, run], number, &expected);
+                    let code = match (number, room, size, run) {
+                        (10.., _, _, _) | (_, 9, _, _) => 20,
+                        (_, _, 0..80, _) => 21,
+                        (_, _, _, 0..2) => 22,
+                        _ => 0,
+                    };
+                    assert_eq!(counted.code, code, "term {number}, answers {room}, values {size}, counts {run}");
+                    assert_eq!(counted.outcome.terms, 10);
+                }
             }
         }
     }

@@ -1,4 +1,4 @@
-//! Sweeps: the service, and the library beside a plain evaluator of the same terms.
+//! Sweeps and counts: the service, and the library beside a plain evaluator of the same terms.
 use bitblast_host::{
     MAX_SWEPT_BITS, Service, Tally, Verdict,
     jobs::{self, JobWriter, Kind, TRUE, Term},
@@ -67,6 +67,59 @@ fn one_assignment_in_many() {
     }
     let (job, number) = equality(|job| (job.bv_var(17, 0), job.bv_var(17, 0)));
     assert_eq!(service.sweep(&job, number).code(), 20);
+}
+
+#[test]
+fn a_service_counts() {
+    let mut service = Service::new(1 << 16, 100);
+    let count = service.count(&jobs::specimen(), 7);
+    assert_eq!((count.code(), count.counts()), (0, &[3, 1][..]));
+    assert_eq!(count.outcome().numbers(), [0, 9, 1, 10, 0]);
+    assert_eq!(count.answers().map(|answer| answer.verdict()).collect::<Vec<_>>(), [Verdict::Held]);
+    assert_eq!(service.tally(), Tally::default());
+    let wide = |width: usize| {
+        let mut job = JobWriter::new();
+        let x = job.bv_var(width, 0);
+        job.number(x);
+        job.finish()
+    };
+    assert_eq!(service.count(&wide(8), 2).counts(), [1; 256]);
+    // What a larger count has left there is not taken for counts.
+    assert_eq!(service.count(&wide(2), 2).counts(), [1; 4]);
+    for (job, number) in [(wide(9), 2), (wide(8), 3), (jobs::specimen()[..69].to_vec(), 7)] {
+        let count = service.count(&job, number);
+        assert_eq!((count.code(), count.counts(), count.meaning()), (20, &[][..], words::count_meaning(20)));
+    }
+}
+
+/// Every narrow term of random jobs: the library and the plain evaluator count the same.
+#[test]
+fn counts_beside_a_plain_evaluator() {
+    let mut rng = Rng::new(21);
+    let mut service = Service::new(1 << 20, 1 << 12);
+    let (mut counted, mut refused) = (0, 0);
+    for _ in 0..100 {
+        let (job, _) = jobs::random_right(&mut rng);
+        let plain = Plain::read(&job);
+        let terms = service.check(&job).outcome().terms;
+        for number in (2..terms).step_by(7) {
+            let mut program = plain.program(number as usize).unwrap();
+            if program.bits() > 8 {
+                continue;
+            }
+            let count = service.count(&job, number);
+            if program.width() > 8 {
+                refused += 1;
+                assert_eq!((count.code(), count.counts()), (20, &[][..]));
+                continue;
+            }
+            let mut counts = vec![0; 1 << program.width().max(1)];
+            program.each_value(|value| counts[value as usize] += 1);
+            assert_eq!((count.code(), count.counts()), (0, &counts[..]), "term {number}");
+            counted += 1;
+        }
+    }
+    assert!(counted > 500 && refused > 5, "{counted} counted, {refused} refused");
 }
 
 /// Every equality of random jobs: the library and the plain evaluator find the same, and none where the step is held.

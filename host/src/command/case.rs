@@ -1,5 +1,5 @@
 //! A case of the oracle: a job, the memory lent, what is expected of it, and questions about its final store.
-use bitblast_host::{ANSWER_BYTES, Answers, Outcome, lent::Lent, run_job, sweep_job};
+use bitblast_host::{ANSWER_BYTES, Answers, Outcome, count_job, lent::Lent, run_job, sweep_job};
 
 /// What is expected of a job.
 pub struct Expected {
@@ -18,6 +18,8 @@ const JOB_LINES: usize = 8;
 pub enum Question {
     /// The number, the bytes of value buffer, and then the code and both counts.
     Sweep { number: u32, values: usize, swept: [u32; 3] },
+    /// The number, the bytes of value buffer, the length of the run of counts, and then the code and the counts written.
+    Count { number: u32, values: usize, run: usize, code: u32, counts: Vec<u32> },
 }
 
 impl Expected {
@@ -46,13 +48,28 @@ impl Question {
     /// A question's line and its answer's.
     fn parse(lines: &[&str]) -> Option<Self> {
         let words: Vec<&str> = lines.iter().flat_map(|line| line.split(' ')).collect();
-        match words[..] {
+        match &words[..] {
             ["sweep", number, values, "swept", code, assignments, differing] => Some(Question::Sweep {
                 number: number.parse().ok()?,
                 values: values.parse().ok()?,
                 swept: [code.parse().ok()?, assignments.parse().ok()?, differing.parse().ok()?],
             }),
+            ["count", number, values, run, "counted", code, counts @ ..] => Some(Question::Count {
+                number: number.parse().ok()?,
+                values: values.parse().ok()?,
+                run: run.parse().ok()?,
+                code: code.parse().ok()?,
+                counts: counts.iter().map(|count| count.parse().ok()).collect::<Option<_>>()?,
+            }),
             _ => None,
+        }
+    }
+
+    /// What the question is, for a report.
+    fn name(&self) -> String {
+        match self {
+            Question::Sweep { number, .. } => format!("sweep of term {number}"),
+            Question::Count { number, .. } => format!("count of term {number}"),
         }
     }
 }
@@ -85,7 +102,16 @@ impl<'a> Call<'a> {
 
     /// Asks a question; the first difference, if there is one.
     pub fn ask(&mut self, question: &Question) -> Option<String> {
-        let Question::Sweep { number, values: size, swept } = *question;
+        let difference = match question {
+            Question::Sweep { number, values, swept } => self.sweep(*number, *values, *swept),
+            Question::Count { number, values, run, code, counts } => {
+                self.count(*number, *values, *run, (*code, counts))
+            }
+        };
+        difference.map(|difference| format!("{}: {difference}", question.name()))
+    }
+
+    fn sweep(&mut self, number: u32, size: usize, expected: [u32; 3]) -> Option<String> {
         let (mut values, (work, answers)) = (Lent::new(size), self.lend());
         let found = sweep_job(
             self.job,
@@ -95,11 +121,30 @@ impl<'a> Call<'a> {
             number,
         );
         let numbers = [found.code, found.assignments, found.differing];
-        if numbers != swept {
-            return Some(format!("sweep of term {number}: expected {swept:?}, found {numbers:?}"));
+        if numbers != expected {
+            return Some(format!("expected {expected:?}, found {numbers:?}"));
         }
-        let difference = self.job_difference(found.outcome).or_else(|| values_difference(&values, found.code));
-        difference.map(|difference| format!("sweep of term {number}: {difference}"))
+        self.job_difference(found.outcome).or_else(|| values_difference(&values, found.code))
+    }
+
+    fn count(&mut self, number: u32, size: usize, run: usize, expected: (u32, &[u32])) -> Option<String> {
+        let (mut values, mut counts, (work, answers)) = (Lent::new(size), Lent::new(run), self.lend());
+        let found = count_job(
+            self.job,
+            self.work.ready(self.expected.work, work),
+            self.answers.ready(self.expected.room, answers),
+            values.ready(size, work ^ answers),
+            number,
+            counts.ready(run, answers),
+        );
+        let written = counts.units().get(..expected.1.len());
+        if (found.code, written) != (expected.0, Some(expected.1)) {
+            return Some(format!("expected {expected:?}, found {}, {written:?}", found.code));
+        }
+        if !counts.untouched_from(expected.1.len()) || !counts.fences_stand() {
+            return Some("numbers past the last count are not as they were".to_owned());
+        }
+        self.job_difference(found.outcome).or_else(|| values_difference(&values, found.code))
     }
 
     /// Seeds of garbage for the work memory and the answers.

@@ -4,6 +4,7 @@ mod case;
 pub mod check;
 pub mod checker;
 pub mod compare;
+pub mod count;
 mod explain;
 mod json;
 mod looks;

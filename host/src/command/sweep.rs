@@ -1,7 +1,7 @@
 //! `bbhost sweep`: both sides of an equality on every assignment.
-use super::{Failure, Status, about, counted, job_bytes, progress::during, unknown};
+use super::{Failure, Status, about, counted, grouped, job_bytes, progress::during, unknown};
 use bitblast_host::{
-    Service, Sweep,
+    Outcome, Service, Sweep,
     service::{MAX_ANSWER_BYTES, MAX_WORK_BYTES},
     words,
 };
@@ -39,15 +39,19 @@ pub fn run(words: &[OsString], out: &mut impl Write) -> Result<Status, Failure> 
 }
 
 fn result(sweep: &Sweep, out: &mut impl Write) -> io::Result<()> {
-    let outcome = sweep.outcome();
     let assignments = counted(sweep.assignments().into(), "assignment");
     match (sweep.code(), sweep.differing()) {
         (0, 0) => writeln!(out, "{assignments}, the sides are equal on all"),
-        (0, some) => writeln!(out, "{assignments}, the sides DIFFER on {}", super::grouped(some.into())),
-        (code, _) if outcome.stop != 0 => {
-            let (record, why) = (u64::from(outcome.records) + 1, words::stop_meaning(outcome.stop));
-            writeln!(out, "REFUSED (code {code}): the job stops at record {record} (code {}): {why}", outcome.stop)
-        }
-        (code, _) => writeln!(out, "REFUSED (code {code}): {}", sweep.meaning()),
+        (0, some) => writeln!(out, "{assignments}, the sides DIFFER on {}", grouped(some.into())),
+        (code, _) => refusal(code, sweep.meaning(), sweep.outcome(), out),
     }
+}
+
+/// Why a question is refused.
+pub fn refusal(code: u32, meaning: &str, outcome: Outcome, out: &mut impl Write) -> io::Result<()> {
+    if outcome.stop == 0 {
+        return writeln!(out, "REFUSED (code {code}): {meaning}");
+    }
+    let (record, why) = (u64::from(outcome.records) + 1, words::stop_meaning(outcome.stop));
+    writeln!(out, "REFUSED (code {code}): the job stops at record {record} (code {}): {why}", outcome.stop)
 }

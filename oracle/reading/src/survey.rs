@@ -1,8 +1,8 @@
 //! What a batch of questions reaches, and a look at the answers that needs no other program: those that are known by the making of the
 //! terms, or because a step is held, are given.
-use crate::generate::Case;
+use crate::generate::{Asked, Case};
 use crate::kind::terms;
-use crate::question::{Answer, Question};
+use crate::question::{Answer, MOST_WIDTH};
 use std::collections::{BTreeMap, BTreeSet};
 use std::fmt::Write as _;
 
@@ -11,11 +11,17 @@ pub struct Survey {
     cases: usize,
     /// The answers by code.
     sweeps: BTreeMap<u16, usize>,
+    counts: BTreeMap<u16, usize>,
     /// The kinds in swept equalities whose sides differ nowhere, and somewhere.
     same: BTreeSet<u16>,
     apart: BTreeSet<u16>,
+    /// The kinds in counted terms, and the numbers of their values.
+    counted: BTreeSet<u16>,
+    sizes: BTreeSet<usize>,
     /// Sweeps whose sides differ on one assignment of more.
     once: usize,
+    /// Counted terms with a value that no assignment leads to.
+    gaps: usize,
     assignments: u64,
     evaluations: usize,
     known: usize,
@@ -26,33 +32,67 @@ impl Survey {
     pub fn look(&mut self, name: usize, case: &Case) {
         self.cases += 1;
         for asked in &case.asked {
-            let Answer::Swept { code, assignments, differing } = asked.answer;
-            *self.sweeps.entry(code).or_default() += 1;
-            if code != 0 {
-                continue;
-            }
-            let kinds = if differing == 0 { &mut self.same } else { &mut self.apart };
-            kinds.extend(&asked.kinds);
-            self.once += usize::from(differing == 1 && assignments > 1);
-            self.assignments += assignments;
-            self.evaluations += asked.evaluations;
-            self.known += usize::from(asked.known.is_some());
-            if asked.known.is_some_and(|known| known != differing) {
-                let Question::Sweep { number, .. } = asked.question;
-                self.faults.push(format!("case {name} term {number}: {differing} differ, not {:?}", asked.known));
+            let fault = match &asked.answer {
+                Answer::Swept { code: 0, assignments, differing } => self.swept(asked, *assignments, *differing),
+                Answer::Counted { code: 0, counts } => self.counted(asked, counts),
+                _ => None,
+            };
+            let (codes, code) = match asked.answer {
+                Answer::Swept { code, .. } => (&mut self.sweeps, code),
+                Answer::Counted { code, .. } => (&mut self.counts, code),
+            };
+            *codes.entry(code).or_default() += 1;
+            self.known += usize::from(code == 0 && asked.known.is_some());
+            self.evaluations += if code == 0 { asked.evaluations } else { 0 };
+            if let Some(fault) = fault {
+                self.faults.push(format!("case {name} term {}: {fault}", asked.question.number()));
             }
         }
     }
 
+    fn swept(&mut self, asked: &Asked, assignments: u64, differing: u64) -> Option<String> {
+        let kinds = if differing == 0 { &mut self.same } else { &mut self.apart };
+        kinds.extend(&asked.kinds);
+        self.once += usize::from(differing == 1 && assignments > 1);
+        self.assignments += assignments;
+        let wrong = asked.known.is_some_and(|known| known != differing);
+        wrong.then(|| format!("{differing} differ, not {:?}", asked.known))
+    }
+
+    fn counted(&mut self, asked: &Asked, counts: &[u64]) -> Option<String> {
+        self.counted.extend(&asked.kinds);
+        self.sizes.insert(counts.len());
+        self.gaps += usize::from(counts.contains(&0));
+        let all: u64 = counts.iter().sum();
+        self.assignments += all;
+        if all as usize * asked.kinds.len() != asked.evaluations {
+            return Some(format!("the counts sum to {all}"));
+        }
+        let wrong = asked.known.is_some_and(|known| known != counts[0]);
+        wrong.then(|| format!("{} are false, not {:?}", counts[0], asked.known))
+    }
+
     /// What a batch should have and has not.
     pub fn missing(&self) -> Vec<String> {
+        let mut missing = Vec::new();
         let codes = [0, 20, 21].into_iter().filter(|code| !self.sweeps.contains_key(code));
-        let mut missing: Vec<String> = codes.map(|code| format!("sweep with code {code}")).collect();
-        let lacking = |kinds: &BTreeSet<u16>| terms().filter(|kind| !kinds.contains(kind)).collect::<Vec<_>>();
-        missing.extend(lacking(&self.same).iter().map(|kind| format!("kind {kind} without a difference")));
-        missing.extend(lacking(&self.apart).iter().map(|kind| format!("kind {kind} with a difference")));
-        if self.once == 0 {
-            missing.push("a difference on just one assignment".to_owned());
+        missing.extend(codes.map(|code| format!("sweep with code {code}")));
+        let codes = [0, 20, 21, 22].into_iter().filter(|code| !self.counts.contains_key(code));
+        missing.extend(codes.map(|code| format!("count with code {code}")));
+        for (kinds, how) in
+            [(&self.same, "without a difference"), (&self.apart, "with a difference"), (&self.counted, "counted")]
+        {
+            let lacking = terms().filter(|kind| !kinds.contains(kind));
+            missing.extend(lacking.map(|kind| format!("kind {kind} {how}")));
+        }
+        let widths = (1..=MOST_WIDTH).filter(|&width| !self.sizes.contains(&(1 << width)));
+        missing.extend(widths.map(|width| format!("counts of width {width}")));
+        for (count, what) in
+            [(self.once, "a difference on just one assignment"), (self.gaps, "a value that never occurs")]
+        {
+            if count == 0 {
+                missing.push(what.to_owned());
+            }
         }
         missing
     }
@@ -62,6 +102,8 @@ impl Survey {
             codes.iter().map(|(code, count)| format!("{code}: {count}")).collect::<Vec<_>>().join(", ")
         };
         let mut out = format!("jobs: {}, sweeps by code: {}\n", self.cases, by_code(&self.sweeps));
+        let _ =
+            writeln!(out, "counts by code: {}, with a value that never occurs: {}", by_code(&self.counts), self.gaps);
         let _ = writeln!(out, "assignments: {}, evaluations: {}", self.assignments, self.evaluations);
         let _ = writeln!(out, "differing on just one assignment: {}, known beforehand: {}", self.once, self.known);
         let missing = self.missing();

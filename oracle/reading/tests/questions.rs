@@ -10,10 +10,30 @@ use reading::{specimen, survey::Survey};
 const MUCH: Lent = Lent { work: 1 << 20, room: 1 << 16 };
 
 fn sweep(job: &[u8], lent: Lent, number: u32, values: usize) -> (u16, u64, u64) {
+    match answer(job, lent, Question::Sweep { number, values }) {
+        Answer::Swept { code, assignments, differing } => (code, assignments, differing),
+        other => panic!("a sweep is answered by {other:?}"),
+    }
+}
+
+fn answer(job: &[u8], lent: Lent, question: Question) -> Answer {
     let (outcome, store) = run_whole(job, lent, |_| {});
-    let Answer::Swept { code, assignments, differing } =
-        Question::Sweep { number, values }.answer(outcome.stop, &store);
-    (code, assignments, differing)
+    question.answer(outcome.stop, &store)
+}
+
+fn count(job: &[u8], number: u32, values: usize, run: usize) -> (u16, Vec<u64>) {
+    match answer(job, MUCH, Question::Count { number, values, run }) {
+        Answer::Counted { code, counts } => (code, counts),
+        other => panic!("a count is answered by {other:?}"),
+    }
+}
+
+/// The counts of a term, with enough memory.
+fn counted(build: impl FnOnce(&mut Maker) -> Id) -> (u16, Vec<u64>) {
+    let mut maker = Maker::new(0);
+    let term = build(&mut maker);
+    let number = maker.emit(term);
+    count(&maker.bytes, number.into(), 8 * maker.list.len(), 256)
 }
 
 /// The sweep of an Equals of two terms, with enough memory.
@@ -96,17 +116,69 @@ fn the_order_of_assignments() {
     assert_eq!(seen, [(0, 0), (1, 0), (0, 1), (1, 1), (0, 2), (1, 2), (0, 3), (1, 3)]);
 }
 
+/// The specimen's terms: true, false, x and y of width 1, their bits, Not, And, bvslt, Equals.
+#[test]
+fn counts_of_the_specimen() {
+    let job = specimen();
+    for (number, expected) in [
+        (0, vec![0, 1]),
+        (1, vec![1, 0]),
+        (2, vec![1, 1]),
+        (4, vec![1, 1]),
+        (6, vec![1, 1]),
+        (7, vec![3, 1]),
+        (8, vec![3, 1]),
+        (9, vec![0, 4]),
+    ] {
+        assert_eq!(count(&job, number, 80, 2), (0, expected), "{number}");
+        // 20, 21 and 22 in their order.
+        assert_eq!(count(&job, number, 80, 1), (22, vec![]));
+        assert_eq!(count(&job, number, 79, 1), (21, vec![]));
+        assert_eq!(count(&job, number + 10, 79, 1), (20, vec![]));
+    }
+    assert_eq!(count(&job[..job.len() - 1], 9, 80, 2), (20, vec![]));
+}
+
+#[test]
+fn counts() {
+    let of_two = |kind: u16| {
+        counted(move |m| {
+            let args = [0, 1].map(|name| m.variable(2, name));
+            m.pool.op(kind, &args)
+        })
+    };
+    assert_eq!(of_two(BV_ADD), (0, vec![4, 4, 4, 4]));
+    // 1 is 1 * 1 and 3 * 3; 2 is 1 * 2, 2 * 1, 2 * 3 and 3 * 2; 3 is 1 * 3 and 3 * 1.
+    assert_eq!(of_two(BV_MUL), (0, vec![8, 2, 4, 2]));
+    assert_eq!(of_two(BV_ULT), (0, vec![10, 6]));
+    assert_eq!(counted(|m| m.pool.add(CONSTANT, &[3, 5], &[])), (0, vec![0, 0, 0, 0, 0, 1, 0, 0]));
+    assert_eq!(counted(|m| m.variable(8, 0)), (0, vec![1; 256]));
+    assert_eq!(counted(|m| m.variable(9, 0)), (20, vec![]));
+    let bit_of = |width: usize| {
+        counted(move |m| {
+            let x = m.variable(width, 0);
+            m.pool.bit(3, x)
+        })
+    };
+    assert_eq!((bit_of(16), bit_of(17)), ((0, vec![32_768; 2]), (20, vec![])));
+}
+
 #[test]
 fn lines() {
+    let counting = Question::Count { number: 9, values: 80, run: 2 };
+    assert_eq!(counting.text(), "count 9 80 2\n");
+    assert_eq!(Question::parse("count 9 80 2"), Some(counting));
+    assert_eq!(Answer::Counted { code: 0, counts: vec![0, 4] }.text(), "counted 0 0 4\n");
+    assert_eq!(Answer::Counted { code: 22, counts: vec![] }.text(), "counted 22\n");
     let question = Question::Sweep { number: 9, values: 80 };
     assert_eq!(question.text(), "sweep 9 80\n");
     assert_eq!(Question::parse("sweep 9 80"), Some(question));
-    for other in ["swept 0 4 0", "sweep 9", "sweep 9 80 1", "sweep -1 80", "terms 10"] {
+    for other in ["swept 0 4 0", "sweep 9", "sweep 9 80 1", "sweep -1 80", "count 9 80", "counted 0 0 4", "terms 10"] {
         assert_eq!(Question::parse(other), None, "{other}");
     }
 }
 
-/// Every kind is swept with and without a difference, and nothing contradicts what is known beforehand.
+/// Every kind is swept with and without a difference, and counted, and nothing contradicts what is known beforehand.
 #[test]
 fn cases_reach_everything() {
     let mut survey = Survey::default();

@@ -3,7 +3,7 @@ use super::{Case, Maker, lend_around};
 use crate::job::{Final, run_whole};
 use crate::kind::*;
 use crate::pool::{Id, NO, YES};
-use crate::question::{Answer, CELL, Question};
+use crate::question::{Answer, CELL, MOST_WIDTH, Question};
 use std::collections::HashSet;
 
 /// The evaluations that one question may cost; one case in so many may cost more.
@@ -15,7 +15,7 @@ const SELDOM: usize = 40;
 pub struct Asked {
     pub question: Question,
     pub answer: Answer,
-    /// On how many assignments the sides differ, by the making of the terms or because a step is held.
+    /// On how many assignments the asked Equals is false, by the making of the terms or because a step is held.
     pub known: Option<u64>,
     /// The kinds of what stands in the asked term, and the evaluations that all assignments take.
     pub kinds: Vec<u16>,
@@ -54,23 +54,40 @@ pub fn asked_case(seed: u64, i: usize) -> Case {
 }
 
 impl Maker {
-    /// Questions about a final list: its equalities, other numbers, and lent buffers around what is needed.
+    /// Questions about a final list: its equalities, its narrow terms, other numbers, and lent memory around what is needed.
     fn questions(&mut self, store: &Final) -> Vec<Question> {
         let kept = store.list.len();
-        let is_equals = |place: &usize| store.pool.kind(store.list[*place]) == EQUALS;
-        let equals: Vec<usize> = (0..kept).filter(is_equals).collect();
-        let count = self.rng.range(2, 5);
-        let mut question = |k: usize| {
-            let number = match self.rng.below(10) {
-                0 => self.any_number(kept),
-                _ if equals.is_empty() => self.rng.below(kept) as u32,
-                // The last one is most often what the job is about.
-                _ if k == 0 => equals[equals.len() - 1] as u32,
-                _ => self.rng.pick(&equals) as u32,
-            };
-            Question::Sweep { number, values: self.buffer(CELL * kept) }
-        };
-        (0..count).map(&mut question).collect()
+        let places = |asked: &dyn Fn(Id) -> bool| (0..kept).filter(|&place| asked(store.list[place])).collect();
+        let equals: Vec<usize> = places(&|id| store.pool.kind(id) == EQUALS);
+        let narrow: Vec<usize> = places(&|id| store.pool.width(id) <= MOST_WIDTH);
+        // The last equality is most often what the job is about.
+        let last = equals.last().map(|&place| place as u32);
+        let first = Question::Sweep { number: last.unwrap_or(0), values: self.buffer(CELL * kept) };
+        let mut questions = vec![first];
+        for _ in 0..self.rng.range(2, 6) {
+            let sweep = self.rng.chance(50);
+            let fitting = if sweep { &equals } else { &narrow };
+            let any = self.rng.chance(15) || fitting.is_empty();
+            let number = if any { self.any_number(kept) } else { self.rng.pick(fitting) as u32 };
+            let values = self.buffer(CELL * kept);
+            let width = store.list.get(number as usize).map_or(0, |&id| store.pool.width(id));
+            questions.push(match sweep {
+                true => Question::Sweep { number, values },
+                false => Question::Count { number, values, run: self.run_around(width) },
+            });
+        }
+        questions
+    }
+
+    /// A number of counts around what a width needs.
+    fn run_around(&mut self, width: usize) -> usize {
+        let need = 1 << width.clamp(1, MOST_WIDTH + 1);
+        match self.rng.below(8) {
+            0 => need - 1,
+            1 => self.rng.below(need),
+            2..=4 => need,
+            _ => need + self.rng.range(1, 20),
+        }
     }
 
     /// A number of any size, also one whose low bytes name a kept term.
