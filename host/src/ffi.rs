@@ -24,9 +24,13 @@ pub struct Outcome {
 #[non_exhaustive]
 #[derive(Clone, Copy, Debug, Default, PartialEq, Eq)]
 pub struct Tally {
+    /// Jobs counted.
     pub jobs: u64,
+    /// Answers that are held.
     pub held: u64,
+    /// Answers that are form only.
     pub form_only: u64,
+    /// All other answers.
     pub refused: u64,
 }
 

@@ -3,6 +3,7 @@ use crate::{
     ANSWER_BYTES, Counted, MAX_JOB_BYTES, MAX_VALUES, Outcome, SHORTEST_RECORD, Swept, Tally, VALUE_BYTES, count_job,
     run_job, sweep_job, tally_answers, words,
 };
+use std::fmt;
 
 /// No job needs more work memory: this is twice what the most terms cost.
 pub const MAX_WORK_BYTES: usize = 1 << 20;
@@ -29,6 +30,8 @@ const NO_COUNT: u32 = u32::MAX;
 ///
 /// A sweep or a count takes one evaluation for each assignment and each term that stands in the asked one, up to 65,536 times 65,535 of them, after the
 /// job's own time.
+///
+/// Threads: a service checks one job at a time. Services share nothing, so that each thread may have its own.
 pub struct Service {
     work: Vec<u8>,
     answers: Vec<u8>,
@@ -58,6 +61,7 @@ impl Service {
     }
 
     /// Checks a job and adds it to the tally.
+    #[must_use = "the job may be refused"]
     pub fn check(&mut self, job: &[u8]) -> Report<'_> {
         let outcome = run_job(job, &mut self.work, &mut self.answers);
         tally_answers(&mut self.tally, &self.answers, outcome.answers);
@@ -97,7 +101,14 @@ impl Service {
     }
 }
 
-/// What a service says about one job.
+impl fmt::Debug for Service {
+    fn fmt(&self, f: &mut fmt::Formatter) -> fmt::Result {
+        let (work_bytes, answer_bytes) = (self.work.len(), self.answers.len());
+        write!(f, "Service {{ work_bytes: {work_bytes}, answer_bytes: {answer_bytes}, tally: {:?} }}", self.tally)
+    }
+}
+
+/// What a service says about one job. It displays as the stop code and the classes of the answers.
 #[derive(Clone, Copy)]
 pub struct Report<'a> {
     outcome: Outcome,
@@ -111,6 +122,7 @@ impl<'a> Report<'a> {
         Report { outcome, answers, tally }
     }
 
+    /// The numbers that the library returned.
     pub fn outcome(&self) -> Outcome {
         self.outcome
     }
@@ -217,6 +229,25 @@ impl<'a> Count<'a> {
     }
 }
 
+impl fmt::Debug for Report<'_> {
+    fn fmt(&self, f: &mut fmt::Formatter) -> fmt::Result {
+        let Report { outcome, tally, .. } = self;
+        write!(
+            f,
+            "Report {{ outcome: {outcome:?}, answers: {:?}, tally: {tally:?} }}",
+            self.answers().collect::<Vec<_>>()
+        )
+    }
+}
+
+impl fmt::Display for Report<'_> {
+    fn fmt(&self, f: &mut fmt::Formatter) -> fmt::Result {
+        let count = |class: Verdict| self.answers().filter(|answer| answer.verdict() == class).count();
+        let (held, form_only, refused) = (count(Verdict::Held), count(Verdict::FormOnly), count(Verdict::Refused));
+        write!(f, "{}: {held} held, {form_only} form only, {refused} refused", self.stop_meaning())
+    }
+}
+
 /// The three classes of answers that a tally counts.
 #[derive(Clone, Copy, Debug, PartialEq, Eq)]
 pub enum Verdict {
@@ -224,10 +255,22 @@ pub enum Verdict {
     Held,
     /// The circuit is the rule's, but the rule's circuit is not the standard's operation.
     FormOnly,
+    /// The claim is not the rule's circuit, or not of its form.
     Refused,
 }
 
+impl fmt::Display for Verdict {
+    fn fmt(&self, f: &mut fmt::Formatter) -> fmt::Result {
+        f.pad(match self {
+            Verdict::Held => "held",
+            Verdict::FormOnly => "form only",
+            Verdict::Refused => "refused",
+        })
+    }
+}
+
 impl Verdict {
+    /// The class of an answer's code.
     pub fn of(code: u16) -> Self {
         match code {
             0 => Verdict::Held,
@@ -243,13 +286,16 @@ impl Verdict {
 pub struct Answer {
     /// The step's place among the steps of the job, from 1.
     pub step: u32,
+    /// The number of its [`Rule`](crate::Rule).
     pub rule: u16,
+    /// The number of its [`AnswerCode`](crate::AnswerCode).
     pub code: u16,
     /// The depth of the accepted right side, 0 where the step is refused.
     pub depth: u16,
 }
 
 impl Answer {
+    /// The rule's name.
     pub fn rule_name(&self) -> &'static str {
         words::rule_name(self.rule)
     }
@@ -259,13 +305,14 @@ impl Answer {
         words::answer_meaning(self.code)
     }
 
+    /// The class of its code.
     pub fn verdict(&self) -> Verdict {
         Verdict::of(self.code)
     }
 }
 
 /// The answers in a run of bytes.
-#[derive(Clone)]
+#[derive(Clone, Debug)]
 pub struct Answers<'a> {
     rest: std::slice::ChunksExact<'a, u8>,
     left: u32,
@@ -289,4 +336,11 @@ impl Iterator for Answers<'_> {
         let word = |at: usize| u16::from_le_bytes([bytes[at], bytes[at + 1]]);
         Some(Answer { step: self.step, rule: word(4), code: word(6), depth: word(8) })
     }
+
+    fn size_hint(&self) -> (usize, Option<usize>) {
+        let left = self.rest.len().min(self.left as usize);
+        (left, Some(left))
+    }
 }
+
+impl ExactSizeIterator for Answers<'_> {}

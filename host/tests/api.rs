@@ -29,7 +29,7 @@ fn the_specimen() {
     assert_eq!((answer.step, answer.rule, answer.code, answer.depth), (1, 9, 0, 2));
     assert_eq!((answer.rule_name(), answer.meaning(), answer.verdict()), ("slt", "held", Verdict::Held));
     assert_eq!(report.tally().numbers(), [1, 1, 0, 0]);
-    service.check(&jobs::specimen());
+    assert!(service.check(&jobs::specimen()).all_held());
     assert_eq!(service.tally().numbers(), [2, 2, 0, 0]);
 }
 
@@ -154,6 +154,21 @@ fn services_of_any_size() {
         assert_eq!(stop, if work < 64 { 8 } else { 0 });
         assert_eq!(report.answers().count() as u32, report.outcome().answers);
     }
+}
+
+#[test]
+fn reports_in_words() {
+    let mut service = Service::new(64, 10);
+    let report = service.check(&jobs::specimen());
+    assert_eq!(report.to_string(), "the job ran to its end: 1 held, 0 form only, 0 refused");
+    assert!(format!("{report:?}").contains("answers: [Answer { step: 1, rule: 9, code: 0, depth: 2 }]"), "{report:?}");
+    let mut answers = report.answers();
+    assert_eq!(
+        (answers.len(), answers.next().map(|answer| answer.verdict().to_string())),
+        (1, Some("held".to_owned()))
+    );
+    assert_eq!((answers.len(), answers.next()), (0, None));
+    assert!(format!("{service:?}").starts_with("Service { work_bytes: 64, answer_bytes: 10, tally: Tally { jobs: 1,"));
 }
 
 /// The limit on answers is a limit on steps; it lends no more than there is.

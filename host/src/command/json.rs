@@ -4,7 +4,7 @@ use super::{
     looks::looks_like,
     reader::{Record, records},
 };
-use bitblast_host::{Answer, MAX_JOB_BYTES, StopCode, Tally, Verdict};
+use bitblast_host::{Answer, MAX_JOB_BYTES, StopCode, Tally};
 
 /// The number of docs/OUTPUT.md's list of fields.
 const SCHEMA: u32 = 1;
@@ -95,18 +95,13 @@ pub fn checked(checked: &Checked) -> Vec<(&'static str, String)> {
 }
 
 fn step(answer: &Answer, record: Record) -> String {
-    let verdict = match answer.verdict() {
-        Verdict::Held => "held",
-        Verdict::FormOnly => "form only",
-        Verdict::Refused => "refused",
-    };
     object(&[
         ("step", answer.step.to_string()),
         ("record", record.place.to_string()),
         ("offset", record.offset.to_string()),
         ("rule", answer.rule.to_string()),
         ("name", string(answer.rule_name())),
-        ("verdict", string(verdict)),
+        ("verdict", string(&answer.verdict().to_string())),
         ("code", answer.code.to_string()),
         ("meaning", string(answer.meaning())),
         ("depth", answer.depth.to_string()),
