@@ -220,6 +220,13 @@ impl Writer {
         if fitting.is_empty() { 0 } else { *self.rng.pick(&fitting) }
     }
 
+    /// Premises, as many as the record says but for a few times; code 5 where they are not, or there are not 1 to 64.
+    fn premises(&mut self, said: i128, body: &mut Vec<u8>) -> Option<u32> {
+        let count = if self.rng.chance(90) { said as usize % 70 } else { self.rng.below(5) };
+        (0..count).for_each(|_| body.extend((self.rng.below(9) as u16).to_le_bytes()));
+        (!(1..=64).contains(&said) || said != count as i128).then_some(5)
+    }
+
     /// A record of the kind, written part by part, and the faults that are the body's: a wrong length, arguments that are not kept.
     fn write(&mut self, kind: &Kind, word: &str) -> (Vec<u8>, Vec<u32>, BTreeMap<String, i128>, Vec<u16>) {
         let (mut body, mut faults) = (kind.number.to_le_bytes().to_vec(), Vec::new());
@@ -246,12 +253,7 @@ impl Writer {
                         body.extend(arguments.last().unwrap().to_le_bytes());
                     }
                 }
-                Part::Premises(name) => {
-                    let said = names[name];
-                    let count = if self.rng.chance(90) { said as usize % 70 } else { self.rng.below(5) };
-                    faults.extend((!(1..=64).contains(&said) || said != count as i128).then_some(5));
-                    (0..count).for_each(|_| body.extend((self.rng.below(9) as u16).to_le_bytes()));
-                }
+                Part::Premises(name) => faults.extend(self.premises(names[name], &mut body)),
             }
         }
         if self.rng.chance(2) {

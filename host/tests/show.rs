@@ -4,10 +4,12 @@ mod run;
 
 use bitblast_host::{
     jobs::{self, CONG, FALSE, JobWriter, Kind, SYMM, TRUE, Term},
+    rng::Rng,
     words::RULES,
 };
 use page::{page, table};
 use run::{bbhost, text};
+use std::{fs, path::Path};
 
 fn show(job: &[u8], status: i32) -> String {
     let output = bbhost(&["show", "-"], job);
@@ -175,7 +177,7 @@ fn with_other_leaf(job: &mut JobWriter, term: Term, way: usize) -> Term {
 }
 
 #[test]
-fn values_slices_and_chains() {
+fn values() {
     let mut job = JobWriter::new();
     let (value, b) = (job.constant(2, 1), job.bool_var(0));
     for wrong in [[FALSE, TRUE], [TRUE, b]] {
@@ -188,7 +190,10 @@ fn values_slices_and_chains() {
         after(&lines, "differs"),
         ["in bit 0: false where true is expected", "in bit 1: b0 where false is expected"]
     );
+}
 
+#[test]
+fn slices() {
     let mut job = JobWriter::new();
     let left = job.left_side(23, 4);
     let right = job.circuit(23, left);
@@ -208,7 +213,10 @@ fn values_slices_and_chains() {
             .to_owned(),
     ];
     assert_eq!(after(&lines, "differs"), said);
+}
 
+#[test]
+fn chains() {
     let mut job = JobWriter::new();
     let x = job.bv_var(1, 0);
     let bits = job.circuit(2, x);
@@ -221,6 +229,43 @@ fn values_slices_and_chains() {
     let first = "step 1: (= x0w1 (@bbterm ((_ @bit_of 0) x0w1)))";
     assert_eq!(after(&lines, "premise"), [first, "there is no earlier step 9", "there is no earlier step 0"]);
     assert_eq!(after(&lines, "record").len(), 2);
+}
+
+/// A step that claims the circuit of another left side.
+fn nearly_right(rng: &mut Rng) -> Vec<u8> {
+    let mut job = JobWriter::new();
+    let (rule, width) = (rng.range(1, RULES.len()) as u16, rng.range(1, 5));
+    let (left, other) = (job.random_left_side(rule, width, rng), job.random_left_side(rule, width, rng));
+    let right = job.circuit(rule, other);
+    job.claim(rule, left, right);
+    job.finish()
+}
+
+/// Nearly right, damaged and random jobs, all shown and explained.
+#[test]
+fn jobs_of_all_sorts() {
+    let folder = Path::new(env!("CARGO_TARGET_TMPDIR")).join("sorts");
+    fs::create_dir_all(&folder).unwrap();
+    let mut rng = Rng::new(9);
+    let mut files = Vec::new();
+    for k in 0..600 {
+        let mut job = if k % 3 == 0 { nearly_right(&mut rng) } else { jobs::random_right(&mut rng).0 };
+        match k % 3 {
+            0 => {}
+            1 => (0..rng.range(1, 3)).for_each(|_| jobs::damage(&mut job, &mut rng)),
+            _ => jobs::random_bytes(&mut job, &mut rng),
+        }
+        let file = folder.join(format!("{k}.job"));
+        fs::write(&file, job).unwrap();
+        files.push(file.to_str().unwrap().to_owned());
+    }
+    let names: Vec<&str> = files.iter().map(String::as_str).collect();
+    let shown = bbhost(&[&["show"], &names[..]].concat(), b"");
+    assert_eq!(shown.status.code(), Some(1), "{}", text(&shown.stderr));
+    let explained = bbhost(&[&["check", "--explain"], &names[..]].concat(), b"");
+    assert_eq!(explained.status.code(), Some(1), "{}", text(&explained.stderr));
+    let differences = text(&explained.stdout).matches(" is expected\n").count();
+    assert!(differences > 100, "{differences} differences");
 }
 
 #[test]
