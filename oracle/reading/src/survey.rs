@@ -75,25 +75,15 @@ impl Survey {
     /// What a batch should have and has not.
     pub fn missing(&self) -> Vec<String> {
         let mut missing = Vec::new();
-        let codes = [0, 20, 21].into_iter().filter(|code| !self.sweeps.contains_key(code));
-        missing.extend(codes.map(|code| format!("sweep with code {code}")));
-        let codes = [0, 20, 21, 22].into_iter().filter(|code| !self.counts.contains_key(code));
-        missing.extend(codes.map(|code| format!("count with code {code}")));
-        for (kinds, how) in
-            [(&self.same, "without a difference"), (&self.apart, "with a difference"), (&self.counted, "counted")]
-        {
-            let lacking = terms().filter(|kind| !kinds.contains(kind));
-            missing.extend(lacking.map(|kind| format!("kind {kind} {how}")));
-        }
+        missing.extend(lacking(&self.sweeps, &[0, 20, 21]).map(|code| format!("sweep with code {code}")));
+        missing.extend(lacking(&self.counts, &[0, 20, 21, 22]).map(|code| format!("count with code {code}")));
+        missing.extend(kinds_lacking(&self.same, "without a difference"));
+        missing.extend(kinds_lacking(&self.apart, "with a difference"));
+        missing.extend(kinds_lacking(&self.counted, "counted"));
         let widths = (1..=MOST_WIDTH).filter(|&width| !self.sizes.contains(&(1 << width)));
         missing.extend(widths.map(|width| format!("counts of width {width}")));
-        for (count, what) in
-            [(self.once, "a difference on just one assignment"), (self.gaps, "a value that never occurs")]
-        {
-            if count == 0 {
-                missing.push(what.to_owned());
-            }
-        }
+        missing.extend((self.once == 0).then(|| "a difference on just one assignment".to_owned()));
+        missing.extend((self.gaps == 0).then(|| "a value that never occurs".to_owned()));
         missing
     }
 
@@ -116,4 +106,12 @@ impl Survey {
         self.faults.iter().take(20).for_each(|fault| out += &format!("FAULT {fault}\n"));
         out
     }
+}
+
+fn lacking(found: &BTreeMap<u16, usize>, codes: &[u16]) -> impl Iterator<Item = u16> {
+    codes.iter().copied().filter(|code| !found.contains_key(code))
+}
+
+fn kinds_lacking(found: &BTreeSet<u16>, how: &str) -> impl Iterator<Item = String> {
+    terms().filter(|kind| !found.contains(kind)).map(move |kind| format!("kind {kind} {how}"))
 }
