@@ -19,8 +19,9 @@ use std::{
 
 /// How the command is used.
 pub const USAGE: &str = "  bbhost bench [--work BYTES] [--against COMMAND] [--write DIR]
-      Measures a list of jobs, and sweeps beside a plain Rust evaluator of the same terms. --against also runs `COMMAND FILE RUNS` on each that has only rules of the original, as with
-      `oracle bench`, and prints the ratio. --write only writes the jobs as files.";
+      Measures a list of jobs, and sweeps beside a plain Rust evaluator of the same terms. --against also runs
+      `COMMAND FILE RUNS` on each job that has only rules of the original, as with `oracle bench`, and prints the ratio.
+      --write only writes the jobs as files.";
 
 /// The memory lent: work unless an option says otherwise, and answers.
 const WORK: usize = 1 << 20;

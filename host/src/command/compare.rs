@@ -18,7 +18,8 @@ use std::{
 /// How the command is used.
 pub const USAGE: &str = "  bbhost compare DIR [--counts FILE]
       Runs each NNNNN.job of a folder against its NNNNN.expect (both from the oracle), asks the questions about the job's final
-      store that stand there, and prints which answers of which rule were reached. --counts adds the counts in a file to the table, and keeps the sums there. Exit status 1 on any difference.";
+      store that stand there, and prints which answers of which rule were reached. --counts adds the counts in a file to the
+      table, and keeps the sums there. Exit status 1 on any difference.";
 
 /// The differences that are printed one by one.
 const SHOWN: usize = 20;

@@ -15,9 +15,9 @@ use std::{
 
 /// How the command is used.
 pub const USAGE: &str = "  bbhost count FILE NUMBER
-      Runs the job in a file (- is the standard input), and counts how many assignments of the variables that stand in the term of that
-      number, which have at most 16 bits, lead to each of its values: a Bool's 0 and 1, or those of a width up to 8. The longest bar
-      is that of the largest count. Exit status 1: the count is refused. 2: usage, or a file that cannot be read.";
+      Runs the job in a file (- is the standard input), and counts how many assignments of the variables that stand in the term
+      of that number, at most 16 bits of them, lead to each of its values: a Bool's 0 and 1, or those of a width up to 8. The
+      longest bar is that of the largest count. Exit status 1: the count is refused. 2: usage, or a file that cannot be read.";
 
 /// The length of the longest bar.
 const BAR: u64 = 50;

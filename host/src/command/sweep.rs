@@ -12,8 +12,8 @@ use std::{
 
 /// How the command is used.
 pub const USAGE: &str = "  bbhost sweep FILE NUMBER
-      Runs the job in a file (- is the standard input), and evaluates both sides of the Equals of that number among the terms that the
-      job keeps (0 is true, 1 is false) on every assignment of the variables that stand in it, which have at most 16 bits.
+      Runs the job in a file (- is the standard input), and evaluates both sides of the Equals of that number among the terms
+      that the job keeps (0 is true, 1 is false) on every assignment of the variables that stand in it, at most 16 bits of them.
       Exit status 0: the sides differ on none. 1: they differ, or the sweep is refused. 2: usage, or a file that cannot be read.";
 
 /// The file and the number of a term that a command is given.
