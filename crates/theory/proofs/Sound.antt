@@ -151,7 +151,7 @@ udiv-lt n x y h k = cond-lt (eqb y 0) (λ t. omega (arith, pow-pos n)) (λ t. lt
 
 urem-lt : Below2 urem-n
 unfolding urem-n
-urem-lt n x y h k = cond-lt (eqb y 0) (λ t. h) (λ t. lt-of-le-of-lt (mod-le x y) h)
+urem-lt n x y h k = cond-lt (eqb y 0) (λ t. omega arith) (λ t. lt-of-le-of-lt (mod-le x y) h)
 
 pub to-number-lt : (bs : List Bool) → to-number bs < 2 ^ length bs
 to-number-lt [] = omega arith
