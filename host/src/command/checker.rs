@@ -53,14 +53,14 @@ impl Trouble {
 
 /// Checks jobs, and counts what they came to.
 pub enum Checker {
-    Here(Service),
+    Here(Box<Service>),
     Child { limit: Duration, work: usize, room: usize, answers: Vec<u8>, tally: Tally },
 }
 
 impl Checker {
     pub fn new(work: usize, room: usize, limit: Option<Duration>) -> Self {
         match limit {
-            None => Checker::Here(Service::new(work, room)),
+            None => Checker::Here(Box::new(Service::new(work, room))),
             Some(limit) => Checker::Child { limit, work, room, answers: Vec::new(), tally: Tally::default() },
         }
     }
