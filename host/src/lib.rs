@@ -39,7 +39,7 @@ pub mod service;
 pub mod words;
 
 pub use ffi::{Counted, Outcome, Swept, Tally, count_job, interface, run_job, sweep_job, tally_answers};
-pub use service::{Answer, Answers, Count, Report, Service, Sweep, Verdict};
+pub use service::{Answer, Answers, Count, Memory, Report, Service, Sweep, Verdict};
 pub use words::{AnswerCode, Kind, Rule, StopCode};
 
 /// The number of the library's interface that this crate is written for.

@@ -2,11 +2,11 @@
 mod command;
 
 use bitblast_host::{interface, words::RULES};
-use command::{Failure, Status, bench, check, checker, compare, count, show, soak, sweep};
+use command::{Failure, Status, bench, check, checker, compare, count, manual, show, soak, sweep};
 use std::{
     env,
     ffi::OsString,
-    io::{self, BufWriter, Write},
+    io::{self, BufWriter, StdoutLock, Write},
     process::ExitCode,
 };
 
@@ -31,6 +31,28 @@ A job that is ill-formed stops at the first bad record, with a code that is name
 
 const USAGE: &str = "  bbhost --help, bbhost COMMAND --help, bbhost --version";
 
+type Out = BufWriter<StdoutLock<'static>>;
+
+/// A command: its name, how it is used, and what it does.
+struct Command {
+    name: &'static str,
+    usage: &'static str,
+    run: fn(&[OsString], &mut Out) -> Result<Status, Failure>,
+}
+
+/// The commands, in the order of the help.
+const COMMANDS: [Command; 9] = [
+    Command { name: "check", usage: check::USAGE, run: check::run },
+    Command { name: "show", usage: show::USAGE, run: show::run },
+    Command { name: "sweep", usage: sweep::USAGE, run: sweep::run },
+    Command { name: "count", usage: count::USAGE, run: count::run },
+    Command { name: "soak", usage: soak::USAGE, run: soak::run },
+    Command { name: "bench", usage: bench::USAGE, run: bench::run },
+    Command { name: "compare", usage: compare::USAGE, run: compare::run },
+    Command { name: "man", usage: manual::MAN_USAGE, run: man },
+    Command { name: "completion", usage: manual::COMPLETION_USAGE, run: completion },
+];
+
 fn main() -> ExitCode {
     let words: Vec<OsString> = env::args_os().skip(1).collect();
     let mut out = BufWriter::new(io::stdout().lock());
@@ -53,52 +75,51 @@ fn main() -> ExitCode {
     }
 }
 
-fn run(words: &[OsString], out: &mut impl Write) -> Result<Status, Failure> {
-    let Some((command, rest)) = words.split_first() else {
+fn run(words: &[OsString], out: &mut Out) -> Result<Status, Failure> {
+    let Some((word, rest)) = words.split_first() else {
         return Err(Failure::Usage("no command is given".to_owned()));
     };
     // What stands behind `--` is a file, whatever its name.
     let help = rest.iter().take_while(|word| *word != "--").any(|word| word == "--help" || word == "-h");
-    match command.to_str() {
-        Some("check") if help => print(&[check::USAGE], out),
-        Some("show") if help => print(&[show::USAGE], out),
-        Some("sweep") if help => print(&[sweep::USAGE], out),
-        Some("count") if help => print(&[count::USAGE], out),
-        Some("soak") if help => print(&[soak::USAGE], out),
-        Some("bench") if help => print(&[bench::USAGE], out),
-        Some("compare") if help => print(&[compare::USAGE], out),
-        Some("check") => check::run(rest, out),
-        Some("show") => show::run(rest, out),
-        Some("sweep") => sweep::run(rest, out),
-        Some("count") => count::run(rest, out),
-        Some("soak") => soak::run(rest, out),
-        Some("bench") => bench::run(rest, out),
-        Some("compare") => compare::run(rest, out),
-        Some(checker::WORKER) => checker::work(rest, out),
-        Some("--help" | "-h" | "help") => {
-            out.write_all(about().as_bytes())?;
-            let usages = [
-                check::USAGE,
-                show::USAGE,
-                sweep::USAGE,
-                count::USAGE,
-                soak::USAGE,
-                bench::USAGE,
-                compare::USAGE,
-                USAGE,
-            ];
-            print(&usages, out)
-        }
-        Some("--version" | "-V") => {
-            let (version, kit) = (env!("CARGO_PKG_VERSION"), env!("BITBLAST_KIT"));
-            writeln!(out, "bbhost {version}, interface {}, proved with {kit}", interface())?;
-            Ok(Status::Fine)
-        }
-        _ => Err(Failure::Usage(format!("there is no command {}", command.display()))),
+    match COMMANDS.iter().find(|command| word == command.name) {
+        Some(command) if help => print(&[command.usage], out),
+        Some(command) => (command.run)(rest, out),
+        None => other(word, rest, out),
     }
 }
 
-fn print(usages: &[&str], out: &mut impl Write) -> Result<Status, Failure> {
+/// What is no command of the help.
+fn other(word: &OsString, rest: &[OsString], out: &mut Out) -> Result<Status, Failure> {
+    match word.to_str() {
+        Some(checker::WORKER) => checker::work(rest, out),
+        Some("--help" | "-h" | "help") => {
+            out.write_all(about().as_bytes())?;
+            let usages: Vec<&str> = COMMANDS.iter().map(|command| command.usage).chain([USAGE]).collect();
+            print(&usages, out)
+        }
+        Some("--version" | "-V") => {
+            let (version, origin) = (env!("CARGO_PKG_VERSION"), env!("BITBLAST_ORIGIN"));
+            writeln!(out, "bbhost {version}, interface {}, {origin}", interface())?;
+            Ok(Status::Fine)
+        }
+        _ => Err(Failure::Usage(format!("there is no command {}", word.display()))),
+    }
+}
+
+fn print(usages: &[&str], out: &mut Out) -> Result<Status, Failure> {
     writeln!(out, "usage:\n{}", usages.join("\n\n"))?;
     Ok(Status::Fine)
+}
+
+/// The commands' names and usages.
+fn usages() -> Vec<(&'static str, &'static str)> {
+    COMMANDS.iter().map(|command| (command.name, command.usage)).collect()
+}
+
+fn man(words: &[OsString], out: &mut Out) -> Result<Status, Failure> {
+    manual::man(words, &about(), &usages(), out)
+}
+
+fn completion(words: &[OsString], out: &mut Out) -> Result<Status, Failure> {
+    manual::completion(words, &usages(), out)
 }

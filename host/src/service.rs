@@ -17,6 +17,16 @@ const SHORT_VALUES: u32 = 21;
 /// What no count is: there are at most 65,536 assignments.
 const NO_COUNT: u32 = u32::MAX;
 
+/// How much memory a service has to lend, in bytes: a kept term takes 8 bytes of work, an answer 10. No job can use more than
+/// [`MAX_WORK_BYTES`] or [`MAX_ANSWER_BYTES`].
+#[derive(Clone, Copy, Debug, PartialEq, Eq)]
+pub struct Memory {
+    /// For the terms, and for finding them.
+    pub work_bytes: usize,
+    /// For the answers; it bounds the steps of a job, and with them its time.
+    pub answer_bytes: usize,
+}
+
 /// Checks jobs one after the other on the same memory, and counts what they came to.
 ///
 /// Stack: [`STACK_BYTES`](crate::STACK_BYTES) (256 KiB) are enough for any job, and a job decides how much is used: a thread that
@@ -42,12 +52,17 @@ pub struct Service {
 }
 
 impl Service {
-    /// A service with that much memory to lend; more than [`MAX_WORK_BYTES`] or [`MAX_ANSWER_BYTES`] is cut to these. The second number
-    /// bounds the steps of a job, and with them its time: ten bytes are one answer, and [`Service::with_answer_limit`] says it in answers.
+    /// A service with that much memory to lend: [`Service::with_memory`], whose numbers have names.
     pub fn new(work_bytes: usize, answer_bytes: usize) -> Self {
+        Service::with_memory(Memory { work_bytes, answer_bytes })
+    }
+
+    /// A service with that much memory to lend; more than a job can use is cut to that, and [`Service::memory`] says what it came to. Ten bytes
+    /// are one answer: [`Service::with_answer_limit`] says it in answers.
+    pub fn with_memory(memory: Memory) -> Self {
         Service {
-            work: vec![0; work_bytes.min(MAX_WORK_BYTES)],
-            answers: vec![0; answer_bytes.min(MAX_ANSWER_BYTES)],
+            work: vec![0; memory.work_bytes.min(MAX_WORK_BYTES)],
+            answers: vec![0; memory.answer_bytes.min(MAX_ANSWER_BYTES)],
             values: Vec::new(),
             counts: [NO_COUNT; MAX_VALUES],
             tally: Tally::default(),
@@ -95,6 +110,11 @@ impl Service {
         Count { counted, counts: &counts[..size], answers }
     }
 
+    /// The memory that it lends.
+    pub fn memory(&self) -> Memory {
+        Memory { work_bytes: self.work.len(), answer_bytes: self.answers.len() }
+    }
+
     /// What all jobs so far came to.
     pub fn tally(&self) -> Tally {
         self.tally
@@ -103,7 +123,7 @@ impl Service {
 
 impl fmt::Debug for Service {
     fn fmt(&self, f: &mut fmt::Formatter) -> fmt::Result {
-        let (work_bytes, answer_bytes) = (self.work.len(), self.answers.len());
+        let Memory { work_bytes, answer_bytes } = self.memory();
         write!(f, "Service {{ work_bytes: {work_bytes}, answer_bytes: {answer_bytes}, tally: {:?} }}", self.tally)
     }
 }

@@ -10,6 +10,8 @@ use run::{bbhost, text};
 use std::{
     fs,
     path::{Path, PathBuf},
+    process::{Command, Stdio},
+    time::Duration,
 };
 
 fn folder(name: &str) -> PathBuf {
@@ -184,6 +186,8 @@ fn long_jobs() {
     assert!(text(&output.stdout).contains("\"bytes\":null,\"stop\":2,"));
 }
 
+const COMMANDS: [&str; 9] = ["check", "show", "sweep", "count", "soak", "bench", "compare", "man", "completion"];
+
 #[test]
 fn usage() {
     for arguments in [
@@ -201,6 +205,13 @@ fn usage() {
         &["worker", "1", "1", "1"],
         &["check", "--explain", "--json", "-"],
         &["check", "-q", "--explain", "-"],
+        &["check", "-q", "--json", "-"],
+        &["check", "--json", "--jsonl", "-"],
+        &["check", "--files-from"],
+        &["check", "--files-from", "no-such-list"],
+        &["check", "--files-from", "/dev/null"],
+        &["man", "check"],
+        &["completion", "zsh"],
         &["show"],
         &["show", "--all", "-"],
         &["show", "no-such-file"],
@@ -230,15 +241,15 @@ fn usage() {
     for word in ["--help", "-h", "help"] {
         let output = bbhost(&[word], b"");
         assert_eq!(output.status.code(), Some(0));
-        for command in ["check", "show", "sweep", "count", "soak", "bench", "compare"] {
-            assert!(text(&output.stdout).contains(&format!("\n  bbhost {command} ")), "{command}");
+        for command in COMMANDS {
+            assert!(text(&output.stdout).contains(&format!("\n  bbhost {command}")), "{command}");
         }
     }
-    for command in ["check", "show", "sweep", "count", "soak", "bench", "compare"] {
+    for command in COMMANDS {
         for words in [&[command, "--help"][..], &[command, "-h"], &[command, "file", "-h"]] {
             let output = bbhost(words, b"");
             assert_eq!(output.status.code(), Some(0), "{words:?}");
-            assert!(text(&output.stdout).starts_with(&format!("usage:\n  bbhost {command} ")), "{words:?}");
+            assert!(text(&output.stdout).starts_with(&format!("usage:\n  bbhost {command}")), "{words:?}");
             assert_eq!(text(&output.stdout).matches("\n  bbhost ").count(), 1, "{words:?}");
         }
     }
@@ -249,6 +260,82 @@ fn usage() {
         let known = format!("bbhost {}, interface {INTERFACE}, proved with ", env!("CARGO_PKG_VERSION"));
         assert!(text(&output.stdout).starts_with(&known), "{}", text(&output.stdout));
     }
+}
+
+/// The manual page has every command's usage, and what man would take for its own is escaped.
+#[test]
+fn manual_page() {
+    let output = bbhost(&["man"], b"");
+    let page = text(&output.stdout);
+    assert_eq!(output.status.code(), Some(0));
+    assert!(
+        page.starts_with(".TH BBHOST 1 ") && page.contains("\n.SH NAME\nbbhost \\- asks the verified checker"),
+        "{page}"
+    );
+    for line in page.lines().filter(|line| line.starts_with('.')) {
+        assert!([".TH ", ".SH ", ".SS ", ".nf", ".fi"].iter().any(|known| line.starts_with(known)), "{line}");
+    }
+    let plain = page.replace("\\-", "-").replace("\\e", "\\");
+    for command in COMMANDS {
+        let usage = bbhost(&[command, "--help"], b"");
+        let usage = text(&usage.stdout).strip_prefix("usage:\n").unwrap().trim_end();
+        assert!(plain.contains(&format!("\n.SS {command}\n.nf\n{usage}\n.fi\n")), "{command}");
+    }
+}
+
+/// What bash offers after some words, by the script.
+#[test]
+fn completion_in_bash() {
+    let script = r#"
+        source <("$0" completion)
+        offer() { COMP_WORDS=("$@"); COMP_CWORD=$(($# - 1)); _bbhost; echo "${COMPREPLY[*]}"; }
+        offer bbhost s; offer bbhost check --j; offer bbhost check job.f; offer bbhost soak -; offer bbhost bench --w; complete -p bbhost"#;
+    let done = Command::new("bash").args(["-c", script, env!("CARGO_BIN_EXE_bbhost")]).output().unwrap();
+    let expected =
+        "show sweep soak\n--json --jsonl\n\n--seed --help\n--work --write\ncomplete -o default -F _bbhost bbhost\n";
+    assert_eq!(text(&done.stdout), expected, "{}", text(&done.stderr));
+}
+
+/// Files by a list, and names that would move a terminal's cursor.
+#[test]
+fn lists_and_names_of_files() {
+    let folder = folder("names");
+    let odd = folder.join("one\x1b[2Jtwo.job");
+    fs::write(&odd, jobs::specimen()).unwrap();
+    let odd = odd.to_str().unwrap();
+    for (words, list) in [(["check", "--", odd], ""), (["check", "--files-from", "-"], &format!("{odd}\n\n")[..])] {
+        let output = bbhost(&words, list.as_bytes());
+        let found = text(&output.stdout);
+        assert_eq!(output.status.code(), Some(0), "{found}");
+        assert!(found.contains("one\\u{1b}[2Jtwo.job: 70 bytes") && !found.contains('\x1b'), "{found}");
+    }
+    for words in [["sweep", odd, "9"], ["count", odd, "9"]] {
+        let output = bbhost(&words, b"");
+        assert!(text(&output.stdout).contains("one\\u{1b}[2Jtwo.job: term 9"), "{words:?}");
+    }
+}
+
+/// More memory than a job can use is not lent, and said.
+#[test]
+fn memory_that_no_job_can_use() {
+    for (option, lent) in [("--work", "1,048,576"), ("--answers", "27,962,020")] {
+        let output = bbhost(&["check", option, "1000000000", "-"], &jobs::specimen());
+        let said = format!("bbhost: {option}: no job can use more than {lent} bytes, which are lent\n");
+        assert_eq!((output.status.code(), text(&output.stderr)), (Some(0), &said[..]));
+    }
+}
+
+/// An interrupt ends a soak early, with what it came to.
+#[test]
+fn soak_interrupted() {
+    let child =
+        Command::new(env!("CARGO_BIN_EXE_bbhost")).args(["soak", "600"]).stdout(Stdio::piped()).spawn().unwrap();
+    std::thread::sleep(Duration::from_secs(3));
+    assert!(Command::new("kill").args(["-INT", &child.id().to_string()]).status().unwrap().success());
+    let output = child.wait_with_output().unwrap();
+    let found = text(&output.stdout);
+    assert_eq!(output.status.code(), Some(2), "{found}");
+    assert!(found.starts_with("INTERRUPTED: ") && found.ends_with("no deviation\n"), "{found}");
 }
 
 #[test]

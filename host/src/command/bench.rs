@@ -1,5 +1,5 @@
 //! `bbhost bench`: how long jobs take.
-use super::{Failure, Status, about, grouped, number, progress::Progress, sweeps, unknown, value};
+use super::{Failure, Status, about, grouped, interrupt, number, progress::Progress, sweeps, unknown, value};
 use bitblast_host::{
     Answers,
     jobs::{self, CONG},
@@ -9,12 +9,13 @@ use bitblast_host::{
 use std::{
     env,
     ffi::OsString,
-    fs,
+    fs::{self, DirBuilder},
     hint::black_box,
-    io::Write,
+    io::{self, Write},
+    os::unix::fs::DirBuilderExt,
     path::{Path, PathBuf},
     process::{self, Command},
-    time::{Duration, Instant},
+    time::{Duration, Instant, SystemTime, UNIX_EPOCH},
 };
 
 /// How the command is used.
@@ -82,7 +83,6 @@ pub fn run(words: &[OsString], out: &mut impl Write) -> Result<Status, Failure> 
     }
 
     let mut memory = (vec![0; work], vec![0; ANSWERS]);
-    let folder = env::temp_dir().join(format!("bbhost-bench-{}", process::id()));
     writeln!(
         out,
         "lent: {} bytes of work, {} of answers. Nothing but the library clears memory: it wipes all of the work memory in\n\
@@ -91,17 +91,41 @@ pub fn run(words: &[OsString], out: &mut impl Write) -> Result<Status, Failure> 
         grouped(ANSWERS as u64)
     )?;
     write!(out, "{:<20}{:>9}{:>9}{:>14}{:>12}", "job", "bytes", "records", "us per job", "ns/record")?;
-    if against.is_some() {
-        write_jobs(&folder)?;
+    let other = against.as_deref().map(Other::new).transpose()?;
+    if other.is_some() {
         write!(out, "{:>16}{:>10}", "original us", "ratio")?;
     }
     writeln!(out)?;
-    let done = measure_all(&mut memory, against.as_deref(), &folder, out);
-    if against.is_some() {
-        fs::remove_dir_all(&folder).map_err(|error| about(folder.display(), error))?;
+    let status = measure_all(&mut memory, other.as_ref(), out)?;
+    drop(other);
+    Ok(status.max(sweeps::measure_all(&mut memory, out)?))
+}
+
+/// Another program, and a folder of the jobs for it, which goes when the measuring ends, by an interrupt too.
+struct Other<'a> {
+    command: &'a str,
+    folder: PathBuf,
+}
+
+impl<'a> Other<'a> {
+    fn new(command: &'a str) -> Result<Self, Failure> {
+        let time = SystemTime::now().duration_since(UNIX_EPOCH).map_or(0, |time| time.subsec_nanos());
+        let folder = env::temp_dir().join(format!("bbhost-bench-{}-{time}", process::id()));
+        // A folder that is there already is not ours.
+        DirBuilder::new().mode(0o700).create(&folder).map_err(|error| about(folder.display(), error))?;
+        interrupt::watch();
+        let other = Other { command, folder };
+        write_jobs(&other.folder)?;
+        Ok(other)
     }
-    let swept = sweeps::measure_all(&mut memory, out)?;
-    done.map(|status| if status == Status::Fine { swept } else { status })
+}
+
+impl Drop for Other<'_> {
+    fn drop(&mut self) {
+        if let Err(error) = fs::remove_dir_all(&self.folder) {
+            eprintln!("bbhost: {}: {error}", self.folder.display());
+        }
+    }
 }
 
 fn write_jobs(folder: &Path) -> Result<(), Failure> {
@@ -115,13 +139,15 @@ fn write_jobs(folder: &Path) -> Result<(), Failure> {
 
 fn measure_all(
     memory: &mut (Vec<u8>, Vec<u8>),
-    against: Option<&str>,
-    folder: &Path,
+    other: Option<&Other>,
     out: &mut impl Write,
 ) -> Result<Status, Failure> {
     let mut status = Status::Fine;
     let mut progress = Progress::new();
     for Measured { name, job, original } in jobs() {
+        if interrupt::came() {
+            return Err(Failure::Io(io::Error::new(io::ErrorKind::Interrupted, "interrupted")));
+        }
         progress.show(|| name.clone());
         let outcome = run_job(&job, &mut memory.0, &mut memory.1);
         let accepted = Answers::new(&memory.1, outcome.answers).all(|answer| answer.code <= 1);
@@ -139,7 +165,7 @@ fn measure_all(
             best * 1e6,
             best * 1e9 / f64::from(outcome.records.max(1))
         )?;
-        if let Some(command) = against.filter(|_| original) {
+        if let Some(Other { command, folder }) = other.filter(|_| original) {
             match ask(command, &folder.join(format!("{name}.job")), runs.clamp(3, 300)) {
                 Ok(theirs) => write!(out, "{:>16.2}{:>9.2}x", theirs * 1e6, theirs / best)?,
                 Err(why) => {

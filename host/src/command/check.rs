@@ -1,25 +1,28 @@
 //! `bbhost check`: the jobs in some files.
 use super::{
-    Checked, Failure, Status,
+    Checked, Failure, Status, about,
     checker::{Checker, Trouble},
-    job_bytes, json, no_file, number,
-    progress::Progress,
-    table, unknown,
+    grouped, job_bytes, json, no_file, number,
+    progress::{Progress, during},
+    shown, table, unknown, value,
 };
 use bitblast_host::{
     Report, Tally,
     service::{MAX_ANSWER_BYTES, MAX_WORK_BYTES},
 };
 use std::{
-    ffi::OsString,
-    io::{self, Write},
+    ffi::{OsStr, OsString},
+    fs::File,
+    io::{self, Read, Write},
     num::NonZero,
+    os::unix::ffi::OsStringExt,
+    slice::Iter,
     time::Duration,
 };
 
 /// How the command is used.
 pub const USAGE: &str = "  bbhost check [--explain | --json | --jsonl | -q] [--steps N] [--timeout S] [--work BYTES] [--answers BYTES]
-                FILE..
+               [--files-from LIST] FILE..
       Checks the job in each file (- is the standard input; up to 16 MiB each) and prints a table of its steps.
       A repeat is a record of a term that was there already.
       --explain  prints below each refused step what is claimed, what is expected, and where they first differ
@@ -29,6 +32,7 @@ pub const USAGE: &str = "  bbhost check [--explain | --json | --jsonl | -q] [--s
       --steps N  demands exactly N answers of each job, so that a job that lost its end does not pass
       --timeout S  checks each job in a process of its own, which is ended where it takes longer than S seconds
       --work, --answers   lend that much memory only (a kept term takes 8 bytes, an answer 10)
+      --files-from LIST  also checks the files that LIST names, one a line: `find DIR -type f | bbhost check --files-from -`
       Exit status 0: every job ran to its end, has a step (or the demanded number), and every step is held. 1: not so; a job
       without a step was not checked. 2: usage, or a file that cannot be read. 3: a job took longer than --timeout allows.";
 
@@ -40,7 +44,7 @@ enum Form {
     Quiet,
 }
 
-struct Options<'a> {
+struct Options {
     form: Form,
     explain: bool,
     work: usize,
@@ -49,27 +53,28 @@ struct Options<'a> {
     steps: Option<u32>,
     /// The time that each job may take.
     limit: Option<Duration>,
-    files: Vec<&'a OsString>,
+    files: Vec<OsString>,
 }
 
-fn options(words: &[OsString]) -> Result<Options<'_>, Failure> {
+fn options(words: &[OsString]) -> Result<Options, Failure> {
     let (work, answers) = (MAX_WORK_BYTES, MAX_ANSWER_BYTES);
     let mut options =
         Options { form: Form::Table, explain: false, work, answers, steps: None, limit: None, files: Vec::new() };
     let mut rest = words.iter();
     while let Some(word) = rest.next() {
         match word.to_str() {
-            Some("--json") => options.form = Form::Json,
-            Some("--jsonl") => options.form = Form::JsonLines,
+            Some("--json") => print_as(Form::Json, &mut options)?,
+            Some("--jsonl") => print_as(Form::JsonLines, &mut options)?,
+            Some("-q") => print_as(Form::Quiet, &mut options)?,
             Some("--explain") => options.explain = true,
-            Some("-q") => options.form = Form::Quiet,
-            Some("--work") => options.work = number("--work", &mut rest)?,
-            Some("--answers") => options.answers = number("--answers", &mut rest)?,
+            Some("--work") => options.work = lent("--work", MAX_WORK_BYTES, &mut rest)?,
+            Some("--answers") => options.answers = lent("--answers", MAX_ANSWER_BYTES, &mut rest)?,
             Some("--steps") => options.steps = Some(number::<NonZero<u32>>("--steps", &mut rest)?.get()),
             Some("--timeout") => options.limit = Some(seconds(number("--timeout", &mut rest)?)?),
-            Some("--") => options.files.extend(rest.by_ref()),
+            Some("--files-from") => options.files.extend(listed(value("--files-from", &mut rest)?)?),
+            Some("--") => options.files.extend(rest.by_ref().cloned()),
             Some(text) if text.starts_with('-') && text != "-" => return Err(unknown(word)),
-            _ => options.files.push(word),
+            _ => options.files.push(word.clone()),
         }
     }
     if options.explain && options.form != Form::Table {
@@ -83,6 +88,37 @@ fn options(words: &[OsString]) -> Result<Options<'_>, Failure> {
     Ok(options)
 }
 
+/// Takes a form in place of the table.
+fn print_as(form: Form, options: &mut Options) -> Result<(), Failure> {
+    if options.form != Form::Table && options.form != form {
+        return Err(Failure::Usage("only one of --json, --jsonl and -q can be had".to_owned()));
+    }
+    options.form = form;
+    Ok(())
+}
+
+/// The bytes to lend. More than any job can use is not lent, and said.
+fn lent(option: &str, most: usize, words: &mut Iter<OsString>) -> Result<usize, Failure> {
+    let bytes: usize = number(option, words)?;
+    if bytes > most {
+        eprintln!("bbhost: {option}: no job can use more than {} bytes, which are lent", grouped(most as u64));
+    }
+    Ok(bytes.min(most))
+}
+
+/// The files that a list names, one a line.
+fn listed(list: &OsStr) -> Result<Vec<OsString>, Failure> {
+    let mut bytes = Vec::new();
+    let read = if list == "-" {
+        io::stdin().lock().read_to_end(&mut bytes)
+    } else {
+        File::open(list).and_then(|mut file| file.read_to_end(&mut bytes))
+    };
+    read.map_err(|error| about(shown(list), error))?;
+    let names = bytes.split(|&byte| byte == b'\n').filter(|name| !name.is_empty());
+    Ok(names.map(|name| OsString::from_vec(name.to_vec())).collect())
+}
+
 /// A time above 0.
 fn seconds(number: f64) -> Result<Duration, Failure> {
     let time = Duration::try_from_secs_f64(number).ok().filter(|time| !time.is_zero());
@@ -91,8 +127,7 @@ fn seconds(number: f64) -> Result<Duration, Failure> {
 
 pub fn run(words: &[OsString], out: &mut impl Write) -> Result<Status, Failure> {
     let options = options(words)?;
-    let (work, answers) = (options.work.min(MAX_WORK_BYTES), options.answers.min(MAX_ANSWER_BYTES));
-    let mut checker = Checker::new(work, answers, options.limit);
+    let mut checker = Checker::new(options.work, options.answers, options.limit);
     let mut progress = Progress::new();
     let mut status = Status::Fine;
     if options.form == Form::Json {
@@ -100,9 +135,10 @@ pub fn run(words: &[OsString], out: &mut impl Write) -> Result<Status, Failure> 
     }
     for (k, file) in options.files.iter().enumerate() {
         let (place, name) = (k + 1, file.to_string_lossy());
-        progress.show(|| format!("file {place} of {}: {name}", options.files.len()));
+        let what = format!("file {place} of {}: {}", options.files.len(), shown(file));
+        progress.show(|| what.clone());
         let outcome = match job_bytes(file) {
-            Ok(job) => match checker.check(&job) {
+            Ok(job) => match during(&what, || checker.check(&job)) {
                 Ok(report) => print(place, &name, &job, &report, &options, out)?,
                 Err(trouble) => failed(place, &name, &trouble, &options, out)?,
             },
@@ -135,7 +171,7 @@ fn print(
 
 /// Says that a file has no answer.
 fn failed(place: usize, name: &str, trouble: &Trouble, options: &Options, out: &mut impl Write) -> io::Result<Status> {
-    eprintln!("bbhost: {name}: {}", trouble.words());
+    eprintln!("bbhost: {}: {}", shown(OsStr::new(name)), trouble.words());
     object(place, json::failed(place, name, trouble.kind(), &trouble.words()), options, out)?;
     Ok(trouble.status())
 }

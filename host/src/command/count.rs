@@ -2,6 +2,7 @@
 use super::{
     Failure, Status, about, counted, grouped, job_bytes,
     progress::during,
+    shown,
     sweep::{file_and_number, refusal},
 };
 use bitblast_host::{
@@ -24,7 +25,7 @@ const BAR: u64 = 50;
 
 pub fn run(words: &[OsString], out: &mut impl Write) -> Result<Status, Failure> {
     let (file, number) = file_and_number("count", words)?;
-    let name = file.to_string_lossy();
+    let name = shown(file);
     let job = job_bytes(file).map_err(|error| about(&name, error))?;
     let mut service = Service::new(MAX_WORK_BYTES, MAX_ANSWER_BYTES);
     let count = during(&format!("counting the values of term {number}"), || service.count(&job, number));

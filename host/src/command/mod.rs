@@ -6,8 +6,10 @@ pub mod checker;
 pub mod compare;
 pub mod count;
 mod explain;
+mod interrupt;
 mod json;
 mod looks;
+pub mod manual;
 mod progress;
 mod reader;
 pub mod show;
@@ -84,6 +86,15 @@ fn files<'a>(command: &str, words: &'a [OsString]) -> Result<Vec<&'a OsString>, 
 
 fn no_file(command: &str) -> Failure {
     Failure::Usage(format!("{command} needs a file, or - for the standard input"))
+}
+
+/// A file's name as it is printed: one that holds control characters shows them, and does not send them to the terminal.
+fn shown(file: &OsStr) -> String {
+    let mut text = String::new();
+    for c in file.to_string_lossy().chars() {
+        if c.is_control() { text.extend(c.escape_default()) } else { text.push(c) }
+    }
+    text
 }
 
 /// The bytes of a file: at most one more than the longest job, which the checker then refuses.

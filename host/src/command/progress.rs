@@ -41,6 +41,9 @@ impl Drop for Progress {
 
 /// Does long work, and shows meanwhile how many seconds it has taken: the library says nothing before it is done.
 pub fn during<T>(what: &str, work: impl FnOnce() -> T) -> T {
+    if !stderr().is_terminal() {
+        return work();
+    }
     let (done, end) = channel::<()>();
     thread::scope(|scope| {
         scope.spawn(move || {

@@ -1,5 +1,5 @@
 //! `bbhost soak`: jobs of all sorts, one after the other, on the same memory.
-use super::{Failure, Status, grouped, progress::Progress, unknown};
+use super::{Failure, Status, grouped, interrupt, progress::Progress, unknown};
 use bitblast_host::{
     ANSWER_BYTES, Answer, Answers, Outcome, Tally, Verdict,
     jobs::{self, SPECIMEN_ANSWER},
@@ -9,14 +9,15 @@ use bitblast_host::{
 };
 use std::{
     ffi::OsString,
-    io::Write,
+    io::{self, Write},
     time::{Duration, Instant},
 };
 
 /// How the command is used.
 pub const USAGE: &str = "  bbhost soak SECONDS [--seed N]
       Runs right, damaged and random jobs on the same memory, and watches the memory, a known job and the tally after each.
-      Exit status 1 on any deviation, or where resident memory grows by more than 1 MiB.";
+      Exit status 1 on any deviation, or where resident memory grows by more than 1 MiB. An interrupt ends it early, with
+      what it came to so far and status 2.";
 
 /// The right jobs that are used again and again.
 const RIGHT_JOBS: usize = 300;
@@ -52,6 +53,32 @@ struct Right {
 }
 
 pub fn run(words: &[OsString], out: &mut impl Write) -> Result<Status, Failure> {
+    let (time, seed) = options(words)?;
+    interrupt::watch();
+    let mut soak = Soak::new(seed);
+    // Once through the right jobs, so that all memory that is ever used is in use.
+    for k in 0..soak.right_jobs.len() {
+        if let Err(deviation) = soak.right(k) {
+            return failed(&soak, &deviation, out);
+        }
+    }
+    let resident = resident_kib();
+    let begun = Instant::now();
+    let mut progress = Progress::new();
+    while begun.elapsed() < time && !interrupt::came() {
+        if let Err(deviation) = soak.turn() {
+            return failed(&soak, &deviation, out);
+        }
+        progress.show(|| format!("{:.0} s, {} jobs", begun.elapsed().as_secs_f64(), grouped(soak.turns.iter().sum())));
+    }
+    drop(progress);
+    counts(&soak, begun.elapsed(), out)?;
+    let status = memory(resident, out)?;
+    Ok(if interrupt::came() { status.max(Status::Trouble) } else { status })
+}
+
+/// The time, and the seed of the random choices.
+fn options(words: &[OsString]) -> Result<(Duration, u64), Failure> {
     let (mut seconds, mut seed) = (None, 1);
     let mut rest = words.iter();
     while let Some(word) = rest.next() {
@@ -64,48 +91,35 @@ pub fn run(words: &[OsString], out: &mut impl Write) -> Result<Status, Failure> 
             _ => return Err(unknown(word)),
         }
     }
-    let Some(time) = seconds else {
-        return Err(Failure::Usage("soak needs a number of seconds".to_owned()));
-    };
+    let time = seconds.ok_or_else(|| Failure::Usage("soak needs a number of seconds".to_owned()))?;
+    Ok((time, seed))
+}
 
-    let mut soak = Soak::new(seed);
-    // Once through the right jobs, so that all memory that is ever used is in use.
-    for k in 0..soak.right_jobs.len() {
-        if let Err(deviation) = soak.right(k) {
-            return failed(&soak, &deviation, out);
-        }
-    }
-    let resident = resident_kib();
-    let begun = Instant::now();
-    let mut progress = Progress::new();
-    while begun.elapsed() < time {
-        if let Err(deviation) = soak.turn() {
-            return failed(&soak, &deviation, out);
-        }
-        progress.show(|| format!("{:.0} s, {} jobs", begun.elapsed().as_secs_f64(), grouped(soak.tally.jobs)));
-    }
-    drop(progress);
-    let passed = begun.elapsed().as_secs_f64();
+/// How many jobs there were, and what they came to.
+fn counts(soak: &Soak, passed: Duration, out: &mut impl Write) -> io::Result<()> {
     let jobs: u64 = soak.turns.iter().sum();
+    let seconds = passed.as_secs_f64();
+    let [right, damaged, random, large] = soak.turns.map(grouped);
+    if interrupt::came() {
+        write!(out, "INTERRUPTED: ")?;
+    }
     writeln!(
         out,
-        "{} jobs in {passed:.1} s, {} each second: {} right, {} damaged, {} of random bytes, {} large; the specimen after each",
+        "{} jobs in {seconds:.1} s, {} each second: {right} right, {damaged} damaged, {random} of random bytes, {large} large; the specimen \
+         after each",
         grouped(jobs),
-        grouped((jobs as f64 / passed) as u64),
-        grouped(soak.turns[0]),
-        grouped(soak.turns[1]),
-        grouped(soak.turns[2]),
-        grouped(soak.turns[3])
+        grouped((jobs as f64 / seconds) as u64)
     )?;
     let Tally { jobs, held, form_only, refused, .. } = soak.tally;
+    let [jobs, held, form_only, refused] = [jobs, held, form_only, refused].map(grouped);
     writeln!(
         out,
-        "tally, as counted by the host too: {} jobs, {} held, {} form only, {} refused",
-        grouped(jobs),
-        grouped(held),
-        grouped(form_only),
-        grouped(refused)
-    )?;
+        "tally, as counted by the host too: {jobs} jobs, {held} held, {form_only} form only, {refused} refused"
+    )
+}
+
+/// Whether the resident memory is what it was.
+fn memory(resident: Option<u64>, out: &mut impl Write) -> io::Result<Status> {
     let (Some(start), Some(end)) = (resident, resident_kib()) else {
         writeln!(out, "resident memory: not known, since /proc/self/status has no VmRSS\nno deviation")?;
         return Ok(Status::Fine);

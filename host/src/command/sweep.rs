@@ -1,5 +1,5 @@
 //! `bbhost sweep`: both sides of an equality on every assignment.
-use super::{Failure, Status, about, counted, grouped, job_bytes, progress::during, unknown};
+use super::{Failure, Status, about, counted, grouped, job_bytes, progress::during, shown, unknown};
 use bitblast_host::{
     Outcome, Service, Sweep,
     service::{MAX_ANSWER_BYTES, MAX_WORK_BYTES},
@@ -29,7 +29,7 @@ pub fn file_and_number<'a>(command: &str, words: &'a [OsString]) -> Result<(&'a 
 
 pub fn run(words: &[OsString], out: &mut impl Write) -> Result<Status, Failure> {
     let (file, number) = file_and_number("sweep", words)?;
-    let name = file.to_string_lossy();
+    let name = shown(file);
     let job = job_bytes(file).map_err(|error| about(&name, error))?;
     let mut service = Service::new(MAX_WORK_BYTES, MAX_ANSWER_BYTES);
     let sweep = during(&format!("sweeping term {number}"), || service.sweep(&job, number));

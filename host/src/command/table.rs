@@ -4,14 +4,18 @@ use super::{
     explain::explain,
     looks::looks_like,
     reader::{Reader, records},
+    shown,
 };
 use bitblast_host::{Answer, MAX_JOB_BYTES, Report, Tally, Verdict};
-use std::io::{self, Write};
+use std::{
+    ffi::OsStr,
+    io::{self, Write},
+};
 
 /// A job that was checked: what it came to, its answers, and what is wrong with their number.
 pub fn table(checked: &Checked, explained: bool, out: &mut impl Write) -> io::Result<()> {
-    let Checked { name, job, report, .. } = *checked;
-    let outcome = report.outcome();
+    let Checked { job, report, .. } = *checked;
+    let (name, outcome) = (shown(OsStr::new(checked.name)), report.outcome());
     let bytes = if job.len() > MAX_JOB_BYTES {
         format!("more than {}", counted(MAX_JOB_BYTES as u64, "byte"))
     } else {
