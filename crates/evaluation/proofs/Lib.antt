@@ -1,3 +1,4 @@
+pub mod CellLaws
 pub mod PlaceLaws
 pub mod ListLaws
 pub mod TermLaws

@@ -28,7 +28,7 @@ use Rattle.operations.specs.declared.apply.Word.{Word}
 use Rattle.operations.specs.Apply.{many-op, bits-by, val-by, Number, start-val, extend-val, next-width, Room, Starts, Started, Extends, Extended}
 use Rattle.operations.proofs.ApplyLaws.{bit-back}
 use Rattle.operations.proofs.MeaningLaws.{many-meaning, room-first, room-next, room-start, first-fits, sorts-by}
-use Rattle.evaluation.specs.Cells.{cell-at, AllRight, sorts-on, values-on, Given, GivenList, Comes}
+use Rattle.evaluation.specs.Cells.{AllRight, sorts-on, values-on, Given, GivenList, Comes}
 use Rattle.evaluation.proofs.PlaceLaws.{place-sort, place-number, place-val}
 
 -- ---- lists
@@ -65,27 +65,27 @@ many-arity M.Add = refl
 many-arity M.Mul = refl
 many-arity M.Concat = refl
 
--- ---- widths and values of the terms at places
+-- ---- widths and num of the terms at places
 abbrev width-on : Plain → ℕ → ℕ
 width-on list k = sort-width (sort-of (tree-at list k))
 
-abbrev val-on : Plain → Bytes → ℕ → Val
-val-on list values k = val-by (width-on list k) (cell-at values k)
+abbrev val-on : Plain → (ℕ → ℕ) → ℕ → Val
+val-on list num k = val-by (width-on list k) (num k)
 
--- what a list of values comes to
+-- what a list of num comes to
 abbrev folded : Many → List Val → Val
 folded op [] = truth false
 folded op (v ∷ vs) = foldl (extend-val op) (start-val op v) vs
 
 -- the first i arguments have come to acc
-pub record Folding (job work : Bytes) (n : ℕ) (values : Bytes) (op : Many) (ks : List ℕ) (acc : Word) (i : ℕ) : Type 0 where
+pub record Folding (job work : Bytes) (n : ℕ) (num : ℕ → ℕ) (op : Many) (ks : List ℕ) (acc : Word) (i : ℕ) : Type 0 where
   pub low : 1 ≤ i
   pub most : i ≤ length ks
   pub room : Room op (acc .width) (drop i (map (width-on (listed job work n)) ks))
   pub below : acc .value < 2 ^ bits-by (acc .width)
-  pub whole : foldl (extend-val op) (val-by (acc .width) (acc .value)) (drop i (map (val-on (listed job work n) values) ks)) ≡ folded op (map (val-on (listed job work n) values) ks)
+  pub whole : foldl (extend-val op) (val-by (acc .width) (acc .value)) (drop i (map (val-on (listed job work n) num) ks)) ≡ folded op (map (val-on (listed job work n) num) ks)
 
-module _ {job work : Bytes} {n : ℕ} {values : Bytes} (op : Many) (ks : List ℕ) (g : Given job work n values (many-op op) ks) where
+module _ {job work : Bytes} {n : ℕ} {num : ℕ → ℕ} (op : Many) (ks : List ℕ) (g : Given job work n num (many-op op) ks) where
   -- there is a first argument
   pub some-first : 1 ≤ length ks
   some-first = go ks (subst (λ a. T (takes a (length (sorts-on (listed job work n) ks)))) (many-arity op) (counted (many-op op) (sorts-on (listed job work n) ks) (g .sorted)))
@@ -103,15 +103,15 @@ module _ {job work : Bytes} {n : ℕ} {values : Bytes} (op : Many) (ks : List �
   widths-sorted : T (good (sort-op (many-op op) (sorts-by (map (width-on (listed job work n)) ks))))
   widths-sorted = subst (λ (ss : List Sort). T (good (sort-op (many-op op) ss))) (sym (sorts-back ks (g .below))) (g .sorted)
 
-  vals-back : (ρ : Assign) (ls : List ℕ) → T (all-below (first-terms + n) ls) → AllRight ρ (listed job work n) values ls
-      → map (val-on (listed job work n) values) ls ≡ values-on ρ (listed job work n) ls
+  vals-back : (ρ : Assign) (ls : List ℕ) → T (all-below (first-terms + n) ls) → AllRight ρ (listed job work n) num ls
+      → map (val-on (listed job work n) num) ls ≡ values-on ρ (listed job work n) ls
   vals-back ρ [] b a = refl
   vals-back ρ (l ∷ ls) b a =
       ap₂ (λ (v : Val) (vs : List Val). v ∷ vs) (place-val (g .able) l (ltb→lt l (first-terms + n) (and-l (ltb l (first-terms + n)) _ b)) ρ (a .0) refl refl)
       (vals-back ρ ls (and-r (ltb l (first-terms + n)) _ b) (a .1))
 
   -- ---- argument i, with its width and cell
-  module _ (i k m v : ℕ) (h : i < length ks) (d : k ≡ getD ks i 0) (e : m ≡ sort-width (sort-of (tree-at (listed job work n) k))) (f : v ≡ cell-at values k) where
+  module _ (i k m v : ℕ) (h : i < length ks) (d : k ≡ getD ks i 0) (e : m ≡ sort-width (sort-of (tree-at (listed job work n) k))) (f : v ≡ num k) where
     pub arg-low : k < first-terms + n
     arg-low = subst (λ (z : ℕ). z < first-terms + n) (sym d) (below-at (first-terms + n) ks i (g .below) h)
 
@@ -121,11 +121,11 @@ module _ {job work : Bytes} {n : ℕ} {values : Bytes} (op : Many) (ks : List �
     arg-width : m ≡ width-on (listed job work n) (getD ks i 0)
     arg-width = e ∙ ap (width-on (listed job work n)) d
 
-    arg-val : val-by m v ≡ val-on (listed job work n) values (getD ks i 0)
-    arg-val = ap₂ val-by arg-width (f ∙ ap (cell-at values) d)
+    arg-val : val-by m v ≡ val-on (listed job work n) num (getD ks i 0)
+    arg-val = ap₂ val-by arg-width (f ∙ ap num d)
 
     -- the arguments after it can follow
-    pub folding-ready : (acc : Word) → Folding job work n values op ks acc i → Extends op acc m v
+    pub folding-ready : (acc : Word) → Folding job work n num op ks acc i → Extends op acc m v
     folding-ready acc s =
         let r = subst (Room op (acc .width)) (drop-map (width-on (listed job work n)) ks i h) (s .room) in
         record {
@@ -134,7 +134,7 @@ module _ {job work : Bytes} {n : ℕ} {values : Bytes} (op : Many) (ks : List �
           next = arg-number .below;
         }
 
-    pub folding-turn : (acc next : Word) → Folding job work n values op ks acc i → Extended op acc m v next → Folding job work n values op ks next (i + 1)
+    pub folding-turn : (acc next : Word) → Folding job work n num op ks acc i → Extended op acc m v next → Folding job work n num op ks next (i + 1)
     folding-turn acc next s x =
         let r = subst (Room op (acc .width)) (drop-map (width-on (listed job work n)) ks i h) (s .room) in
         let q = room-next op (acc .width) _ _ r in
@@ -144,12 +144,12 @@ module _ {job work : Bytes} {n : ℕ} {values : Bytes} (op : Many) (ks : List �
           room = subst (λ (j : ℕ). Room op (next .width) (drop j (map (width-on (listed job work n)) ks))) (sym (add-one i))
               (subst (λ (w : ℕ). Room op w (drop (suc i) (map (width-on (listed job work n)) ks))) (sym (x .width-is ∙ ap (next-width op (acc .width)) arg-width)) q);
           below = x .below;
-          whole = ap₂ (λ (u : Val) (j : ℕ). foldl (extend-val op) u (drop j (map (val-on (listed job work n) values) ks))) (x .is ∙ ap (extend-val op (val-by (acc .width) (acc .value))) arg-val) (add-one i)
-              ∙ sym (ap (foldl (extend-val op) (val-by (acc .width) (acc .value))) (drop-map (val-on (listed job work n) values) ks i h)) ∙ s .whole;
+          whole = ap₂ (λ (u : Val) (j : ℕ). foldl (extend-val op) u (drop j (map (val-on (listed job work n) num) ks))) (x .is ∙ ap (extend-val op (val-by (acc .width) (acc .value))) arg-val) (add-one i)
+              ∙ sym (ap (foldl (extend-val op) (val-by (acc .width) (acc .value))) (drop-map (val-on (listed job work n) num) ks i h)) ∙ s .whole;
         }
 
   -- ---- the first argument
-  module _ (k m v : ℕ) (d : k ≡ getD ks 0 0) (e : m ≡ sort-width (sort-of (tree-at (listed job work n) k))) (f : v ≡ cell-at values k) where
+  module _ (k m v : ℕ) (d : k ≡ getD ks 0 0) (e : m ≡ sort-width (sort-of (tree-at (listed job work n) k))) (f : v ≡ num k) where
     first-width : m ≡ width-on (listed job work n) (getD ks 0 0)
     first-width = arg-width 0 k m v some-first d e f
 
@@ -161,34 +161,34 @@ module _ {job work : Bytes} {n : ℕ} {values : Bytes} (op : Many) (ks : List �
     pub start-ready : Starts op m v
     start-ready = record { fits = first-fits op m (drop 1 (map (width-on (listed job work n)) ks)) first-sorted; first = arg-number 0 k m v some-first d e f }
 
-    folded-first : folded op (map (val-on (listed job work n) values) ks) ≡ foldl (extend-val op) (start-val op (val-by m v)) (drop 1 (map (val-on (listed job work n) values) ks))
-    folded-first = ap (folded op) (drop-map (val-on (listed job work n) values) ks 0 some-first ∙ ap (λ (u : Val). u ∷ drop 1 (map (val-on (listed job work n) values) ks)) (sym (arg-val 0 k m v some-first d e f)))
+    folded-first : folded op (map (val-on (listed job work n) num) ks) ≡ foldl (extend-val op) (start-val op (val-by m v)) (drop 1 (map (val-on (listed job work n) num) ks))
+    folded-first = ap (folded op) (drop-map (val-on (listed job work n) num) ks 0 some-first ∙ ap (λ (u : Val). u ∷ drop 1 (map (val-on (listed job work n) num) ks)) (sym (arg-val 0 k m v some-first d e f)))
 
-    pub folding-start : (r : Word) → Started op m v r → Folding job work n values op ks r 1
+    pub folding-start : (r : Word) → Started op m v r → Folding job work n num op ks r 1
     folding-start r x = record {
       low = omega arith;
       most = some-first;
       room = subst (λ (w : ℕ). Room op w (drop 1 (map (width-on (listed job work n)) ks))) (sym (x .width-is)) (room-start op m (drop 1 (map (width-on (listed job work n)) ks)) (arg-number 0 k m v some-first d e f .few) first-sorted);
       below = x .below;
-      whole = ap (λ (u : Val). foldl (extend-val op) u (drop 1 (map (val-on (listed job work n) values) ks))) (x .is) ∙ sym folded-first;
+      whole = ap (λ (u : Val). foldl (extend-val op) u (drop 1 (map (val-on (listed job work n) num) ks))) (x .is) ∙ sym folded-first;
     }
 
   -- ---- the end
-  folded-meaning : (ρ : Assign) (ls : List ℕ) → 1 ≤ length ls → folded op (map (val-on (listed job work n) values) ls) ≡ meaning ρ (many-op op) (map (val-on (listed job work n) values) ls)
+  folded-meaning : (ρ : Assign) (ls : List ℕ) → 1 ≤ length ls → folded op (map (val-on (listed job work n) num) ls) ≡ meaning ρ (many-op op) (map (val-on (listed job work n) num) ls)
   folded-meaning ρ [] h = absurd (omega arith)
   folded-meaning ρ (l ∷ ls) h = sym (many-meaning ρ op _ _)
 
-  pub folding-done : (acc : Word) (i : ℕ) → length ks ≤ i → Folding job work n values op ks acc i → Comes (listed job work n) values (many-op op) ks (acc .value)
+  pub folding-done : (acc : Word) (i : ℕ) → length ks ≤ i → Folding job work n num op ks acc i → Comes (listed job work n) num (many-op op) ks (acc .value)
   folding-done acc i h s ρ a =
       sym (number-back (acc .width) (acc .value) (s .below))
-      ∙ ap as-number (ap (foldl (extend-val op) (val-by (acc .width) (acc .value))) (sym (drop-end (val-on (listed job work n) values) ks i h)) ∙ s .whole
+      ∙ ap as-number (ap (foldl (extend-val op) (val-by (acc .width) (acc .value))) (sym (drop-end (val-on (listed job work n) num) ks i h)) ∙ s .whole
       ∙ folded-meaning ρ ks some-first ∙ ap (meaning ρ (many-op op)) (vals-back ρ ks (g .below) a))
 
 -- ---- a list in the job has as many numbers as it says
 count-is : (job : Bytes) (a : Args) → length (words-in job a) ≡ a .count
 count-is job a = words-length (a .count) (drop (a .at) job)
 
-module _ {job work : Bytes} {n : ℕ} {values : Bytes} (op : Many) (a : Args) (g : GivenList job work n values (many-op op) a) where
+module _ {job work : Bytes} {n : ℕ} {num : ℕ → ℕ} (op : Many) (a : Args) (g : GivenList job work n num (many-op op) a) where
   pub count-first : 0 < length (words-in job a)
   count-first = some-first op (words-in job a) (g .given)
 

@@ -25,7 +25,7 @@ use Rattle.operations.specs.declared.apply.Binary.{Binary}
 use Rattle.operations.specs.declared.apply.Binary.the-variants as B
 use Rattle.operations.specs.Apply.{binary-op, sort-by, bits-by, val-by, Number, One, Two, Bools3}
 use Rattle.operations.proofs.ManyLaws.{val-word}
-use Rattle.evaluation.specs.Cells.{cell-at, Right, Evaluable, sorts-on, Given, Comes}
+use Rattle.evaluation.specs.Cells.{Right, Evaluable, sorts-on, Given, Comes}
 
 -- ---- sorts by their widths
 pub sort-back : (s : Sort) → T (good s) → T (sized s) → sort-by (sort-width s) ≡ s
@@ -52,7 +52,7 @@ val-back (is-truth {b}) g z = ap truth (bit-truth b)
 val-back (is-number {n} {x} h) g z = val-word n x (leb→le 1 n (and-l (leb 1 n) _ z))
 
 -- ---- at a place
-module _ {job work : Bytes} {n : ℕ} {values : Bytes} (able : Evaluable job work n values) where
+module _ {job work : Bytes} {n : ℕ} {num : ℕ → ℕ} (able : Evaluable job work n num) where
   module _ (k : ℕ) (l : k < first-terms + n) where
     pub place-low : k < length (listed job work n)
     place-low = omega (arith, able .shelf .count)
@@ -63,7 +63,7 @@ module _ {job work : Bytes} {n : ℕ} {values : Bytes} (able : Evaluable job wor
     pub place-sort : {m : ℕ} → m ≡ sort-width (sort-of (tree-at (listed job work n) k)) → sort-by m ≡ sort-of (tree-at (listed job work n) k)
     place-sort e = ap sort-by e ∙ sort-back (sort-of (tree-at (listed job work n) k)) place-good (sorts-sized (tree-at (listed job work n) k))
 
-    pub place-number : {m v : ℕ} → m ≡ sort-width (sort-of (tree-at (listed job work n) k)) → v ≡ cell-at values k → Number m v
+    pub place-number : {m v : ℕ} → m ≡ sort-width (sort-of (tree-at (listed job work n) k)) → v ≡ num k → Number m v
     place-number {m} {v} e f =
         let t = tree-at (listed job work n) k in
         record {
@@ -71,18 +71,18 @@ module _ {job work : Bytes} {n : ℕ} {values : Bytes} (able : Evaluable job wor
           below = subst (λ (z : ℕ). v < 2 ^ z) (sym (ap bits-by e ∙ bits-back (sort-of t) place-good (sorts-sized t))) (subst (λ (z : ℕ). z < 2 ^ bits-in t) (sym f) (able .ranged .below k place-low));
         }
 
-    pub place-val : (ρ : Assign) → Right ρ (listed job work n) values k → {m v : ℕ} → m ≡ sort-width (sort-of (tree-at (listed job work n) k)) → v ≡ cell-at values k
+    pub place-val : (ρ : Assign) → Right ρ (listed job work n) num k → {m v : ℕ} → m ≡ sort-width (sort-of (tree-at (listed job work n) k)) → v ≡ num k
         → val-by m v ≡ value ρ (tree-at (listed job work n) k)
     place-val ρ r e f =
         let t = tree-at (listed job work n) k in
         ap₂ val-by e (f ∙ r) ∙ val-back (value-has ρ t) place-good (sorts-sized t)
 
 -- the first argument is kept
-pub first-low : {job work : Bytes} {n : ℕ} {values : Bytes} {o : Op} {x : ℕ} {ks : List ℕ} → Given job work n values o (x ∷ ks) → x < first-terms + n
+pub first-low : {job work : Bytes} {n : ℕ} {num : ℕ → ℕ} {o : Op} {x : ℕ} {ks : List ℕ} → Given job work n num o (x ∷ ks) → x < first-terms + n
 first-low {n = n} {x = x} g = ltb→lt x (first-terms + n) (and-l (ltb x (first-terms + n)) _ (g .below))
 
 -- ---- one argument
-module _ {job work : Bytes} {n : ℕ} {values : Bytes} (o : Op) (x : ℕ) (g : Given job work n values o (x ∷ [])) {m v : ℕ} (e : m ≡ sort-width (sort-of (tree-at (listed job work n) x))) (f : v ≡ cell-at values x) where
+module _ {job work : Bytes} {n : ℕ} {num : ℕ → ℕ} (o : Op) (x : ℕ) (g : Given job work n num o (x ∷ [])) {m v : ℕ} (e : m ≡ sort-width (sort-of (tree-at (listed job work n) x))) (f : v ≡ num x) where
   one-low : x < first-terms + n
   one-low = ltb→lt x (first-terms + n) (and-l (ltb x (first-terms + n)) _ (g .below))
 
@@ -92,7 +92,7 @@ module _ {job work : Bytes} {n : ℕ} {values : Bytes} (o : Op) (x : ℕ) (g : G
     first = place-number (g .able) x one-low e f;
   }
 
-  pub one-done : {r : ℕ} → ((ρ : Assign) → r ≡ as-number (meaning ρ o (val-by m v ∷ []))) → Comes (listed job work n) values o (x ∷ []) r
+  pub one-done : {r : ℕ} → ((ρ : Assign) → r ≡ as-number (meaning ρ o (val-by m v ∷ []))) → Comes (listed job work n) num o (x ∷ []) r
   one-done h ρ a = h ρ ∙ ap (λ (u : Val). as-number (meaning ρ o (u ∷ []))) (place-val (g .able) x one-low ρ (a .0) e f)
 
 -- ---- two arguments
@@ -115,7 +115,7 @@ same-sorts B.AShr s r g = like-sorts (is-bv-sort s) s r (fitted K.BvAShr (s ∷ 
 same-sorts B.UDiv s r g = like-sorts (is-bv-sort s) s r (fitted K.BvUDiv (s ∷ r ∷ []) g)
 same-sorts B.URem s r g = like-sorts (is-bv-sort s) s r (fitted K.BvURem (s ∷ r ∷ []) g)
 
-module _ {job work : Bytes} {n : ℕ} {values : Bytes} (op : Binary) (x y : ℕ) (g : Given job work n values (binary-op op) (x ∷ y ∷ [])) {m v w : ℕ} (e : m ≡ sort-width (sort-of (tree-at (listed job work n) x))) (f : v ≡ cell-at values x) (h : w ≡ cell-at values y) where
+module _ {job work : Bytes} {n : ℕ} {num : ℕ → ℕ} (op : Binary) (x y : ℕ) (g : Given job work n num (binary-op op) (x ∷ y ∷ [])) {m v w : ℕ} (e : m ≡ sort-width (sort-of (tree-at (listed job work n) x))) (f : v ≡ num x) (h : w ≡ num y) where
   x-low : x < first-terms + n
   x-low = ltb→lt x (first-terms + n) (and-l (ltb x (first-terms + n)) _ (g .below))
 
@@ -136,12 +136,12 @@ module _ {job work : Bytes} {n : ℕ} {values : Bytes} (op : Binary) (x y : ℕ)
     second = place-number (g .able) y y-low y-width h;
   }
 
-  pub two-done : {r : ℕ} → ((ρ : Assign) → r ≡ as-number (meaning ρ (binary-op op) (val-by m v ∷ val-by m w ∷ []))) → Comes (listed job work n) values (binary-op op) (x ∷ y ∷ []) r
+  pub two-done : {r : ℕ} → ((ρ : Assign) → r ≡ as-number (meaning ρ (binary-op op) (val-by m v ∷ val-by m w ∷ []))) → Comes (listed job work n) num (binary-op op) (x ∷ y ∷ []) r
   two-done k ρ a =
       k ρ ∙ ap₂ (λ (u z : Val). as-number (meaning ρ (binary-op op) (u ∷ z ∷ []))) (place-val (g .able) x x-low ρ (a .0) e f) (place-val (g .able) y y-low ρ (a .1 .0) y-width h)
 
 -- ---- three Bools
-module _ {job work : Bytes} {n : ℕ} {values : Bytes} (c x y : ℕ) (g : Given job work n values K.Ite (c ∷ x ∷ y ∷ [])) {t u v : ℕ} (d : t ≡ cell-at values c) (e : u ≡ cell-at values x) (f : v ≡ cell-at values y) where
+module _ {job work : Bytes} {n : ℕ} {num : ℕ → ℕ} (c x y : ℕ) (g : Given job work n num K.Ite (c ∷ x ∷ y ∷ [])) {t u v : ℕ} (d : t ≡ num c) (e : u ≡ num x) (f : v ≡ num y) where
   bools : T (all-are bool (sorts-on (listed job work n) (c ∷ x ∷ y ∷ [])))
   bools = fitted K.Ite (sorts-on (listed job work n) (c ∷ x ∷ y ∷ [])) (g .sorted)
 
@@ -173,6 +173,6 @@ module _ {job work : Bytes} {n : ℕ} {values : Bytes} (c x y : ℕ) (g : Given 
     second = place-number (g .able) y y-below y-bool f .below;
   }
 
-  pub three-done : {r : ℕ} → ((ρ : Assign) → r ≡ as-number (meaning ρ K.Ite (val-by 0 t ∷ val-by 0 u ∷ val-by 0 v ∷ []))) → Comes (listed job work n) values K.Ite (c ∷ x ∷ y ∷ []) r
+  pub three-done : {r : ℕ} → ((ρ : Assign) → r ≡ as-number (meaning ρ K.Ite (val-by 0 t ∷ val-by 0 u ∷ val-by 0 v ∷ []))) → Comes (listed job work n) num K.Ite (c ∷ x ∷ y ∷ []) r
   three-done k ρ a =
       k ρ ∙ λ i. as-number (meaning ρ K.Ite (place-val (g .able) c c-low ρ (a .0) c-bool d i ∷ place-val (g .able) x x-below ρ (a .1 .0) x-bool e i ∷ place-val (g .able) y y-below ρ (a .1 .1 .0) y-bool f i ∷ []))

@@ -19,10 +19,10 @@ use Rattle.terms.specs.declared.Term.{Term as Decoded}
 use Rattle.terms.specs.declared.Term.the-variants as D
 use Rattle.terms.specs.Decoded.{OperandsPlaced, op-of, operands-of, arguments-of}
 use Rattle.store.specs.Store.{listed}
-use Rattle.shelf.specs.Shelf.{TermOn, args-at}
+use Rattle.shelf.specs.Shelf.{args-at}
 use Rattle.sweeps.specs.Variables.{is-variable}
 use Rattle.sweeps.specs.Sweep.{as-number}
-use Rattle.evaluation.specs.Cells.{cell-at, AllRight, Evaluable, Given, Comes, Evaluated}
+use Rattle.evaluation.specs.Cells.{AllRight, Given, Comes, Evaluated, Decodable}
 use Rattle.evaluation.proofs.PlaceLaws.{place-good}
 
 -- a fold of the terms at places
@@ -35,46 +35,46 @@ fold-of : {A : Type 0} (alg : Op → List A → A) (list : Plain) (o : Op) (ks :
 unfolding fold
 fold-of alg list o ks = ap (alg o) (folds-at alg list ks)
 
-module _ {job work : Bytes} {n : ℕ} {values : Bytes} {place : ℕ} {t : Decoded} (able : Evaluable job work n values) (l : place < first-terms + n) (h : TermOn job work n place t) where
+module _ {job work : Bytes} {n : ℕ} {num : ℕ → ℕ} {place : ℕ} {t : Decoded} (d : Decodable job work n num place t) where
   module _ (u : Decoded) (e : t ≡ u) where
     made : tree-at (listed job work n) place ≡ tree-of (listed job work n) (op-of u) (arguments-of job u)
-    made = h .term-at .made ∙ ap (λ (z : Decoded). tree-of (listed job work n) (op-of z) (arguments-of job z)) e
+    made = d .term .term-at .made ∙ ap (λ (z : Decoded). tree-of (listed job work n) (op-of z) (arguments-of job z)) e
 
     args : arguments-of job u ≡ args-at (listed job work n) place
-    args = ap (arguments-of job) (sym e) ∙ h .args-are
+    args = ap (arguments-of job) (sym e) ∙ d .term .args-are
 
     -- its arguments may be evaluated
-    pub given-at : Given job work n values (op-of u) (arguments-of job u)
+    pub given-at : Given job work n num (op-of u) (arguments-of job u)
     given-at = record {
-      able = able;
-      below = more-below place (first-terms + n) (omega arith) (arguments-of job u)
-          (subst (λ (z : Decoded). T (all-below place (arguments-of job z))) e (true-T _ (h .term-at .below)));
-      sorted = subst (λ (s : Sort). T (good s)) (ap sort-of made ∙ fold-of sort-op (listed job work n) (op-of u) (arguments-of job u)) (place-good able place l);
+      able = d .able;
+      below = more-below place (first-terms + n) (omega (arith, d .low)) (arguments-of job u)
+          (subst (λ (z : Decoded). T (all-below place (arguments-of job z))) e (true-T _ (d .term .term-at .below)));
+      sorted = subst (λ (s : Sort). T (good s)) (ap sort-of made ∙ fold-of sort-op (listed job work n) (op-of u) (arguments-of job u)) (place-good (d .able) place (d .low));
     }
 
     -- and what they come to is its value
-    pub done-at : {r : ℕ} → Comes (listed job work n) values (op-of u) (arguments-of job u) r → Evaluated (listed job work n) values place r
+    pub done-at : {r : ℕ} → Comes (listed job work n) num (op-of u) (arguments-of job u) r → Evaluated (listed job work n) num place r
     done-at f ρ a v =
-        f ρ (subst (AllRight ρ (listed job work n) values) (sym args) a)
+        f ρ (subst (AllRight ρ (listed job work n) num) (sym args) a)
         ∙ ap as-number (sym (ap (value ρ) made ∙ fold-of (meaning ρ) (listed job work n) (op-of u) (arguments-of job u)))
 
     -- a variable's value stands in its own cell
-    pub own-at : {r : ℕ} → T (is-variable (tree-of (listed job work n) (op-of u) (arguments-of job u))) → r ≡ cell-at values place → Evaluated (listed job work n) values place r
+    pub own-at : {r : ℕ} → T (is-variable (tree-of (listed job work n) (op-of u) (arguments-of job u))) → r ≡ num place → Evaluated (listed job work n) num place r
     own-at i f ρ a v = f ∙ v (subst (λ (z : Term). T (is-variable z)) (sym made) i)
 
     -- a list of arguments lies in the job
     pub placed-at : OperandsPlaced job (operands-of u)
-    placed-at = subst (λ (z : Decoded). OperandsPlaced job (operands-of z)) e (h .term-at .placed)
+    placed-at = subst (λ (z : Decoded). OperandsPlaced job (operands-of z)) e (d .term .term-at .placed)
 
   -- ---- the terms without arguments
-  pub true-at : t ≡ D.True → Evaluated (listed job work n) values place 1
+  pub true-at : t ≡ D.True → Evaluated (listed job work n) num place 1
   unfolding meaning
   true-at e = done-at D.True e (λ ρ a. refl)
 
-  pub false-at : t ≡ D.False → Evaluated (listed job work n) values place 0
+  pub false-at : t ≡ D.False → Evaluated (listed job work n) num place 0
   unfolding meaning
   false-at e = done-at D.False e (λ ρ a. refl)
 
-  pub const-at : (m x : ℕ) → t ≡ D.Const m x → Evaluated (listed job work n) values place x
+  pub const-at : (m x : ℕ) → t ≡ D.Const m x → Evaluated (listed job work n) num place x
   unfolding meaning
   const-at m x e = done-at (D.Const m x) e (λ ρ a. refl)
