@@ -26,7 +26,7 @@ extern "C" {
 
 /* The number of the interface that is declared here. It grows with each change of a function or struct below: a program that is
  * compiled with this header must be linked with a library whose bb_version() gives the same number. */
-#define BB_VERSION 4
+#define BB_VERSION 5
 
 /* The longest job, in bytes. */
 #define BB_MAX_JOB 16777216
@@ -174,6 +174,12 @@ typedef struct BbCounted {
     BbOutcome outcome; /* what the job came to */
 } BbCounted;
 
+/* What deriving a term's bits came to. */
+typedef struct BbKnown {
+    uint32_t code;     /* 0 where the bits were written, else 20, 21 or 23 */
+    BbOutcome outcome; /* what the job came to */
+} BbKnown;
+
 /* What the jobs of a service came to. Each number saturates. */
 typedef struct BbTally {
     uint64_t jobs;
@@ -212,6 +218,21 @@ BbCounted bb_count(const uint8_t *job, size_t job_len,
                    uint8_t *values, size_t values_len,
                    uint32_t number,
                    uint32_t *counts, size_t counts_len);
+
+/* Runs a job as bb_job does, and derives the bits of the term of that number of its final store where only part of its inputs is known. A byte is
+ * 0, 1, or 2 for a bit that is not known: `inputs` has one for each bit of the variables that stand in the term, the variable with the lowest
+ * number first and bit 0 first in each; the term's own stand at the start of `outputs`, bit 0 first. A 0 or 1 there is the true bit under every
+ * assignment that fits what is known. The bytes past the term's bits are as they were, and all of them where the code is not 0. `values` is left
+ * as bb_sweep leaves it. The code is 20 where the job stops early or the number is not that of a kept term; else 21 as in bb_sweep; else 23 where
+ * the term holds more than variables, constants, `true`, `false`, gates over Bools, BvBitOf and BvBbTerm, where the bytes are not one per bit with
+ * values 0 to 2, or where `outputs` is shorter than the term's width, 1 for a Bool. */
+BbKnown bb_known(const uint8_t *job, size_t job_len,
+                 uint8_t *work, size_t work_len,
+                 uint8_t *answers, size_t answers_len,
+                 uint8_t *values, size_t values_len,
+                 uint32_t number,
+                 const uint8_t *inputs, size_t inputs_len,
+                 uint8_t *outputs, size_t outputs_len);
 
 /* Adds one job and its first `count` answers to a tally; where `answers` is shorter, those that it has whole. */
 void bb_tally(BbTally *tally, const uint8_t *answers, size_t answers_len, uint32_t count);

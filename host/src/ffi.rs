@@ -1,5 +1,5 @@
 //! The functions of the static library, declared by hand: nothing checks these declarations against the Rattle source
-//! (`bb_job`, `bb_sweep`, `bb_count`, `bb_version` and what they return in crates/bitblast, `Tally` in crates/tally). tests/ffi.rs does what can be done: it
+//! (`bb_job`, `bb_sweep`, `bb_count`, `bb_known`, `bb_version` and what they return in crates/bitblast, `Tally` in crates/tally). tests/ffi.rs does what can be done: it
 //! compares the text of both, the interface's number, and sizes, offsets and the bytes around each lent slice.
 
 /// What a job came to. Later interfaces may add numbers.
@@ -60,6 +60,17 @@ pub struct Counted {
     pub outcome: Outcome,
 }
 
+/// What deriving a term's bits came to. Later interfaces may add numbers.
+#[repr(C)]
+#[non_exhaustive]
+#[derive(Clone, Copy, Debug, Default, PartialEq, Eq)]
+pub struct Known {
+    /// 0 where the bits were written, else the code that refused them.
+    pub code: u32,
+    /// What the job came to.
+    pub outcome: Outcome,
+}
+
 unsafe extern "C" {
     fn bb_job(
         job: *const u8,
@@ -95,6 +106,22 @@ unsafe extern "C" {
         counts: *mut u32,
         counts_len: usize,
     ) -> Counted;
+
+    fn bb_known(
+        job: *const u8,
+        job_len: usize,
+        work: *mut u8,
+        work_len: usize,
+        answers: *mut u8,
+        answers_len: usize,
+        values: *mut u8,
+        values_len: usize,
+        number: u32,
+        inputs: *const u8,
+        inputs_len: usize,
+        outputs: *mut u8,
+        outputs_len: usize,
+    ) -> Known;
 
     fn bb_tally(tally: *mut Tally, answers: *const u8, answers_len: usize, count: u32);
 
@@ -188,6 +215,44 @@ pub fn count_job(
             number,
             counts.as_mut_ptr(),
             counts.len(),
+        )
+    }
+}
+
+/// Runs a job as [`run_job`] does, and derives the bits of the term of that number of its final store where only part of its inputs is known.
+/// A byte is 0, 1, or 2 for a bit that is not known: `inputs` has one for each bit of the variables that stand in the term, the variable with
+/// the lowest number first and bit 0 first in each; the term's own stand at the start of `outputs`, bit 0 first. A 0 or 1 there is the true bit
+/// under every assignment that fits what is known. The bytes past the term's bits are as they were, and all of them where the code is not 0.
+/// `values` is left as [`sweep_job`] leaves it.
+///
+/// The code is 20 where the job stops early or the number is not that of a kept term; else 21 as in [`sweep_job`]; else 23 where the term holds
+/// more than variables, constants, `true`, `false`, gates over Bools, BvBitOf and BvBbTerm, where the bytes are not one per bit with values 0
+/// to 2, or where `outputs` is shorter than the term's width (1 for a Bool).
+pub fn known_job(
+    job: &[u8],
+    work: &mut [u8],
+    answers: &mut [u8],
+    values: &mut [u8],
+    number: u32,
+    inputs: &[u8],
+    outputs: &mut [u8],
+) -> Known {
+    // SAFETY: each pointer is valid for its length, and the borrows keep the six apart.
+    unsafe {
+        bb_known(
+            job.as_ptr(),
+            job.len(),
+            work.as_mut_ptr(),
+            work.len(),
+            answers.as_mut_ptr(),
+            answers.len(),
+            values.as_mut_ptr(),
+            values.len(),
+            number,
+            inputs.as_ptr(),
+            inputs.len(),
+            outputs.as_mut_ptr(),
+            outputs.len(),
         )
     }
 }

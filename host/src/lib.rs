@@ -38,12 +38,14 @@ pub mod rng;
 pub mod service;
 pub mod words;
 
-pub use ffi::{Counted, Outcome, Swept, Tally, count_job, interface, run_job, sweep_job, tally_answers};
-pub use service::{Answer, Answers, Count, Memory, Report, Service, Sweep, Verdict};
+pub use ffi::{
+    Counted, Known, Outcome, Swept, Tally, count_job, interface, known_job, run_job, sweep_job, tally_answers,
+};
+pub use service::{Answer, Answers, Count, KnownBits, Memory, Report, Service, Sweep, Verdict};
 pub use words::{AnswerCode, Kind, Rule, StopCode};
 
 /// The number of the library's interface that this crate is written for.
-pub const INTERFACE: u32 = 4;
+pub const INTERFACE: u32 = 5;
 
 /// The longest job, in bytes; a longer one is answered with stop code 2.
 pub const MAX_JOB_BYTES: usize = 16_777_216;
@@ -62,6 +64,9 @@ pub const MAX_SWEPT_BITS: usize = 16;
 
 /// The most values that a counted term has: those of width 8.
 pub const MAX_VALUES: usize = 256;
+
+/// The greatest width of a term.
+pub const MAX_WIDTH: usize = 64;
 
 /// The bytes of an answer.
 pub const ANSWER_BYTES: usize = 10;

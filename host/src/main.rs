@@ -2,7 +2,7 @@
 mod command;
 
 use bitblast_host::{interface, words::RULES};
-use command::{Failure, Status, bench, check, checker, compare, count, manual, show, soak, sweep};
+use command::{Failure, Status, bench, check, checker, compare, count, known, manual, show, soak, sweep};
 use std::{
     env,
     ffi::OsString,
@@ -41,11 +41,12 @@ struct Command {
 }
 
 /// The commands, in the order of the help.
-const COMMANDS: [Command; 9] = [
+const COMMANDS: [Command; 10] = [
     Command { name: "check", usage: check::USAGE, run: check::run },
     Command { name: "show", usage: show::USAGE, run: show::run },
     Command { name: "sweep", usage: sweep::USAGE, run: sweep::run },
     Command { name: "count", usage: count::USAGE, run: count::run },
+    Command { name: "known", usage: known::USAGE, run: known::run },
     Command { name: "soak", usage: soak::USAGE, run: soak::run },
     Command { name: "bench", usage: bench::USAGE, run: bench::run },
     Command { name: "compare", usage: compare::USAGE, run: compare::run },

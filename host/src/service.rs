@@ -1,7 +1,7 @@
 //! A service: memory of its own, a tally, and reports in words.
 use crate::{
-    ANSWER_BYTES, Counted, MAX_JOB_BYTES, MAX_VALUES, Outcome, SHORTEST_RECORD, Swept, Tally, VALUE_BYTES, count_job,
-    run_job, sweep_job, tally_answers, words,
+    ANSWER_BYTES, Counted, Known, MAX_JOB_BYTES, MAX_VALUES, MAX_WIDTH, Outcome, SHORTEST_RECORD, Swept, Tally,
+    VALUE_BYTES, count_job, known_job, run_job, sweep_job, tally_answers, words,
 };
 use std::fmt;
 
@@ -16,6 +16,9 @@ const SHORT_VALUES: u32 = 21;
 
 /// What no count is: there are at most 65,536 assignments.
 const NO_COUNT: u32 = u32::MAX;
+
+/// What no bit is: 0, 1, or 2 for one that is not known.
+const NO_BIT: u8 = 3;
 
 /// How much memory a service has to lend, in bytes: a kept term takes 8 bytes of work, an answer 10. No job can use more than
 /// [`MAX_WORK_BYTES`] or [`MAX_ANSWER_BYTES`].
@@ -39,7 +42,7 @@ pub struct Memory {
 /// and check where the check can be ended, in a process of its own.
 ///
 /// A sweep or a count takes one evaluation for each assignment and each term that stands in the asked one, up to 65,536 times 65,535 of them, after the
-/// job's own time.
+/// job's own time. Deriving bits takes one evaluation of each of these terms.
 ///
 /// Threads: a service checks one job at a time. Services share nothing, so that each thread may have its own.
 pub struct Service {
@@ -48,6 +51,7 @@ pub struct Service {
     /// As long as the largest job needed that was asked about.
     values: Vec<u8>,
     counts: [u32; MAX_VALUES],
+    bits: [u8; MAX_WIDTH],
     tally: Tally,
 }
 
@@ -65,6 +69,7 @@ impl Service {
             answers: vec![0; memory.answer_bytes.min(MAX_ANSWER_BYTES)],
             values: Vec::new(),
             counts: [NO_COUNT; MAX_VALUES],
+            bits: [NO_BIT; MAX_WIDTH],
             tally: Tally::default(),
         }
     }
@@ -108,6 +113,22 @@ impl Service {
         // The library leaves the numbers past the last value as they were.
         let size = counts.iter().position(|&count| count == NO_COUNT).unwrap_or(MAX_VALUES);
         Count { counted, counts: &counts[..size], answers }
+    }
+
+    /// Runs a job, and derives the bits of the term of that number of its final store from what is known of its inputs: a byte 0, 1, or 2 for
+    /// not known, for each bit of the variables that stand in it, the variable with the lowest number first and bit 0 first in each. The job
+    /// is not added to the tally.
+    pub fn known(&mut self, job: &[u8], number: u32, inputs: &[u8]) -> KnownBits<'_> {
+        let Service { work, answers, values, bits, .. } = self;
+        bits.fill(NO_BIT);
+        let mut known = known_job(job, work, answers, values, number, inputs, bits);
+        if known.code == SHORT_VALUES {
+            values.resize(VALUE_BYTES * known.outcome.terms as usize, 0);
+            known = known_job(job, work, answers, values, number, inputs, bits);
+        }
+        // The library leaves the bytes past the last bit as they were.
+        let size = bits.iter().position(|&bit| bit == NO_BIT).unwrap_or(MAX_WIDTH);
+        KnownBits { known, bits: &bits[..size], answers }
     }
 
     /// The memory that it lends.
@@ -246,6 +267,41 @@ impl<'a> Count<'a> {
     /// The code in words.
     pub fn meaning(&self) -> &'static str {
         words::count_meaning(self.counted.code)
+    }
+}
+
+/// What a service says about the bits of a term.
+#[derive(Clone, Copy)]
+pub struct KnownBits<'a> {
+    known: Known,
+    bits: &'a [u8],
+    answers: &'a [u8],
+}
+
+impl<'a> KnownBits<'a> {
+    /// 0 where the bits were derived, else why not.
+    pub fn code(&self) -> u32 {
+        self.known.code
+    }
+
+    /// The bits, bit 0 first: 0 or 1 where it is that under every assignment that fits what is known, else 2; none where the code is not 0.
+    pub fn bits(&self) -> &'a [u8] {
+        self.bits
+    }
+
+    /// What the job came to.
+    pub fn outcome(&self) -> Outcome {
+        self.known.outcome
+    }
+
+    /// The job's answers, in the order of its steps.
+    pub fn answers(&self) -> Answers<'a> {
+        Answers::new(self.answers, self.known.outcome.answers)
+    }
+
+    /// The code in words.
+    pub fn meaning(&self) -> &'static str {
+        words::known_meaning(self.known.code)
     }
 }
 

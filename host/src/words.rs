@@ -241,6 +241,17 @@ pub const COUNTS: [(u32, &str); 4] = [
     (22, "there is no room for the counts of all values"),
 ];
 
+/// The codes of derived bits.
+pub const KNOWN: [(u32, &str); 4] = [
+    (0, "the bits were derived"),
+    (20, "the job stops early, or the number is not that of a kept term"),
+    (21, "the value buffer has fewer than 8 bytes for each kept term"),
+    (
+        23,
+        "the term holds more than variables, constants, gates over Bools, BvBitOf and BvBbTerm, the inputs are not 0, 1 or not known for each bit of its variables, or there is no room for its bits",
+    ),
+];
+
 /// All rules with their numbers.
 pub fn rules() -> impl Iterator<Item = (u16, &'static str)> {
     Rule::ALL.iter().map(|rule| (rule.number(), rule.name()))
@@ -269,4 +280,9 @@ pub fn sweep_meaning(code: u32) -> &'static str {
 /// A count's code in words.
 pub fn count_meaning(code: u32) -> &'static str {
     COUNTS.iter().find(|(c, _)| *c == code).map_or("unknown code", |(_, words)| words)
+}
+
+/// The code of derived bits in words.
+pub fn known_meaning(code: u32) -> &'static str {
+    KNOWN.iter().find(|(c, _)| *c == code).map_or("unknown code", |(_, words)| words)
 }

@@ -1,4 +1,4 @@
-/* Calls the library from C: layout, the specimen at every length of lent memory, a stopped job, a sweep, counts, a tally. */
+/* Calls the library from C: layout, the specimen at every length of lent memory, a stopped job, a sweep, counts, bits, a tally. */
 #include "bitblast.h"
 #include <stdio.h>
 #include <string.h>
@@ -166,6 +166,43 @@ static void counts(void) {
     }
 }
 
+/* The specimen's And of x and not y, where only part of both is known: the tests 20, 21 and 23 in their order, and every pair of inputs. */
+static void bits(void) {
+    static const size_t sizes[] = {79, 80}, rooms[] = {0, 1, 4}, lengths[] = {1, 2, 3};
+    static const uint32_t numbers[] = {7, 8, 10};
+    for (size_t k = 0; k < 16 * 2 * 3 * 3 * 3; k++) {
+        uint8_t inputs[] = {k % 4, k / 4 % 4, 0};
+        size_t size = sizes[k / 16 % 2], room = rooms[k / 32 % 3], length = lengths[k / 96 % 3];
+        uint32_t number = numbers[k / 288];
+        uint8_t work[64], answers[10], values[FENCE + 80 + FENCE], outputs[FENCE + 4 + FENCE];
+        memset(values, POST, sizeof values);
+        memset(values + FENCE, OLD, size);
+        memset(outputs, POST, sizeof outputs);
+        struct {
+            uint32_t before;
+            BbKnown known;
+            uint32_t behind[4];
+        } s;
+        memset(&s, POST, sizeof s);
+        s.known = bb_known(specimen, sizeof specimen, work, sizeof work, answers, sizeof answers, values + FENCE, size, number, inputs, length,
+                           outputs + FENCE, room);
+        int fits = number == 7 && length == 2 && inputs[0] < 3 && inputs[1] < 3 && room > 0;
+        uint32_t code = number == 10 ? 20 : size < 80 ? 21 : fits ? 0 : 23;
+        expect(s.known.code == code, "code of bits");
+        BbOutcome o = s.known.outcome;
+        expect(o.stop == 0 && o.records == 9 && o.answers == 1 && o.terms == 10 && o.repeats == 0, "outcome of a job with bits");
+        expect(all((const uint8_t *)&s.before, 0, sizeof s.before, POST) && all((const uint8_t *)s.behind, 0, sizeof s.behind, POST), "fences of a known");
+        expect(all(work, 0, sizeof work, 0), "work memory of bits is zero");
+        expect(memcmp(answers, answer, sizeof answer) == 0, "the answer of a job with bits");
+        expect(all(values, FENCE, FENCE + size, code == 0 ? 0 : OLD), "the value buffer of bits");
+        expect(all(values, 0, FENCE, POST) && all(values, FENCE + size, sizeof values, POST), "fences of the value buffer of bits");
+        size_t written = code == 0 ? 1 : 0;
+        uint8_t bit = inputs[0] == 0 || inputs[1] == 1 ? 0 : inputs[0] == 1 && inputs[1] == 0 ? 1 : 2;
+        expect(written == 0 || outputs[FENCE] == bit, "bits");
+        expect(all(outputs, 0, FENCE, POST) && all(outputs, FENCE + written, sizeof outputs, POST), "bytes beside the bits");
+    }
+}
+
 static void tally(void) {
     struct {
         uint64_t before;
@@ -196,12 +233,14 @@ int main(void) {
                offsetof(BbSwept, outcome) == 12,
            "layout of BbSwept");
     expect(sizeof(BbCounted) == 24 && offsetof(BbCounted, outcome) == 4, "layout of BbCounted");
+    expect(sizeof(BbKnown) == 24 && offsetof(BbKnown, outcome) == 4, "layout of BbKnown");
     every_length();
     stopped();
     repeats();
     sweep();
     sweep_that_differs();
     counts();
+    bits();
     tally();
     if (failures == 0) {
         printf("ok\n");

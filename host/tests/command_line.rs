@@ -147,6 +147,31 @@ fn counts_as_bars() {
 }
 
 #[test]
+fn bits_in_signs() {
+    for (bits, expected) in [("x1", "0 (1 of 1 known)"), ("1x", "x (0 of 1 known)"), ("10", "1 (1 of 1 known)")] {
+        let found = bbhost(&["known", "-", "7", bits], &jobs::specimen());
+        let expected = format!("-: term 7: {expected}\n");
+        assert_eq!((found.status.code(), text(&found.stdout)), (Some(0), &expected[..]));
+    }
+    let mut job = JobWriter::new();
+    let (x, c) = (job.bv_var(3, 0), job.constant(2, 1));
+    let bits = [(2, x), (0, x), (1, c), (0, c), (1, x)].map(|(k, term)| job.bit(k, term));
+    let joined = job.term(Kind::BvBbTerm, &bits);
+    let number = job.number(joined).to_string();
+    let found = bbhost(&["known", "-", &number, "01x"], &job.finish());
+    assert_eq!(text(&found.stdout), format!("-: term {number}: x0011 (4 of 5 known)\n"));
+    let empty = bbhost(&["known", "-", "1", ""], b"");
+    assert_eq!((empty.status.code(), text(&empty.stdout)), (Some(0), "-: term 1: 0 (1 of 1 known)\n"));
+    for (number, bits, code) in [("8", "11", 23), ("7", "1", 23), ("7", "111", 23), ("10", "", 20)] {
+        let refused = bbhost(&["known", "-", number, bits], &jobs::specimen());
+        assert_eq!(refused.status.code(), Some(1));
+        assert!(text(&refused.stdout).starts_with(&format!("-: term {number}: REFUSED (code {code}): the ")));
+    }
+    let cut = bbhost(&["known", "-", "7", "11"], &jobs::specimen()[..69]);
+    assert!(text(&cut.stdout).starts_with("-: term 7: REFUSED (code 20): the job stops at record 9 (code 3)"));
+}
+
+#[test]
 fn chains_in_words() {
     let mut job = JobWriter::new();
     let x = job.bv_var(1, 0);
@@ -186,7 +211,8 @@ fn long_jobs() {
     assert!(text(&output.stdout).contains("\"bytes\":null,\"stop\":2,"));
 }
 
-const COMMANDS: [&str; 9] = ["check", "show", "sweep", "count", "soak", "bench", "compare", "man", "completion"];
+const COMMANDS: [&str; 10] =
+    ["check", "show", "sweep", "count", "known", "soak", "bench", "compare", "man", "completion"];
 
 #[test]
 fn usage() {
@@ -230,6 +256,12 @@ fn usage() {
         &["count"],
         &["count", "-", "x"],
         &["count", "no-such-file", "1"],
+        &["known"],
+        &["known", "-", "1"],
+        &["known", "-", "x", "1"],
+        &["known", "-", "1", "012"],
+        &["known", "-", "1", "0X"],
+        &["known", "no-such-file", "1", ""],
         &["compare"],
         &["compare", "a", "b"],
         &["compare", "no-such-folder"],
@@ -375,12 +407,13 @@ fn compare_finds_differences() {
     assert!(text(&output.stdout).contains("in all 1 jobs, 0 differences"));
     let right = format!(
         "{right}sweep 9 80\nswept 0 4 0\nsweep 9 79\nswept 21 0 0\nsweep 8 0\nswept 20 0 0\n\
-         count 7 80 2\ncounted 0 3 1\ncount 9 80 300\ncounted 0 0 4\ncount 7 80 1\ncounted 22\ncount 10 79 1\ncounted 20\n"
+         count 7 80 2\ncounted 0 3 1\ncount 9 80 300\ncounted 0 0 4\ncount 7 80 1\ncounted 22\ncount 10 79 1\ncounted 20\n\
+         derive 7 80 4 0102\nderived 0 02\nderive 0 80 1 -\nderived 0 01\nderive 7 80 1 0103\nderived 23 -\nderive 10 79 0 -\nderived 20 -\n"
     );
     expect(&right);
     let output = bbhost(&arguments, b"");
     assert_eq!(output.status.code(), Some(0), "{}", text(&output.stdout));
-    assert!(text(&output.stdout).contains("7 questions about final stores; in all 2 jobs, 0 differences"));
+    assert!(text(&output.stdout).contains("11 questions about final stores; in all 2 jobs, 0 differences"));
     for (from, to) in [
         ("terms 10", "terms 11"),
         ("0200\n", "0300\n"),
@@ -397,18 +430,25 @@ fn compare_finds_differences() {
         ("counted 22", "counted 21"),
         ("counted 20", "counted 20 0"),
         ("count 9 80 300", "count 8 80 300"),
+        ("derived 0 02", "derived 0 01"),
+        ("derived 0 02", "derived 0 -"),
+        ("derived 0 02", "derived 0 0202"),
+        ("derived 23", "derived 21"),
+        ("derive 7 80 4 0102", "derive 7 80 4 0002"),
     ] {
         expect(&right.replace(from, to));
         let output = bbhost(&arguments, b"");
         assert_eq!(output.status.code(), Some(1), "{from}");
         assert!(text(&output.stdout).contains("DIFFERS"), "{from}");
     }
-    assert!(fs::read_to_string(&counts).unwrap().starts_with("jobs 17\ndifferences 15\n"));
+    assert!(fs::read_to_string(&counts).unwrap().starts_with("jobs 22\ndifferences 20\n"));
     for unreadable in [
         "work many\n".to_owned(),
         format!("{right}swept 0 4 0\n"),
         format!("{right}sweep 9 80\n"),
         format!("{right}count 9 80\ncounted 0\n"),
+        format!("{right}derive 7 80 4 012\nderived 0 02\n"),
+        format!("{right}derive 7 80 4\nderived 23 -\n"),
     ] {
         expect(&unreadable);
         assert_eq!(status(&arguments, b""), 2, "{unreadable}");

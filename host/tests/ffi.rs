@@ -1,8 +1,9 @@
 //! What can be tested of declarations that nothing checks: the text of the Rattle source, the layout of the structs, and the
 //! bytes around each lent slice.
 use bitblast_host::{
-    Counted, INTERFACE, Outcome, Swept, Tally, count_job, interface,
+    Counted, INTERFACE, Known, Outcome, Swept, Tally, count_job, interface,
     jobs::{self, SPECIMEN_ANSWER},
+    known_job,
     lent::Lent,
     run_job, sweep_job, tally_answers,
 };
@@ -37,6 +38,8 @@ fn layout() {
     );
     assert_eq!((size_of::<Counted>(), align_of::<Counted>()), (24, 4));
     assert_eq!([offset_of!(Counted, code), offset_of!(Counted, outcome)], [0, 4]);
+    assert_eq!((size_of::<Known>(), align_of::<Known>()), (24, 4));
+    assert_eq!([offset_of!(Known, code), offset_of!(Known, outcome)], [0, 4]);
     assert_eq!((size_of::<Tally>(), align_of::<Tally>()), (32, 8));
     assert_eq!(
         [offset_of!(Tally, jobs), offset_of!(Tally, held), offset_of!(Tally, form_only), offset_of!(Tally, refused)],
@@ -66,16 +69,18 @@ fn the_source_says_the_same() {
         "#[no_mangle] pub extern \"C\" fn bb_job(job: &[u8], work: &mut [u8], answers: &mut [u8]) -> Outcome ",
         "#[no_mangle] pub extern \"C\" fn bb_sweep( job: &[u8], work: &mut [u8], answers: &mut [u8], values: &mut [u8], number: u32, ) -> Swept ",
         "#[no_mangle] pub extern \"C\" fn bb_count( job: &[u8], work: &mut [u8], answers: &mut [u8], values: &mut [u8], number: u32, counts: &mut [u32], ) -> Counted ",
+        "#[no_mangle] pub extern \"C\" fn bb_known( job: &[u8], work: &mut [u8], answers: &mut [u8], values: &mut [u8], number: u32, inputs: &[u8], outputs: &mut [u8], ) -> Known ",
         "#[no_mangle] pub extern \"C\" fn bb_version() -> u32 ",
         "#[no_mangle] pub extern \"C\" fn bb_tally(tally: &mut Tally, answers: &[u8], count: u32) ",
         "#[repr(C)] pub struct Outcome { pub stop: u32, pub records: u32, pub answers: u32, pub terms: u32, pub repeats: u32, }",
         "#[repr(C)] pub struct Swept { pub code: u32, pub assignments: u32, pub differing: u32, pub outcome: Outcome, }",
         "#[repr(C)] pub struct Counted { pub code: u32, pub outcome: Outcome, }",
+        "#[repr(C)] pub struct Known { pub code: u32, pub outcome: Outcome, }",
         "#[repr(C)] pub struct Tally { pub jobs: u64, pub held: u64, pub form_only: u64, pub refused: u64, }",
     ] {
         assert!(text.contains(declared), "crates/ has no `{declared}`: does src/ffi.rs still fit?");
     }
-    assert_eq!(text.matches("pub extern \"C\" fn").count(), 5, "src/ffi.rs declares five functions");
+    assert_eq!(text.matches("pub extern \"C\" fn").count(), 6, "src/ffi.rs declares six functions");
 }
 
 /// Declarations here, the header and the linked library are of one interface.
@@ -155,17 +160,24 @@ fn slices_at_any_address() {
     }
 }
 
-/// The memories of a sweep or a count, with garbage in them and fences around them.
+/// The memories of a question, with garbage in them and fences around them.
 struct Memories {
     work: Lent,
     answers: Lent,
     values: Lent,
     counts: Lent<u32>,
+    outputs: Lent,
 }
 
 impl Memories {
     fn new() -> Self {
-        Memories { work: Lent::new(80), answers: Lent::new(40), values: Lent::new(120), counts: Lent::new(300) }
+        Memories {
+            work: Lent::new(80),
+            answers: Lent::new(40),
+            values: Lent::new(120),
+            counts: Lent::new(300),
+            outputs: Lent::new(70),
+        }
     }
 
     /// Looks at the memories after a question about the specimen, which was answered with a code.
@@ -203,6 +215,32 @@ impl Memories {
         assert_eq!(&self.counts.units()[..written.len()], written, "term {number}");
         assert!(self.counts.untouched_from(written.len()) && self.counts.fences_stand(), "term {number}");
         fenced.counted
+    }
+
+    /// Derives the bit of one of the specimen's terms, and looks at everything around it.
+    fn known(&mut self, [work, answers, size, room]: [usize; 4], number: u32, inputs: &[u8], expected: u8) -> Known {
+        #[repr(C)]
+        struct Fenced {
+            before: u32,
+            known: Known,
+            behind: [u32; 4],
+        }
+        let mut fenced = Fenced { before: 7, known: Known::default(), behind: [7; 4] };
+        fenced.known = known_job(
+            &jobs::specimen(),
+            self.work.ready(work, size as u64),
+            self.answers.ready(answers, work as u64),
+            self.values.ready(size, answers as u64 + 1),
+            number,
+            inputs,
+            self.outputs.ready(room, 100 + size as u64),
+        );
+        assert_eq!((fenced.before, fenced.behind), (7, [7; 4]));
+        self.look(fenced.known.code, fenced.known.outcome, [work, answers, size, room]);
+        let written = if fenced.known.code == 0 { &[expected][..] } else { &[] };
+        assert_eq!(&self.outputs.units()[..written.len()], written, "term {number}, {inputs:?}");
+        assert!(self.outputs.untouched_from(written.len()) && self.outputs.fences_stand(), "term {number}, {inputs:?}");
+        fenced.known
     }
 
     /// Sweeps the specimen, and looks at everything around the sweep.
@@ -282,6 +320,45 @@ fn fences_around_counts() {
                     };
                     assert_eq!(counted.code, code, "term {number}, answers {room}, values {size}, counts {run}");
                     assert_eq!(counted.outcome.terms, 10);
+                }
+            }
+        }
+    }
+}
+
+/// Terms 0, 2, 4, 7 and 8 of the specimen: `true`, x of width 1, its bit, the And of it and Not of y's, and bvslt, which is refused. The codes
+/// come in their order.
+#[test]
+fn fences_around_bits() {
+    let mut memories = Memories::new();
+    for size in [0, 16, 63, 64, 79, 80, 81, 120] {
+        for room in [0, 1, 2, 64, 70] {
+            for answers in [9, 10] {
+                for (number, inputs, expected) in [
+                    (0, &[][..], Some(1)),
+                    (0, &[0], None),
+                    (2, &[2], Some(2)),
+                    (2, &[1], Some(1)),
+                    (4, &[0], Some(0)),
+                    (4, &[0, 0], None),
+                    (7, &[2, 1], Some(0)),
+                    (7, &[1, 2], Some(2)),
+                    (7, &[1, 0], Some(1)),
+                    (7, &[1, 3], None),
+                    (7, &[1], None),
+                    (8, &[1, 0], None),
+                    (10, &[], None),
+                ] {
+                    let known = memories.known([64, answers, size, room], number, inputs, expected.unwrap_or(0));
+                    let code = match (number, answers, size, room) {
+                        (10.., ..) | (_, 9, ..) => 20,
+                        (_, _, 0..80, _) => 21,
+                        (_, _, _, 0) => 23,
+                        _ if expected.is_none() => 23,
+                        _ => 0,
+                    };
+                    assert_eq!(known.code, code, "term {number}, {inputs:?}, values {size}, outputs {room}");
+                    assert_eq!(known.outcome.terms, 10);
                 }
             }
         }

@@ -2,7 +2,7 @@
 use bitblast_host::{
     STACK_BYTES,
     jobs::{self, JobWriter, Kind},
-    run_job, sweep_job,
+    known_job, run_job, sweep_job,
 };
 use std::{fs, path::Path, thread};
 
@@ -41,8 +41,17 @@ fn the_deepest_sweep() {
     let number = job.number(equality).into();
     let job = job.finish();
     let (mut work, mut values) = (vec![0; 1 << 20], vec![0; 1 << 20]);
-    let swept = on_little_stack(move || sweep_job(&job, &mut work, &mut [], &mut values, number));
+    let (swept, known) = on_little_stack(move || {
+        let swept = sweep_job(&job, &mut work, &mut [], &mut values, number);
+        let known = [0, 1, 2].map(|input| {
+            let mut bit = [9];
+            let known = known_job(&job, &mut work, &mut [], &mut values, number, &[input], &mut bit);
+            (known.code, bit)
+        });
+        (swept, known)
+    });
     assert_eq!((swept.code, swept.assignments, swept.differing), (0, 2, 0));
+    assert_eq!(known, [(0, [1]), (0, [1]), (0, [2])]);
 }
 
 #[test]

@@ -1,4 +1,4 @@
-//! Sweeps and counts: the service, and the library beside a plain evaluator of the same terms.
+//! Sweeps, counts and derived bits: the service, and the library beside a plain evaluator of the same terms.
 use bitblast_host::{
     MAX_SWEPT_BITS, Service, Tally, Verdict,
     jobs::{self, JobWriter, Kind, TRUE, Term},
@@ -120,6 +120,83 @@ fn counts_beside_a_plain_evaluator() {
         }
     }
     assert!(counted > 500 && refused > 5, "{counted} counted, {refused} refused");
+}
+
+#[test]
+fn a_service_derives_bits() {
+    let mut service = Service::new(1 << 16, 100);
+    let known = service.known(&jobs::specimen(), 7, &[2, 1]);
+    assert_eq!((known.code(), known.bits()), (0, &[0][..]));
+    assert_eq!(known.outcome().numbers(), [0, 9, 1, 10, 0]);
+    assert_eq!(known.answers().map(|answer| answer.verdict()).collect::<Vec<_>>(), [Verdict::Held]);
+    assert_eq!(service.tally(), Tally::default());
+    // 64 bits of a variable, more than are swept; then one that leaves nothing of them.
+    let mut job = JobWriter::new();
+    let x = job.bv_var(64, 0);
+    job.number(x);
+    let job = job.finish();
+    let inputs: Vec<u8> = (0..64).map(|k| k % 3).collect();
+    assert_eq!(service.known(&job, 2, &inputs).bits(), inputs);
+    assert_eq!(service.known(&jobs::specimen(), 6, &[2]).bits(), [2]);
+    for (number, inputs, code) in
+        [(7, &[2, 3][..], 23), (7, &[2], 23), (8, &[2, 2], 23), (9, &[2, 2], 23), (10, &[], 20)]
+    {
+        let known = service.known(&jobs::specimen(), number, inputs);
+        assert_eq!((known.code(), known.bits(), known.meaning()), (code, &[][..], words::known_meaning(code)));
+    }
+}
+
+/// Terms of random jobs with some of their inputs: what is derived is the bit of the plain evaluator under every assignment that fits, with all
+/// inputs known every bit is, and one input more changes no bit that was known.
+#[test]
+fn bits_beside_a_plain_evaluator() {
+    let mut rng = Rng::new(22);
+    let mut service = Service::new(1 << 20, 1 << 12);
+    let (mut settled, mut open, mut refused) = (0, 0, 0);
+    for _ in 0..100 {
+        let (job, _) = jobs::random_right(&mut rng);
+        let plain = Plain::read(&job);
+        let terms = service.check(&job).outcome().terms;
+        for number in (2..terms).step_by(5) {
+            let mut program = plain.program(number as usize).unwrap();
+            let (bits, width) = (program.bits() as usize, program.width().max(1) as usize);
+            if bits > 8 {
+                continue;
+            }
+            let mut values = Vec::new();
+            program.each_value(|value| values.push(value));
+            let assignment = rng.below(values.len());
+            let truth = |k: usize| (assignment >> k & 1) as u8;
+            let mut inputs: Vec<u8> = (0..bits).map(|k| if rng.below(2) == 0 { 2 } else { truth(k) }).collect();
+            let known = service.known(&job, number, &inputs);
+            if known.code() != 0 {
+                refused += 1;
+                assert_eq!((known.code(), known.bits()), (23, &[][..]), "term {number}");
+                continue;
+            }
+            let mut before = known.bits().to_vec();
+            assert_eq!(before.len(), width, "term {number}");
+            let fits = |a: usize, inputs: &[u8]| (0..bits).all(|k| inputs[k] == 2 || inputs[k] == (a >> k & 1) as u8);
+            for (a, value) in values.iter().enumerate().filter(|(a, _)| fits(*a, &inputs)) {
+                let agrees = |(k, &bit): (usize, &u8)| bit == 2 || bit == (value >> k & 1) as u8;
+                assert!(before.iter().enumerate().all(agrees), "term {number}, assignment {a}");
+            }
+            for k in (0..bits).filter(|&k| inputs[k] == 2).collect::<Vec<_>>() {
+                open += before.iter().filter(|&&bit| bit == 2).count();
+                inputs[k] = truth(k);
+                let after = service.known(&job, number, &inputs).bits().to_vec();
+                assert!(
+                    before.iter().zip(&after).all(|(&old, &new)| old == 2 || old == new),
+                    "term {number}, input {k}"
+                );
+                before = after;
+            }
+            let all: Vec<u8> = (0..width).map(|k| (values[assignment] >> k & 1) as u8).collect();
+            assert_eq!(before, all, "term {number}");
+            settled += 1;
+        }
+    }
+    assert!(settled > 300 && open > 300 && refused > 20, "{settled} settled, {open} open, {refused} refused");
 }
 
 /// Every equality of random jobs: the library and the plain evaluator find the same, and none where the step is held.

@@ -1,6 +1,7 @@
 // The checker of a job: its records one after the other, the terms kept in work memory, and an answer for each step.
 pub mod count;
 mod finished;
+pub mod known;
 pub mod sweep;
 pub mod totals;
 mod walk;
@@ -19,7 +20,7 @@ use crate::finished::run_job;
 pub const MAX_JOB: usize = 16777216;
 
 // The number of the interface. It grows with each change of an exported function, or of a struct that one takes or returns.
-pub const VERSION: u32 = 4;
+pub const VERSION: u32 = 5;
 
 // What a job comes to: the code that stopped it or 0, the records done, the answers written, the terms kept at the end, and the repeats: the term
 // records done whose term was there already.
@@ -70,7 +71,7 @@ pub extern "C" fn bb_job(job: &[u8], work: &mut [u8], answers: &mut [u8]) -> Out
 // The number of the interface, for a host to compare with the one that it was written for.
 #[no_mangle]
 pub extern "C" fn bb_version() -> u32
-    ensures { λ r. ⌜ r ≡ 4 ⌝ }
+    ensures { λ r. ⌜ r ≡ 5 ⌝ }
 {
     VERSION
 }

@@ -2,14 +2,13 @@
 use mathlib.Core.Path.{_≡_, refl, sym, ap, subst, _∙_}
 use mathlib.Core.Bool.{Bool, true, false, _||_}
 use mathlib.Core.List.{List, [], _∷_, map}
-use Prim.Native.Nat.{ℕ, zero, suc, _+_, _-_, _*_, _≤_, _<_}
+use Prim.Native.Nat.{ℕ, _+_, _-_, _*_, _≤_, _<_}
 use native.Mathlib.Omega.{arith}
 use lib.Dec.{T, ltb, eqb, ltb→lt, eqb→eq}
 use lib.Ieee.Fits.{and-l, and-r}
 use lib.ListN.{length}
 use borrow.Author.Tests.{eq-eqb, eqb-true, eqb-false}
 use Rattle.theory.specs.Limit.{first-terms, term-bytes}
-use Rattle.theory.specs.Kind.{Op, True, False}
 use Rattle.theory.specs.Term.{Term, Terms, node, nil, cons, from-list}
 use Rattle.theory.specs.Sort.{sort-of, sort-width}
 use Rattle.theory.specs.Record.{Bytes}
@@ -19,7 +18,7 @@ use Rattle.theory.specs.Codes.{all-below}
 use Rattle.theory.proofs.Basics.{T-same, true-T, or-left, or-right}
 use Rattle.theory.proofs.Places.{tree-at, more-below}
 use Rattle.theory.specs.Listed.{AllGood}
-use Rattle.theory.proofs.Distinct.{WellKept, tree-0, tree-1, kept-at, trees-distinct}
+use Rattle.theory.proofs.Distinct.{WellKept, kept-at, trees-distinct}
 use Rattle.theory.proofs.Distinct as D
 use Rattle.terms.specs.Framing.{record-at}
 use Rattle.rows.specs.Rows.{kept}
@@ -30,7 +29,8 @@ use Rattle.terms.specs.declared.Operands.{Operands}
 use Rattle.terms.specs.Decoded.{OperandsPlaced, operands-of, arguments-of, numbers-of}
 use Rattle.shelf.specs.Shelf.{Shelf, item-args, args-at, TermOn}
 use Rattle.sweeps.specs.Variables.{stands, stands-any}
-use Rattle.sweeps.proofs.Standing.{stands-self, stands-in, stands-first, stands-rest, stands-cases, any-cases, no-arguments}
+use Rattle.sweeps.proofs.Standing.{stands-self, stands-in, stands-first, stands-rest, stands-cases, any-cases}
+use Rattle.sweeps.proofs.Placing.{placed}
 use Rattle.marks.specs.Marks.{mark-of, Room, Rooms, Kept, Cleared, Set, SetAll, SetTerm, Reaches}
 use Rattle.marks.proofs.MarkLaws.{kept-self, kept-more, rooms-in}
 
@@ -106,41 +106,10 @@ module _ (list : Plain) (w : WellKept list) where
 
   -- ---- what stands in a marked term is at a marked place, where marks are closed
   module _ (work : Bytes) (closed : (q : ℕ) → first-terms ≤ q → q < length list → T (mark-of work q) → (j : ℕ) → T (element j (args-at list q)) → T (mark-of work j)) where
-    record At (u : Term) : Type 0 where
-      place : ℕ
-      low : place < length list
-      is : tree-at list place ≡ u
-      marked : T (mark-of work place)
-
-    in-args : (u : Term) (ks : List ℕ) (m : ℕ) → T (all-below m ks) → ((j : ℕ) → j < m → T (element j ks) → T (stands u (tree-at list j)) → At u)
-        → T (stands-any u (from-list (map (tree-at list) ks))) → At u
-    in-args u [] m b f h = absurd (no-arguments u h)
-    in-args u (k ∷ ks) m b f h =
-        any-cases (At u) u (tree-at list k) (from-list (map (tree-at list) ks)) h
-        (λ s. f k (ltb→lt k m (and-l (ltb k m) _ b)) (or-left (eqb k k) (element k ks) (true-T _ (eq-eqb k k refl))) s)
-        (λ s. in-args u ks m (and-r (ltb k m) _ b) (λ j l e z. f j l (or-right (eqb j k) (element j ks) e) z) s)
-
-    at-first : (q : ℕ) (o : Op) (u : Term) → q < length list → T (mark-of work q) → tree-at list q ≡ node o nil → T (stands u (tree-at list q)) → At u
-    at-first q o u l m e h =
-        stands-cases (At u) u o nil (subst (λ (t : Term). T (stands u t)) e h)
-        (λ f. record { place = q; low = l; is = e ∙ sym f; marked = m }) (λ s. absurd (no-arguments u s))
-
-    at-below : (n q : ℕ) → q < n → q < length list → T (mark-of work q) → (u : Term) → T (stands u (tree-at list q)) → At u
-    at-below zero q h l m u s = absurd (omega arith)
-    at-below (suc n) zero h l m u s = at-first 0 True u l m (tree-0 list w) s
-    at-below (suc n) (suc zero) h l m u s = at-first 1 False u l m (tree-1 list w) s
-    at-below (suc n) (suc (suc q)) h l m u s =
-        let two : first-terms ≤ suc (suc q) = omega arith in
-        let p = kept-at list w (suc (suc q)) two l in
-        stands-cases (At u) u (p .op) (from-list (map (tree-at list) (p .args))) (subst (λ (t : Term). T (stands u t)) (p .made) s)
-        (λ f. record { place = suc (suc q); low = l; is = p .made ∙ sym f; marked = m })
-        (λ a. in-args u (p .args) (suc (suc q)) (p .below)
-        (λ j b e z. at-below n j (omega arith) (omega arith) (closed (suc (suc q)) two l m j (subst (λ (ks : List ℕ). T (element j ks)) (sym (args-are (suc (suc q)) two l)) e)) u z) a)
-
     pub complete : (q : ℕ) → q < length list → T (mark-of work q) → (p : ℕ) → p < length list → T (stands (tree-at list p) (tree-at list q)) → T (mark-of work p)
     complete q l m p h s =
-        let a = at-below (suc q) q (omega arith) l m (tree-at list p) s in
-        subst (λ (z : ℕ). T (mark-of work z)) (trees-distinct list w (a .place) p (a .low) h (a .is)) (a .marked)
+        let a = placed list w (λ j. T (mark-of work j)) (λ i f k z j e. closed i f k z j (subst (λ (ks : List ℕ). T (element j ks)) (sym (args-are i f k)) e)) q l m (tree-at list p) s in
+        subst (λ (z : ℕ). T (mark-of work z)) (trees-distinct list w (a .place) p (omega (arith, a .low)) h (a .is)) (a .has)
 
 -- ---- on the way: the marked terms from k on have their arguments marked
 pub record Marking (job work : Bytes) (n asked : ℕ) (now : Bytes) (k : ℕ) : Type 0 where

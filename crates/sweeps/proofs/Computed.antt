@@ -17,7 +17,8 @@ use Rattle.theory.specs.Plain.{feed}
 use Rattle.theory.specs.Codes.{fault}
 use Rattle.theory.specs.Job.{answers-to, run-from, run}
 use Rattle.sweeps.specs.Variables.{stands, assignment}
-use Rattle.sweeps.specs.Calls.{sweep, count}
+use Rattle.sweeps.specs.Known.{and-known, or-known, known-op, bit-level}
+use Rattle.sweeps.specs.Calls.{sweep, count, known-bits}
 
 -- a job, the lent bytes of work memory, answers and value buffer, the number asked for, and what the call comes to
 abbrev sweeps : Bytes → ℕ → ℕ → ℕ → ℕ → ℕ → ℕ → ℕ → Type 0
@@ -27,6 +28,10 @@ sweeps bytes work space values number code assignments differing =
 abbrev count-case : Bytes → ℕ → ℕ → ℕ → ℕ → ℕ → ℕ → List ℕ → Type 0
 count-case bytes work space values number run-length code counts =
     count bytes work space values number run-length ≡ record { code = code; counts = counts }
+
+abbrev known-case : Bytes → ℕ → ℕ → ℕ → ℕ → Bytes → ℕ → ℕ → Bytes → Type 0
+known-case bytes work space values number inputs output code out =
+    known-bits bytes work space values number inputs output ≡ record { code = code; bytes = out }
 
 -- each number in two bytes, the lower first
 abbrev wide : List ℕ → Bytes
@@ -45,6 +50,15 @@ job-01 = job ((11 ∷ 1 ∷ 0 ∷ []) ∷ (11 ∷ 1 ∷ 1 ∷ []) ∷ (30 ∷ 0 
 -- two variables of width 2, the second declared first, and their sum
 abbrev two-added : Bytes
 two-added = job ((11 ∷ 2 ∷ 1 ∷ []) ∷ (11 ∷ 2 ∷ 0 ∷ []) ∷ (45 ∷ 3 ∷ 2 ∷ []) ∷ [])
+
+-- three Bool variables, 2 to 4, and a term over them
+abbrev three-bools : List ℕ → Bytes
+three-bools t = job ((10 ∷ 0 ∷ []) ∷ (10 ∷ 1 ∷ []) ∷ (10 ∷ 2 ∷ []) ∷ t ∷ [])
+
+-- a variable v of width 3, a Bool p, the constant 9, and the BvBbTerm of v's bits 1, 2 and 0, p And `false`, bits 3 and 1 of the constant
+abbrev mixed : Bytes
+mixed =
+    job ((11 ∷ 3 ∷ 0 ∷ []) ∷ (10 ∷ 0 ∷ []) ∷ (30 ∷ 1 ∷ 2 ∷ []) ∷ (30 ∷ 2 ∷ 2 ∷ []) ∷ (30 ∷ 0 ∷ 2 ∷ []) ∷ (21 ∷ 3 ∷ 1 ∷ []) ∷ (12 ∷ 4 ∷ 9 ∷ 0 ∷ 0 ∷ 0 ∷ []) ∷ (30 ∷ 3 ∷ 8 ∷ []) ∷ (30 ∷ 1 ∷ 8 ∷ []) ∷ (31 ∷ 4 ∷ 5 ∷ 6 ∷ 7 ∷ 9 ∷ 10 ∷ []) ∷ [])
 
 -- a number of width 2, and a Bool after it
 abbrev two-variables : List Term
@@ -96,7 +110,51 @@ Computed =
     × count-case [] 4000 100 16 0 256 0 (0 ∷ 1 ∷ [])
     -- width 9
     × count-case (job ((11 ∷ 9 ∷ 0 ∷ []) ∷ (40 ∷ 2 ∷ []) ∷ [])) 4000 100 32 3 256 20 []
+    -- And: 0 if an argument is 0
+    × known-case (three-bools (21 ∷ 2 ∷ 3 ∷ 4 ∷ [])) 4000 100 48 5 (2 ∷ 2 ∷ 0 ∷ []) 1 0 (0 ∷ [])
+    -- 1 if all are 1
+    × known-case (three-bools (21 ∷ 2 ∷ 3 ∷ 4 ∷ [])) 4000 100 48 5 (1 ∷ 1 ∷ 1 ∷ []) 1 0 (1 ∷ [])
+    -- else not known
+    × known-case (three-bools (21 ∷ 2 ∷ 3 ∷ 4 ∷ [])) 4000 100 48 5 (1 ∷ 1 ∷ 2 ∷ []) 1 0 (2 ∷ [])
+    -- Or, the mirror of it
+    × known-case (three-bools (22 ∷ 2 ∷ 3 ∷ 4 ∷ [])) 4000 100 48 5 (2 ∷ 1 ∷ 0 ∷ []) 1 0 (1 ∷ [])
+    × known-case (three-bools (22 ∷ 2 ∷ 3 ∷ 4 ∷ [])) 4000 100 48 5 (0 ∷ 0 ∷ 0 ∷ []) 1 0 (0 ∷ [])
+    × known-case (three-bools (22 ∷ 2 ∷ 3 ∷ 4 ∷ [])) 4000 100 48 5 (0 ∷ 2 ∷ 0 ∷ []) 1 0 (2 ∷ [])
+    -- Not
+    × known-case (three-bools (20 ∷ 4 ∷ [])) 4000 100 48 5 (2 ∷ []) 1 0 (2 ∷ [])
+    × known-case (three-bools (20 ∷ 4 ∷ [])) 4000 100 48 5 (0 ∷ []) 1 0 (1 ∷ [])
+    -- Xor
+    × known-case (three-bools (23 ∷ 4 ∷ 2 ∷ [])) 4000 100 48 5 (1 ∷ 2 ∷ []) 1 0 (2 ∷ [])
+    × known-case (three-bools (23 ∷ 4 ∷ 2 ∷ [])) 4000 100 48 5 (1 ∷ 0 ∷ []) 1 0 (1 ∷ [])
+    -- Equals of a term that is not known with itself
+    × known-case (three-bools (24 ∷ 3 ∷ 3 ∷ [])) 4000 100 48 5 (2 ∷ []) 1 0 (2 ∷ [])
+    × known-case (three-bools (24 ∷ 3 ∷ 4 ∷ [])) 4000 100 48 5 (0 ∷ 0 ∷ []) 1 0 (1 ∷ [])
+    -- Ite: the chosen branch
+    × known-case (three-bools (25 ∷ 2 ∷ 3 ∷ 4 ∷ [])) 4000 100 48 5 (1 ∷ 0 ∷ 2 ∷ []) 1 0 (0 ∷ [])
+    × known-case (three-bools (25 ∷ 2 ∷ 3 ∷ 4 ∷ [])) 4000 100 48 5 (0 ∷ 2 ∷ 1 ∷ []) 1 0 (1 ∷ [])
+    -- what both branches share
+    × known-case (three-bools (25 ∷ 2 ∷ 3 ∷ 4 ∷ [])) 4000 100 48 5 (2 ∷ 1 ∷ 1 ∷ []) 1 0 (1 ∷ [])
+    × known-case (three-bools (25 ∷ 2 ∷ 3 ∷ 4 ∷ [])) 4000 100 48 5 (2 ∷ 1 ∷ 0 ∷ []) 1 0 (2 ∷ [])
+    -- the bits of a constant, of variables and of gates; the variable with the lowest number first, bit 0 first
+    × known-case mixed 4000 100 96 11 (1 ∷ 2 ∷ 0 ∷ 2 ∷ []) 6 0 (2 ∷ 0 ∷ 1 ∷ 0 ∷ 1 ∷ 0 ∷ [])
+    -- 20 before 21
+    × known-case mixed 4000 100 95 12 (1 ∷ 2 ∷ 0 ∷ 2 ∷ []) 6 20 []
+    -- 21 before 23
+    × known-case mixed 4000 100 95 11 (1 ∷ 2 ∷ 0 ∷ []) 6 21 []
+    -- a byte too few, a byte too many
+    × known-case mixed 4000 100 96 11 (1 ∷ 2 ∷ 0 ∷ []) 6 23 []
+    × known-case mixed 4000 100 96 11 (1 ∷ 2 ∷ 0 ∷ 2 ∷ 0 ∷ []) 6 23 []
+    -- a byte above 2
+    × known-case mixed 4000 100 96 11 (1 ∷ 3 ∷ 0 ∷ 2 ∷ []) 6 23 []
+    -- an output that is too short
+    × known-case mixed 4000 100 96 11 (1 ∷ 2 ∷ 0 ∷ 2 ∷ []) 5 23 []
+    -- Equals of bit-vectors
+    × known-case (job ((11 ∷ 1 ∷ 0 ∷ []) ∷ (24 ∷ 2 ∷ 2 ∷ []) ∷ [])) 4000 100 32 3 (1 ∷ []) 1 23 []
+    -- an operation on bit-vectors, also below other terms
+    × known-case (job ((11 ∷ 1 ∷ 0 ∷ []) ∷ (61 ∷ 0 ∷ 2 ∷ []) ∷ (30 ∷ 0 ∷ 3 ∷ []) ∷ (21 ∷ 1 ∷ 4 ∷ []) ∷ [])) 4000 100 48 5 (1 ∷ []) 1 23 []
+    -- more than 16 bits
+    × known-case (job ((11 ∷ 17 ∷ 0 ∷ []) ∷ [])) 4000 100 24 2 (1 ∷ 0 ∷ 1 ∷ 0 ∷ 1 ∷ 0 ∷ 1 ∷ 0 ∷ 1 ∷ 0 ∷ 1 ∷ 0 ∷ 1 ∷ 0 ∷ 1 ∷ 0 ∷ 2 ∷ []) 17 0 (1 ∷ 0 ∷ 1 ∷ 0 ∷ 1 ∷ 0 ∷ 1 ∷ 0 ∷ 1 ∷ 0 ∷ 1 ∷ 0 ∷ 1 ∷ 0 ∷ 1 ∷ 0 ∷ 2 ∷ [])
 
 pub computed : Computed
-unfolding fold same-op same-term guard not-n neg-n and-n or-n xor-n xnor-n add-n mul-n shl-n lshr-n top-copies ashr-n udiv-n urem-n signed rotate-left-n rotate-right-n meaning depth zip-with last clog2 ripple-carry-adder last-carry ult-from bitblast-ult slt-from slt select get-term-bits fold-terms add-bits concat-bits args-of literal-bits slices-verdict on-sides verdict cut shape-of read feed fault answers-to run-from run stands assignment sweep count
-computed = (refl, refl, refl, refl, refl, refl, refl, refl, refl, refl, refl, refl, refl, refl, refl, refl, refl, refl, refl, refl, refl, refl, refl)
+unfolding fold same-op same-term guard not-n neg-n and-n or-n xor-n xnor-n add-n mul-n shl-n lshr-n top-copies ashr-n udiv-n urem-n signed rotate-left-n rotate-right-n meaning depth zip-with last clog2 ripple-carry-adder last-carry ult-from bitblast-ult slt-from slt select get-term-bits fold-terms add-bits concat-bits args-of literal-bits slices-verdict on-sides verdict cut shape-of read feed fault answers-to run-from run stands assignment sweep count and-known or-known known-op bit-level known-bits
+computed = (refl, refl, refl, refl, refl, refl, refl, refl, refl, refl, refl, refl, refl, refl, refl, refl, refl, refl, refl, refl, refl, refl, refl, refl, refl, refl, refl, refl, refl, refl, refl, refl, refl, refl, refl, refl, refl, refl, refl, refl, refl, refl, refl, refl, refl, refl, refl, refl, refl)

@@ -4,3 +4,6 @@ pub mod Asking
 pub mod Counting
 pub mod Fitting
 pub mod Standing
+pub mod Partial
+pub mod Placing
+pub mod Truth

@@ -1,5 +1,6 @@
--- The definitions of document 02's P3 and P9.
+-- The definitions of document 02's P3, P9 and P11.
 pub mod Variables
 pub mod Sweep
+pub mod Known
 pub mod Calls
 pub mod Claim

@@ -1,5 +1,5 @@
 //! A case of the oracle: a job, the memory lent, what is expected of it, and questions about its final store.
-use bitblast_host::{ANSWER_BYTES, Answers, Outcome, count_job, lent::Lent, run_job, sweep_job};
+use bitblast_host::{ANSWER_BYTES, Answers, Outcome, count_job, known_job, lent::Lent, run_job, sweep_job};
 
 /// What is expected of a job.
 pub struct Expected {
@@ -20,6 +20,23 @@ pub enum Question {
     Sweep { number: u32, values: usize, swept: [u32; 3] },
     /// The number, the bytes of value buffer, the length of the run of counts, and then the code and the counts written.
     Count { number: u32, values: usize, run: usize, code: u32, counts: Vec<u32> },
+    /// The number, the bytes of value buffer, the length of the output, the inputs, and then the code and the bytes written.
+    Derive { number: u32, values: usize, room: usize, inputs: Vec<u8>, code: u32, bits: Vec<u8> },
+}
+
+/// Bytes from a word, `-` where there are none.
+fn from_word(word: &str) -> Option<Vec<u8>> {
+    if word == "-" { Some(Vec::new()) } else { from_hex(word) }
+}
+
+/// Bytes from two hexadecimal digits each.
+fn from_hex(text: &str) -> Option<Vec<u8>> {
+    let digit = |c: u8| (c as char).to_digit(16);
+    let bytes = text.as_bytes().chunks(2).map(|pair| match pair {
+        &[high, low] => Some((digit(high)? * 16 + digit(low)?) as u8),
+        _ => None,
+    });
+    bytes.collect()
 }
 
 impl Expected {
@@ -27,18 +44,12 @@ impl Expected {
         let field =
             |name: &str| text.lines().find_map(|line| line.strip_prefix(name)).and_then(|rest| rest.strip_prefix(' '));
         let number = |name: &str| field(name)?.trim().parse::<u32>().ok();
-        let hex = field("bytes")?.trim().as_bytes();
-        let digit = |c: u8| (c as char).to_digit(16);
-        let answers = hex.chunks(2).map(|pair| match pair {
-            &[high, low] => Some((digit(high)? * 16 + digit(low)?) as u8),
-            _ => None,
-        });
         let lines: Vec<&str> = text.lines().skip(JOB_LINES).collect();
         Some(Expected {
             work: number("work")? as usize,
             room: number("room")? as usize,
             outcome: [number("stop")?, number("records")?, number("answers")?, number("terms")?, number("repeats")?],
-            answers: answers.collect::<Option<_>>()?,
+            answers: from_hex(field("bytes")?.trim())?,
             questions: lines.chunks(2).map(Question::parse).collect::<Option<_>>()?,
         })
     }
@@ -61,6 +72,14 @@ impl Question {
                 code: code.parse().ok()?,
                 counts: counts.iter().map(|count| count.parse().ok()).collect::<Option<_>>()?,
             }),
+            ["derive", number, values, room, inputs, "derived", code, bits] => Some(Question::Derive {
+                number: number.parse().ok()?,
+                values: values.parse().ok()?,
+                room: room.parse().ok()?,
+                inputs: from_word(inputs)?,
+                code: code.parse().ok()?,
+                bits: from_word(bits)?,
+            }),
             _ => None,
         }
     }
@@ -70,6 +89,7 @@ impl Question {
         match self {
             Question::Sweep { number, .. } => format!("sweep of term {number}"),
             Question::Count { number, .. } => format!("count of term {number}"),
+            Question::Derive { number, .. } => format!("bits of term {number}"),
         }
     }
 }
@@ -107,6 +127,9 @@ impl<'a> Call<'a> {
             Question::Count { number, values, run, code, counts } => {
                 self.count(*number, *values, *run, (*code, counts))
             }
+            Question::Derive { number, values, room, inputs, code, bits } => {
+                self.derive(*number, [*values, *room], inputs, (*code, bits))
+            }
         };
         difference.map(|difference| format!("{}: {difference}", question.name()))
     }
@@ -143,6 +166,33 @@ impl<'a> Call<'a> {
         }
         if !counts.untouched_from(expected.1.len()) || !counts.fences_stand() {
             return Some("numbers past the last count are not as they were".to_owned());
+        }
+        self.job_difference(found.outcome).or_else(|| values_difference(&values, found.code))
+    }
+
+    fn derive(
+        &mut self,
+        number: u32,
+        [size, room]: [usize; 2],
+        inputs: &[u8],
+        expected: (u32, &[u8]),
+    ) -> Option<String> {
+        let (mut values, mut outputs, (work, answers)) = (Lent::new(size), Lent::new(room), self.lend());
+        let found = known_job(
+            self.job,
+            self.work.ready(self.expected.work, work),
+            self.answers.ready(self.expected.room, answers),
+            values.ready(size, work ^ answers),
+            number,
+            inputs,
+            outputs.ready(room, answers),
+        );
+        let written = outputs.units().get(..expected.1.len());
+        if (found.code, written) != (expected.0, Some(expected.1)) {
+            return Some(format!("expected {expected:?}, found {}, {written:?}", found.code));
+        }
+        if !outputs.untouched_from(expected.1.len()) || !outputs.fences_stand() {
+            return Some("bytes past the last bit are not as they were".to_owned());
         }
         self.job_difference(found.outcome).or_else(|| values_difference(&values, found.code))
     }

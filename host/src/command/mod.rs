@@ -8,6 +8,7 @@ pub mod count;
 mod explain;
 mod interrupt;
 mod json;
+pub mod known;
 mod looks;
 pub mod manual;
 mod progress;

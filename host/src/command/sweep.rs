@@ -19,12 +19,14 @@ pub const USAGE: &str = "  bbhost sweep FILE NUMBER
 /// The file and the number of a term that a command is given.
 pub fn file_and_number<'a>(command: &str, words: &'a [OsString]) -> Result<(&'a OsString, u32), Failure> {
     match words {
-        [file, number] => {
-            let number = number.to_str().and_then(|text| text.parse().ok()).ok_or_else(|| unknown(number))?;
-            Ok((file, number))
-        }
+        [file, number] => Ok((file, number_of(number)?)),
         _ => Err(Failure::Usage(format!("{command} needs a file and the number of a term"))),
     }
+}
+
+/// The number of a term.
+pub fn number_of(word: &OsString) -> Result<u32, Failure> {
+    word.to_str().and_then(|text| text.parse().ok()).ok_or_else(|| unknown(word))
 }
 
 pub fn run(words: &[OsString], out: &mut impl Write) -> Result<Status, Failure> {

@@ -1,8 +1,9 @@
 //! What a batch of questions reaches, and a look at the answers that needs no other program: those that are known by the making of the
 //! terms, or because a step is held, are given.
 use crate::generate::{Asked, Case};
-use crate::kind::terms;
-use crate::question::{Answer, MOST_WIDTH};
+use crate::kind::*;
+use crate::partial::OPEN;
+use crate::question::{Answer, MOST_BITS, MOST_WIDTH, Question};
 use std::collections::{BTreeMap, BTreeSet};
 use std::fmt::Write as _;
 
@@ -12,12 +13,18 @@ pub struct Survey {
     /// The answers by code.
     sweeps: BTreeMap<u16, usize>,
     counts: BTreeMap<u16, usize>,
+    derivings: BTreeMap<u16, usize>,
     /// The kinds in swept equalities whose sides differ nowhere, and somewhere.
     same: BTreeSet<u16>,
     apart: BTreeSet<u16>,
     /// The kinds in counted terms, and the numbers of their values.
     counted: BTreeSet<u16>,
     sizes: BTreeSet<usize>,
+    /// The kinds of terms whose bits were derived where some input is not known, each with a bit that it had.
+    derived: BTreeSet<(u16, u8)>,
+    /// Those with more inputs than are swept, and bits that are known though an input is not.
+    many_inputs: usize,
+    settled: usize,
     /// Sweeps whose sides differ on one assignment of more.
     once: usize,
     /// Counted terms with a value that no assignment leads to.
@@ -35,11 +42,13 @@ impl Survey {
             let fault = match &asked.answer {
                 Answer::Swept { code: 0, assignments, differing } => self.swept(asked, *assignments, *differing),
                 Answer::Counted { code: 0, counts } => self.counted(asked, counts),
+                Answer::Derived { code: 0, bits } => self.derived(asked, bits),
                 _ => None,
             };
             let (codes, code) = match asked.answer {
                 Answer::Swept { code, .. } => (&mut self.sweeps, code),
                 Answer::Counted { code, .. } => (&mut self.counts, code),
+                Answer::Derived { code, .. } => (&mut self.derivings, code),
             };
             *codes.entry(code).or_default() += 1;
             self.known += usize::from(code == 0 && asked.known.is_some());
@@ -72,11 +81,29 @@ impl Survey {
         wrong.then(|| format!("{} are false, not {:?}", counts[0], asked.known))
     }
 
+    fn derived(&mut self, asked: &Asked, bits: &[u8]) -> Option<String> {
+        let Question::Derive { inputs, .. } = &asked.question else {
+            return Some("an answer to another question".to_owned());
+        };
+        self.many_inputs += usize::from(inputs.len() > MOST_BITS);
+        if let (true, Some(&kind)) = (inputs.contains(&OPEN), asked.kinds.last()) {
+            self.derived.extend(bits.iter().map(|&bit| (kind, bit)));
+            self.settled += bits.iter().filter(|&&bit| bit != OPEN).count();
+        }
+        asked.untrue.clone()
+    }
+
     /// What a batch should have and has not.
     pub fn missing(&self) -> Vec<String> {
         let mut missing = Vec::new();
         missing.extend(lacking(&self.sweeps, &[0, 20, 21]).map(|code| format!("sweep with code {code}")));
         missing.extend(lacking(&self.counts, &[0, 20, 21, 22]).map(|code| format!("count with code {code}")));
+        missing.extend(lacking(&self.derivings, &[0, 20, 21, 23]).map(|code| format!("bits with code {code}")));
+        for kind in [VARIABLE, NOT, AND, OR, XOR, EQUALS, ITE, BIT_OF, BB_TERM] {
+            let bits = (0..=OPEN).filter(|&bit| !self.derived.contains(&(kind, bit)));
+            missing.extend(bits.map(|bit| format!("kind {kind} with bit {bit} where some input is not known")));
+        }
+        missing.extend((self.many_inputs == 0).then(|| "bits of more inputs than are swept".to_owned()));
         missing.extend(kinds_lacking(&self.same, "without a difference"));
         missing.extend(kinds_lacking(&self.apart, "with a difference"));
         missing.extend(kinds_lacking(&self.counted, "counted"));
@@ -94,6 +121,12 @@ impl Survey {
         let mut out = format!("jobs: {}, sweeps by code: {}\n", self.cases, by_code(&self.sweeps));
         let _ =
             writeln!(out, "counts by code: {}, with a value that never occurs: {}", by_code(&self.counts), self.gaps);
+        let _ = writeln!(
+            out,
+            "derived bits by code: {}, known where some input is not: {}",
+            by_code(&self.derivings),
+            self.settled
+        );
         let _ = writeln!(out, "assignments: {}, evaluations: {}", self.assignments, self.evaluations);
         let _ = writeln!(out, "differing on just one assignment: {}, known beforehand: {}", self.once, self.known);
         let missing = self.missing();

@@ -163,8 +163,121 @@ fn counts() {
     assert_eq!((bit_of(16), bit_of(17)), ((0, vec![32_768; 2]), (20, vec![])));
 }
 
+/// The bits of a term, with enough memory.
+fn derived(inputs: &[u8], build: impl FnOnce(&mut Maker) -> Id) -> (u16, Vec<u8>) {
+    let mut maker = Maker::new(0);
+    let term = build(&mut maker);
+    let number = maker.emit(term).into();
+    derive(&maker.bytes, number, 8 * maker.list.len(), 64, inputs)
+}
+
+fn derive(job: &[u8], number: u32, values: usize, room: usize, inputs: &[u8]) -> (u16, Vec<u8>) {
+    match answer(job, MUCH, Question::Derive { number, values, room, inputs: inputs.to_vec() }) {
+        Answer::Derived { code, bits } => (code, bits),
+        other => panic!("bits are answered by {other:?}"),
+    }
+}
+
+/// A gate over the Bool variables 0, 1 and so on.
+fn gate(kind: u16, inputs: &[u8]) -> Vec<u8> {
+    let (code, bits) = derived(inputs, |m| {
+        let args: Vec<Id> = (0..inputs.len() as u64).map(|name| m.pool.add(BOOL, &[name], &[])).collect();
+        for &arg in &args {
+            m.emit(arg);
+        }
+        m.pool.op(kind, &args)
+    });
+    assert_eq!(code, 0);
+    bits
+}
+
+#[test]
+fn gates_of_which_part_is_known() {
+    for (kind, rows) in [
+        (AND, &[(&[0, 2, 2][..], 0), (&[2, 1, 0], 0), (&[1, 1, 1], 1), (&[1, 2, 1], 2)][..]),
+        (OR, &[(&[2, 2, 1], 1), (&[1, 0, 2], 1), (&[0, 0, 0], 0), (&[0, 0, 2], 2)]),
+        (NOT, &[(&[0], 1), (&[1], 0), (&[2], 2)]),
+        (XOR, &[(&[0, 1], 1), (&[1, 1], 0), (&[2, 0], 2), (&[1, 2], 2)]),
+        (EQUALS, &[(&[0, 1], 0), (&[1, 1], 1), (&[2, 0], 2), (&[1, 2], 2)]),
+        (ITE, &[(&[1, 0, 2], 0), (&[0, 0, 2], 2), (&[0, 2, 1], 1), (&[2, 1, 1], 1), (&[2, 0, 1], 2), (&[2, 2, 2], 2)]),
+    ] {
+        for &(inputs, expected) in rows {
+            assert_eq!(gate(kind, inputs), [expected], "kind {kind} of {inputs:?}");
+        }
+    }
+    // Not even a term that is the same on both sides is looked through.
+    for kind in [XOR, EQUALS] {
+        let same = |m: &mut Maker| {
+            let x = m.pool.add(BOOL, &[0], &[]);
+            m.pool.op(kind, &[x, x])
+        };
+        assert_eq!(derived(&[2], same), (0, vec![2]));
+    }
+}
+
+/// The variable with the lowest number first, bit 0 first in each.
+#[test]
+fn bits_in_their_order() {
+    let build = |m: &mut Maker| {
+        let (x, c) = (m.variable(3, 0), m.pool.add(CONSTANT, &[2, 2], &[]));
+        let y = m.pool.add(BOOL, &[0], &[]);
+        m.emit(y);
+        m.emit(x);
+        let bits = [(2, x), (0, x), (1, c), (0, c), (1, x)].map(|(k, term)| m.pool.bit(k, term));
+        let bits = [&bits[..], &[y]].concat();
+        m.pool.op(BB_TERM, &bits)
+    };
+    assert_eq!(derived(&[1, 0, 2, 1], build), (0, vec![1, 0, 1, 0, 2, 1]));
+    assert_eq!(derived(&[2, 1, 1, 0], build), (0, vec![0, 1, 1, 0, 1, 2]));
+    for wrong in [&[1, 0, 2][..], &[1, 0, 2, 1, 0], &[1, 0, 3, 1], &[1, 0, 255, 1], &[]] {
+        assert_eq!(derived(wrong, build), (23, vec![]), "{wrong:?}");
+    }
+    let wide: Vec<u8> = (0..64).map(|k| k % 3).collect();
+    assert_eq!(derived(&wide, |m| m.variable(64, 0)), (0, wide.clone()));
+}
+
+#[test]
+fn bits_that_are_refused() {
+    // An operation on bit-vectors, also far below, and an Equals of bit-vectors.
+    let over = |kind: u16| {
+        move |m: &mut Maker| {
+            let args = [0, 1].map(|name| m.variable(1, name));
+            let term = m.pool.op(kind, &args);
+            let bit = if m.pool.width(term) == 0 { term } else { m.pool.bit(0, term) };
+            m.pool.op(AND, &[YES, bit])
+        }
+    };
+    for kind in [BV_AND, BV_ADD, BV_XNOR, BV_COMP, BV_ULT, BV_SLT, BV_UDIV, EQUALS] {
+        assert_eq!(derived(&[0, 0], over(kind)), (23, vec![]), "{kind}");
+    }
+    // 20, 21 and 23 in their order; the output has room for each bit.
+    let job = specimen();
+    assert_eq!(derive(&job, 7, 80, 1, &[1, 2]), (0, vec![2]));
+    assert_eq!(derive(&job, 7, 80, 0, &[1, 2]), (23, vec![]));
+    assert_eq!(derive(&job, 7, 79, 0, &[1]), (21, vec![]));
+    assert_eq!(derive(&job, 10, 79, 0, &[1]), (20, vec![]));
+    assert_eq!(derive(&job, 0, 80, 1, &[]), (0, vec![1]));
+    assert_eq!(derive(&job[..job.len() - 1], 7, 80, 1, &[1, 2]), (20, vec![]));
+    for (room, code) in [(4, 23), (5, 0), (6, 0)] {
+        let mut maker = Maker::new(0);
+        let x = maker.variable(5, 0);
+        let number = maker.emit(x).into();
+        assert_eq!(derive(&maker.bytes, number, 24, room, &[2; 5]).0, code);
+    }
+}
+
 #[test]
 fn lines() {
+    let deriving = Question::Derive { number: 7, values: 80, room: 1, inputs: vec![1, 255] };
+    assert_eq!(deriving.text(), "derive 7 80 1 01ff\n");
+    assert_eq!(Question::parse("derive 7 80 1 01ff"), Some(deriving));
+    let none = Question::Derive { number: 0, values: 16, room: 1, inputs: vec![] };
+    assert_eq!((none.text(), Question::parse("derive 0 16 1 -")), ("derive 0 16 1 -\n".to_owned(), Some(none)));
+    assert_eq!(Answer::Derived { code: 0, bits: vec![2, 0] }.text(), "derived 0 0200\n");
+    assert_eq!(Answer::Derived { code: 23, bits: vec![] }.text(), "derived 23 -\n");
+    for other in ["derive 7 80 1", "derive 7 80 1 012", "derive 7 80 1 0g", "derived 0 02"] {
+        assert_eq!(Question::parse(other), None, "{other}");
+    }
     let counting = Question::Count { number: 9, values: 80, run: 2 };
     assert_eq!(counting.text(), "count 9 80 2\n");
     assert_eq!(Question::parse("count 9 80 2"), Some(counting));
@@ -178,7 +291,7 @@ fn lines() {
     }
 }
 
-/// Every kind is swept with and without a difference, and counted, and nothing contradicts what is known beforehand.
+/// Every kind is swept with and without a difference, and counted, every gate has every bit where some input is not known, and nothing contradicts what is known beforehand.
 #[test]
 fn cases_reach_everything() {
     let mut survey = Survey::default();

@@ -2,8 +2,9 @@
 use super::{Case, Maker, lend_around};
 use crate::job::{Final, run_whole};
 use crate::kind::*;
+use crate::partial::is_of_bits;
 use crate::pool::{Id, NO, YES};
-use crate::question::{Answer, CELL, MOST_WIDTH, Question};
+use crate::question::{Answer, CELL, MOST_WIDTH, Question, Standing};
 use std::collections::HashSet;
 
 /// The evaluations that one question may cost; one case in so many may cost more.
@@ -17,9 +18,11 @@ pub struct Asked {
     pub answer: Answer,
     /// On how many assignments the asked Equals is false, by the making of the terms or because a step is held.
     pub known: Option<u64>,
-    /// The kinds of what stands in the asked term, and the evaluations that all assignments take.
+    /// The kinds of what stands in the asked term, its own the last, and the evaluations that the answer takes.
     pub kinds: Vec<u16>,
     pub evaluations: usize,
+    /// Where derived bits are not true, or not kept where one more input is known.
+    pub untrue: Option<String>,
 }
 
 /// Case number `i` of a seed: the kinds in their turn.
@@ -29,6 +32,7 @@ pub fn asked_case(seed: u64, i: usize) -> Case {
     let dear = i % SELDOM == SELDOM - 1;
     match maker.rng.below(20) {
         0 => maker.mixture(),
+        1..=4 => maker.gates(),
         _ => maker.equalities(kinds[i % kinds.len()], dear),
     }
     if maker.rng.chance(6) {
@@ -54,26 +58,36 @@ pub fn asked_case(seed: u64, i: usize) -> Case {
 }
 
 impl Maker {
-    /// Questions about a final list: its equalities, its narrow terms, other numbers, and lent memory around what is needed.
+    /// Questions about a final list: its equalities, its narrow terms, its terms of bits, other numbers, and lent memory around what is needed.
     fn questions(&mut self, store: &Final) -> Vec<Question> {
         let kept = store.list.len();
         let places = |asked: &dyn Fn(Id) -> bool| (0..kept).filter(|&place| asked(store.list[place])).collect();
         let equals: Vec<usize> = places(&|id| store.pool.kind(id) == EQUALS);
         let narrow: Vec<usize> = places(&|id| store.pool.width(id) <= MOST_WIDTH);
+        let all_of_bits = |id: Id| store.pool.below(&[id]).iter().all(|&id| is_of_bits(&store.pool, id));
+        let of_bits: Vec<usize> = places(&all_of_bits);
         // The last equality is most often what the job is about.
         let last = equals.last().map(|&place| place as u32);
         let first = Question::Sweep { number: last.unwrap_or(0), values: self.buffer(CELL * kept) };
         let mut questions = vec![first];
-        for _ in 0..self.rng.range(2, 6) {
-            let sweep = self.rng.chance(50);
-            let fitting = if sweep { &equals } else { &narrow };
+        // The later ones are over more of the others.
+        let of_bits = &of_bits[if self.rng.chance(80) { of_bits.len() / 2 } else { 0 }..];
+        // Where gates are much of the job, most questions are about their bits.
+        let gates = of_bits.len() > kept / 4;
+        for _ in 0..if gates { self.rng.range(6, 14) } else { self.rng.range(2, 6) } {
+            let sort = if gates { self.rng.pick(&[0, 1, 2, 2, 2, 2]) } else { self.rng.below(3) };
+            let fitting = [&equals[..], &narrow, of_bits][sort];
             let any = self.rng.chance(15) || fitting.is_empty();
             let number = if any { self.any_number(kept) } else { self.rng.pick(fitting) as u32 };
             let values = self.buffer(CELL * kept);
             let width = store.list.get(number as usize).map_or(0, |&id| store.pool.width(id));
-            questions.push(match sweep {
-                true => Question::Sweep { number, values },
-                false => Question::Count { number, values, run: self.run_around(width) },
+            questions.push(match sort {
+                0 => Question::Sweep { number, values },
+                1 => Question::Count { number, values, run: self.run_around(width) },
+                _ => {
+                    let bits = store.list.get(number as usize).map_or(0, |&id| Standing::of(store, id).bits);
+                    Question::Derive { number, values, room: self.room_around(width), inputs: self.some_inputs(bits) }
+                }
             });
         }
         questions
@@ -110,18 +124,25 @@ impl Maker {
     }
 
     /// The question with its answer; None where that would cost too much.
-    fn ask(&self, question: Question, stop: u16, store: &Final, held: &HashSet<Id>, most: usize) -> Option<Asked> {
+    fn ask(&mut self, question: Question, stop: u16, store: &Final, held: &HashSet<Id>, most: usize) -> Option<Asked> {
         let Some((root, standing)) = question.asked(stop, store) else {
             let answer = question.answer(stop, store);
-            return Some(Asked { question, answer, known: None, kinds: vec![], evaluations: 0 });
+            return Some(Asked { question, answer, known: None, kinds: vec![], evaluations: 0, untrue: None });
         };
-        if standing.cost() > most {
+        let evaluations = question.cost(&standing);
+        if evaluations > most {
             return None;
         }
         let made = self.list.get(question.number() as usize).and_then(|id| self.known.get(id)).copied();
         let known = if held.contains(&root) { Some(0) } else { made };
         let kinds = standing.below.iter().map(|&id| store.pool.kind(id)).collect();
         let answer = question.answer(stop, store);
-        Some(Asked { question, answer, known, kinds, evaluations: standing.cost() })
+        let untrue = match (&question, &answer) {
+            (Question::Derive { inputs, .. }, Answer::Derived { code: 0, bits }) => {
+                self.untrue(store, root, &standing, inputs, bits)
+            }
+            _ => None,
+        };
+        Some(Asked { question, answer, known, kinds, evaluations, untrue })
     }
 }

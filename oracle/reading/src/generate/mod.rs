@@ -3,6 +3,7 @@ mod alike;
 mod asked;
 mod chains;
 mod claims;
+mod derived;
 mod equalities;
 mod large;
 mod maker;

@@ -1,0 +1,24 @@
+// One pass over the marked Bools, upwards.
+ghost use Rattle.store.specs.Store.{listed};
+ghost use Rattle.partial.specs.Passing.{Ready, Passed};
+use evaluation::cells::put_cell;
+use marks::next_marked;
+use shelf::width_on;
+use ternary::known::known_of;
+
+// Stores the bits of the marked Bools up to the asked term in their cells; the variables' cells say where their bits
+// stand.
+pub fn known_all(job: &[u8], work: &[u8], n: usize, values: &mut [u8], inputs: &[u8], asked: u32)
+    requires { ⌜ Ready (now job) (now work) n (now values) asked ⌝ }
+    ensures { λ _. let list = listed (now (job .entry)) (now (work .entry)) n in
+        ⌜ Passed list (now (work .entry)) (now (inputs .entry)) asked (now (values .entry)) (now (values .exit)) ⌝ }
+{
+    let mut k: u32 = 0;
+    while k <= asked {
+        if width_on(job, work, n, k) == 0 {
+            let v = known_of(job, work, n, values, inputs, k);
+            put_cell(values, k, v);
+        }
+        k = next_marked(work, asked, k);
+    }
+}

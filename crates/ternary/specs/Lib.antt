@@ -1,0 +1,3 @@
+-- Bits of which some are not known.
+pub mod Gates
+pub mod Bits
