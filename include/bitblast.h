@@ -26,7 +26,7 @@ extern "C" {
 
 /* The number of the interface that is declared here. It grows with each change of a function or struct below: a program that is
  * compiled with this header must be linked with a library whose bb_version() gives the same number. */
-#define BB_VERSION 5
+#define BB_VERSION 6
 
 /* The longest job, in bytes. */
 #define BB_MAX_JOB 16777216
@@ -34,7 +34,11 @@ extern "C" {
 /* The stack that is enough for a call, in bytes. */
 #define BB_STACK_BYTES 262144
 
-/* The bytes of work memory that a kept term costs; no job keeps more than 65,535 terms, two of them free. */
+/* The rack's limits: the greatest width, and the most terms, `true` and `false` counted. */
+#define BB_MAX_WIDTH 64
+#define BB_MAX_TERMS 65535
+
+/* The bytes of work memory that a kept term costs; no job keeps more than BB_MAX_TERMS terms, two of them free. */
 #define BB_TERM_BYTES 8
 
 /* The bytes of a value buffer that a kept term needs, `true` and `false` too. */
@@ -196,6 +200,14 @@ uint32_t bb_version(void);
 BbOutcome bb_job(const uint8_t *job, size_t job_len,
                  uint8_t *work, size_t work_len,
                  uint8_t *answers, size_t answers_len);
+
+/* Checks a job as bb_job does, under limits: a bit-vector wider than `width_limit` is stop code 7, a new term where `term_limit` terms are kept, `true`
+ * and `false` counted, is 8. A limit above the rack's, BB_MAX_WIDTH or BB_MAX_TERMS, is the rack's. At width limit 0 there is no bit-vector; at
+ * term limits 0 and 1 `true` and `false` are there all the same. A job that stops with neither code comes to the same under any larger limits. */
+BbOutcome bb_job_within(const uint8_t *job, size_t job_len,
+                        uint8_t *work, size_t work_len,
+                        uint8_t *answers, size_t answers_len,
+                        uint32_t width_limit, uint32_t term_limit);
 
 /* Runs a job as bb_job does, and evaluates both sides of the Equals of that number in its final store on every assignment of the variables
  * that stand in it: up to 65,536 assignments, each with one evaluation of each term that stands there. All of `values` is zero after an

@@ -12,7 +12,7 @@ ROOT = os.path.join(os.path.dirname(os.path.abspath(__file__)), '..')
 # Theorems whose type is written out; the others have a claim of their own in specs/.
 WRITTEN_OUT = ['demand-1', 'demand-2', 'demand-3', 'demand-2-call', 'demand-3-call', 'answers-kept', 'shut-out', 'shut-out-held',
                'specimens-hold', 'worked-right', 'computed', 'counted']
-EXPORTED = ['bb_job', 'bb_sweep', 'bb_count', 'bb_known', 'bb_tally', 'bb_version']
+EXPORTED = ['bb_job', 'bb_job_within', 'bb_sweep', 'bb_count', 'bb_known', 'bb_tally', 'bb_version']
 
 
 def sources(*parts):

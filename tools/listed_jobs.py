@@ -1,13 +1,13 @@
 #!/usr/bin/env python3
-"""Small jobs with what the original Rust answers to each. Document 01's own, and some of document 02's chains, are computed by the
+"""Small jobs with what the original Rust answers to each. Document 01's own, some of document 02's chains, and those under stated limits are computed by the
 prover (crates/theory/proofs/Computed.antt); the program `replay` runs all of them, after its generated ones.
 
   listed_jobs.py write                       writes Computed.antt, and the listed jobs into crates/replay
   listed_jobs.py check                       exit status 1 where one of these is not what `write` would write
-  listed_jobs.py compare ORACLE [requests]   asks a program that answers jobs (`ORACLE case FILE WORK ROOM`) about every job; about those of
+  listed_jobs.py compare ORACLE [requests]   asks a program that answers jobs (`ORACLE case FILE WORK ROOM [WIDTH TERMS]`) about every job; about those of
                                              the requests, which the original does not know, only where `requests` is said
 
-A line of listed_jobs.txt: name; work bytes; answer bytes; the job in hex; stop, records, terms, repeats; rule:code:depth of each answer."""
+A line of listed_jobs.txt: name; work bytes, and after `within` the width limit and the term limit where a caller states them; answer bytes; the job in hex; stop, records, terms, repeats; rule:code:depth of each answer."""
 import os, subprocess, sys, tempfile
 
 from replay_jobs import GENERATED, JOBS, STDOUT, head, printed
@@ -20,6 +20,7 @@ OUT = os.path.join(HERE, '..', 'crates', 'theory', 'proofs', 'Computed.antt')
 
 # What a run has to unfold to be computed, by the module of specs/ that defines it.
 UNFOLD = {
+    'Limit': '',
     'Term': 'fold same-op same-term',
     'Sort': 'guard',
     'Depth': 'depth',
@@ -36,14 +37,15 @@ UNFOLD = {
     'Job': 'answers-to recall run-from run',
 }
 
-HEAD = '''-- Document 01's own jobs, computed: each comes to what it says, which is what the original Rust answers; and some of document 02's chains.
--- Written by tools/listed_jobs.py.
+HEAD = '''-- Document 01's own jobs, computed: each comes to what it says, which is what the original Rust answers; and some of document 02's chains, and jobs under
+-- stated limits. Written by tools/listed_jobs.py.
 use mathlib.Core.Path.{_≡_, refl}
 use mathlib.Core.List.{List, [], _∷_}
 use Prim.Native.Nat.{ℕ}
 %s
--- a job, the lent bytes of work memory and answers, and what a run of it comes to
+-- a job, its limits, the lent bytes of work memory and answers, and what a run of it comes to
 record Case : Type 0 where
+  limits : Limits
   job : Bytes
   work : ℕ
   space : ℕ
@@ -52,8 +54,9 @@ record Case : Type 0 where
 abbrev answer : ℕ → ℕ → ℕ → Answer
 answer rule code depth = record { rule = rule; code = code; depth = depth }
 
-abbrev case : Bytes → ℕ → ℕ → ℕ → ℕ → List Answer → ℕ → ℕ → Case
-case job work space stop done answers terms repeats = record {
+abbrev case : Limits → Bytes → ℕ → ℕ → ℕ → ℕ → List Answer → ℕ → ℕ → Case
+case limits job work space stop done answers terms repeats = record {
+  limits = limits;
   job = job;
   work = work;
   space = space;
@@ -63,7 +66,7 @@ case job work space stop done answers terms repeats = record {
 -- each comes to its outcome
 abbrev Computed : List Case → Type 0
 Computed [] = Unit {0}
-Computed (c ∷ cs) = (run (c .job) (c .work) (c .space) ≡ c .outcome) × Computed cs
+Computed (c ∷ cs) = (run (c .limits) (c .job) (c .work) (c .space) ≡ c .outcome) × Computed cs
 
 abbrev cases : List Case
 cases =
@@ -75,21 +78,25 @@ def jobs():
         line = line.strip()
         if line and not line.startswith('#'):
             name, work, room, text, numbers, answers = [part.strip() for part in line.split(';')]
+            work, _, limits = work.partition('within')
             stop, records, terms, repeats = map(int, numbers.split())
-            yield name, int(work), int(room), bytes.fromhex(text), stop, records, terms, repeats, [tuple(map(int, a.split(':'))) for a in answers.split()]
+            answers = [tuple(map(int, a.split(':'))) for a in answers.split()]
+            yield name, limits.split(), int(work), int(room), bytes.fromhex(text), stop, records, terms, repeats, answers
 
 
 def antt():
-    types = {'Record': 'Bytes', 'Answer': 'Answer', 'Job': 'Outcome'}
+    types = {'Limit': 'Limits stated rack', 'Record': 'Bytes', 'Answer': 'Answer', 'Job': 'Outcome'}
     uses = ''.join('use Rattle.theory.specs.%s.{%s}\n' % (m, ', '.join((types.get(m, '') + ' ' + names).split())) for m, names in UNFOLD.items())
     out, count = [HEAD % uses], 0
-    for name, work, room, job, stop, records, terms, repeats, answers in jobs():
+    for name, limits, work, room, job, stop, records, terms, repeats, answers in jobs():
         if not name.startswith(COMPUTED):
             continue
         listed = lambda items: ' ∷ '.join(items + ['[]']) if items else '[]'
         given = listed([str(b) for b in job])
         got = listed(['answer %d %d %d' % a for a in answers])
-        out.append('    -- %s\n    %scase (%s) %d %d %d %d (%s) %d %d\n' % (name, '∷ ' if count else '', given, work, room, stop, records, got, terms, repeats))
+        under = '(stated %s %s)' % tuple(limits) if limits else 'rack'
+        numbers = given, work, room, stop, records, got, terms, repeats
+        out.append('    -- %s\n    %scase %s (%s) %d %d %d %d (%s) %d %d\n' % (name, '∷ ' if count else '', under, *numbers))
         count += 1
     out.append('    ∷ []\n\npub computed : Computed cases\nunfolding %s\n' % ' '.join(' '.join(UNFOLD.values()).split()))
     out.append('computed = %stt%s\n' % ('(refl, ' * count, ')' * count))
@@ -98,13 +105,13 @@ def antt():
 
 def compare(oracle, requests):
     wrong = total = 0
-    for name, work, room, job, stop, records, terms, repeats, answers in jobs():
+    for name, limits, work, room, job, stop, records, terms, repeats, answers in jobs():
         if name.startswith(REQUEST) and not requests:
             continue
         with tempfile.NamedTemporaryFile(suffix='.job') as f:
             f.write(job)
             f.flush()
-            text = subprocess.run([oracle, 'case', f.name, str(work), str(room)], capture_output=True, text=True, check=True).stdout
+            text = subprocess.run([oracle, 'case', f.name, str(work), str(room), *limits], capture_output=True, text=True, check=True).stdout
         got = dict((line + ' ').split(' ', 1) for line in text.splitlines())
         data = bytes.fromhex(got.get('bytes', '').strip())
         said = [tuple(int.from_bytes(data[k + 4 + 2 * i:k + 6 + 2 * i], 'little') for i in range(3)) for k in range(0, len(data), 10)]
@@ -119,7 +126,9 @@ def compare(oracle, requests):
 def replayed():
     """The two files of crates/replay with the listed jobs after the generated ones, by their paths."""
     heads, lines = [], []
-    for name, work, room, job, stop, records, terms, repeats, answers in jobs():
+    for name, limits, work, room, job, stop, records, terms, repeats, answers in jobs():
+        if limits:      # `replay` runs jobs under the rack's
+            continue
         data = b''.join(b''.join(n.to_bytes(2, 'little') for n in (8, 200) + a) for a in answers)
         fields = {'stop': stop, 'records': records, 'answers': len(answers), 'terms': terms, 'repeats': repeats, 'bytes': data.hex()}
         heads.append(head(work, room, job))

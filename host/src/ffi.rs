@@ -1,6 +1,7 @@
 //! The functions of the static library, declared by hand: nothing checks these declarations against the Rattle source
-//! (`bb_job`, `bb_sweep`, `bb_count`, `bb_known`, `bb_version` and what they return in crates/bitblast, `Tally` in crates/tally). tests/ffi.rs does what can be done: it
+//! (`bb_job`, `bb_job_within`, `bb_sweep`, `bb_count`, `bb_known`, `bb_version` and what they return in crates/bitblast, `Tally` in crates/tally). tests/ffi.rs does what can be done: it
 //! compares the text of both, the interface's number, and sizes, offsets and the bytes around each lent slice.
+use crate::{MAX_TERMS, MAX_WIDTH};
 
 /// What a job came to. Later interfaces may add numbers.
 #[repr(C)]
@@ -71,6 +72,26 @@ pub struct Known {
     pub outcome: Outcome,
 }
 
+/// The limits under which a job is checked. A limit above the rack's is the rack's.
+#[derive(Clone, Copy, Debug, PartialEq, Eq)]
+pub struct Limits {
+    /// The greatest width of a bit-vector, results too: a wider one is stop code 7. At 0 there is no bit-vector.
+    pub width: u32,
+    /// The most terms, `true` and `false` among them: a new one beyond is stop code 8. These two are there at any limit.
+    pub terms: u32,
+}
+
+impl Limits {
+    /// Those of [`run_job`], and of sweeps and counts.
+    pub const RACK: Limits = Limits { width: MAX_WIDTH as u32, terms: MAX_TERMS as u32 };
+}
+
+impl Default for Limits {
+    fn default() -> Self {
+        Limits::RACK
+    }
+}
+
 unsafe extern "C" {
     fn bb_job(
         job: *const u8,
@@ -79,6 +100,17 @@ unsafe extern "C" {
         work_len: usize,
         answers: *mut u8,
         answers_len: usize,
+    ) -> Outcome;
+
+    fn bb_job_within(
+        job: *const u8,
+        job_len: usize,
+        work: *mut u8,
+        work_len: usize,
+        answers: *mut u8,
+        answers_len: usize,
+        width_limit: u32,
+        term_limit: u32,
     ) -> Outcome;
 
     fn bb_sweep(
@@ -162,6 +194,23 @@ pub fn interface() -> u32 {
 pub fn run_job(job: &[u8], work: &mut [u8], answers: &mut [u8]) -> Outcome {
     // SAFETY: each pointer is valid for its length, and the borrows keep the three apart.
     unsafe { bb_job(job.as_ptr(), job.len(), work.as_mut_ptr(), work.len(), answers.as_mut_ptr(), answers.len()) }
+}
+
+/// Checks a job as [`run_job`] does, under limits. A job that stops with neither 7 nor 8 comes to the same under any larger ones.
+pub fn run_job_within(job: &[u8], work: &mut [u8], answers: &mut [u8], limits: Limits) -> Outcome {
+    // SAFETY: each pointer is valid for its length, and the borrows keep the three apart.
+    unsafe {
+        bb_job_within(
+            job.as_ptr(),
+            job.len(),
+            work.as_mut_ptr(),
+            work.len(),
+            answers.as_mut_ptr(),
+            answers.len(),
+            limits.width,
+            limits.terms,
+        )
+    }
 }
 
 /// Runs a job as [`run_job`] does, and evaluates both sides of the Equals of that number in its final store on every assignment of the

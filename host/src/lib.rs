@@ -39,16 +39,20 @@ pub mod service;
 pub mod words;
 
 pub use ffi::{
-    Counted, Known, Outcome, Swept, Tally, count_job, interface, known_job, run_job, sweep_job, tally_answers,
+    Counted, Known, Limits, Outcome, Swept, Tally, count_job, interface, known_job, run_job, run_job_within, sweep_job,
+    tally_answers,
 };
 pub use service::{Answer, Answers, Count, KnownBits, Memory, Report, Service, Sweep, Verdict};
 pub use words::{AnswerCode, Kind, Rule, StopCode};
 
 /// The number of the library's interface that this crate is written for.
-pub const INTERFACE: u32 = 5;
+pub const INTERFACE: u32 = 6;
 
 /// The longest job, in bytes; a longer one is answered with stop code 2.
 pub const MAX_JOB_BYTES: usize = 16_777_216;
+
+/// The greatest width of a bit-vector.
+pub const MAX_WIDTH: usize = 64;
 
 /// The most terms that a job keeps, `true` and `false` among them.
 pub const MAX_TERMS: usize = 65_535;
@@ -64,9 +68,6 @@ pub const MAX_SWEPT_BITS: usize = 16;
 
 /// The most values that a counted term has: those of width 8.
 pub const MAX_VALUES: usize = 256;
-
-/// The greatest width of a term.
-pub const MAX_WIDTH: usize = 64;
 
 /// The bytes of an answer.
 pub const ANSWER_BYTES: usize = 10;

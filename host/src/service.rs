@@ -1,7 +1,7 @@
 //! A service: memory of its own, a tally, and reports in words.
 use crate::{
-    ANSWER_BYTES, Counted, Known, MAX_JOB_BYTES, MAX_VALUES, MAX_WIDTH, Outcome, SHORTEST_RECORD, Swept, Tally,
-    VALUE_BYTES, count_job, known_job, run_job, sweep_job, tally_answers, words,
+    ANSWER_BYTES, Counted, Known, Limits, MAX_JOB_BYTES, MAX_VALUES, MAX_WIDTH, Outcome, SHORTEST_RECORD, Swept, Tally,
+    VALUE_BYTES, count_job, known_job, run_job_within, sweep_job, tally_answers, words,
 };
 use std::fmt;
 
@@ -52,6 +52,7 @@ pub struct Service {
     values: Vec<u8>,
     counts: [u32; MAX_VALUES],
     bits: [u8; MAX_WIDTH],
+    limits: Limits,
     tally: Tally,
 }
 
@@ -70,6 +71,7 @@ impl Service {
             values: Vec::new(),
             counts: [NO_COUNT; MAX_VALUES],
             bits: [NO_BIT; MAX_WIDTH],
+            limits: Limits::RACK,
             tally: Tally::default(),
         }
     }
@@ -80,10 +82,16 @@ impl Service {
         self
     }
 
+    /// The same service, which checks jobs under these limits. Its sweeps and counts run a job under the rack's.
+    pub fn with_limits(mut self, limits: Limits) -> Self {
+        self.limits = limits;
+        self
+    }
+
     /// Checks a job and adds it to the tally.
     #[must_use = "the job may be refused"]
     pub fn check(&mut self, job: &[u8]) -> Report<'_> {
-        let outcome = run_job(job, &mut self.work, &mut self.answers);
+        let outcome = run_job_within(job, &mut self.work, &mut self.answers, self.limits);
         tally_answers(&mut self.tally, &self.answers, outcome.answers);
         Report::new(outcome, &self.answers, self.tally)
     }
@@ -145,7 +153,11 @@ impl Service {
 impl fmt::Debug for Service {
     fn fmt(&self, f: &mut fmt::Formatter) -> fmt::Result {
         let Memory { work_bytes, answer_bytes } = self.memory();
-        write!(f, "Service {{ work_bytes: {work_bytes}, answer_bytes: {answer_bytes}, tally: {:?} }}", self.tally)
+        let Service { limits, tally, .. } = self;
+        write!(
+            f,
+            "Service {{ work_bytes: {work_bytes}, answer_bytes: {answer_bytes}, limits: {limits:?}, tally: {tally:?} }}"
+        )
     }
 }
 

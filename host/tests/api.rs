@@ -168,7 +168,7 @@ fn reports_in_words() {
         (1, Some("held".to_owned()))
     );
     assert_eq!((answers.len(), answers.next()), (0, None));
-    assert!(format!("{service:?}").starts_with("Service { work_bytes: 64, answer_bytes: 10, tally: Tally { jobs: 1,"));
+    assert!(format!("{service:?}").starts_with("Service { work_bytes: 64, answer_bytes: 10, limits: Limits { width: 64, terms: 65535 }, tally: Tally { jobs: 1,"));
 }
 
 /// The limit on answers is a limit on steps; it lends no more than there is.

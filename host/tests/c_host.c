@@ -83,6 +83,29 @@ static void repeats(void) {
     expect(all((const uint8_t *)&o.before, 0, sizeof o.before, POST) && all((const uint8_t *)o.behind, 0, sizeof o.behind, POST), "fences of the outcome");
 }
 
+/* The specimen has ten terms of width 1: every limit around these, and limits above the rack's. */
+static void limits(void) {
+    static const uint32_t widths[] = {0, 1, 2, BB_MAX_WIDTH, UINT32_MAX}, numbers[] = {0, 1, 2, 3, 9, 10, 11, BB_MAX_TERMS, UINT32_MAX};
+    for (size_t k = 0; k < 5 * 9; k++) {
+        uint32_t width = widths[k / 9], terms = numbers[k % 9], kept = terms < 2 ? 2 : terms;
+        uint8_t work[FENCE + 64 + FENCE], answers[FENCE + 10 + FENCE];
+        memset(work, POST, sizeof work);
+        memset(answers, POST, sizeof answers);
+        memset(work + FENCE, OLD, 64);
+        memset(answers + FENCE, OLD, 10);
+        BbOutcome o = bb_job_within(specimen, sizeof specimen, work + FENCE, 64, answers + FENCE, 10, width, terms);
+        uint32_t stop = width == 0 ? BB_STOP_NOT_SORTED : terms < 10 ? BB_STOP_NO_ROOM : BB_STOP_END;
+        expect(o.stop == stop, "stop code under limits");
+        expect(o.terms == (stop == BB_STOP_NOT_SORTED ? 2 : kept < 10 ? kept : 10) && o.repeats == 0, "terms under limits");
+        expect(o.answers == (stop == 0) && o.records == (stop == 0 ? 9 : o.terms - 2), "records and answers under limits");
+        expect(all(work, FENCE, FENCE + 64, 0), "work memory is zero under limits");
+        expect(all(work, 0, FENCE, POST) && all(work, FENCE + 64, sizeof work, POST), "fences of the work memory under limits");
+        size_t written = BB_ANSWER_BYTES * o.answers;
+        expect(memcmp(answers + FENCE, answer, written) == 0 && all(answers, FENCE + written, FENCE + 10, OLD), "the answers under limits");
+        expect(all(answers, 0, FENCE, POST) && all(answers, FENCE + 10, sizeof answers, POST), "fences of the answers under limits");
+    }
+}
+
 /* The specimen's ten terms need 80 bytes of values; its one Equals is term 9. A job that stops early is refused first. */
 static void sweep(void) {
     static const uint32_t numbers[] = {0, 1, 2, 8, 9, 10, 65545, UINT32_MAX};
@@ -237,6 +260,7 @@ int main(void) {
     every_length();
     stopped();
     repeats();
+    limits();
     sweep();
     sweep_that_differs();
     counts();

@@ -53,6 +53,18 @@ fn exit_statuses_of_check() {
     assert_eq!(status(&["check", "-"], b""), 1);
     assert_eq!(status(&["check", "--work", "63", &held], b""), 1);
     assert_eq!(status(&["check", "--answers", "9", &held], b""), 1);
+    for timeout in [&[][..], &["--timeout", "60"]] {
+        let under = |limits: &[&str]| bbhost(&[&["check"], timeout, limits, &[&held]].concat(), b"");
+        assert_eq!(under(&["--width", "1", "--terms", "10"]).status.code(), Some(0));
+        assert_eq!(under(&["--width", "4294967295", "--terms", "4294967295"]).status.code(), Some(0));
+        let narrow = under(&["--width", "0"]);
+        assert_eq!(narrow.status.code(), Some(1));
+        assert!(text(&narrow.stdout).contains("STOPPED at record 1 (code 7)"), "{}", text(&narrow.stdout));
+        let few = under(&["--terms", "9"]);
+        assert_eq!(few.status.code(), Some(1));
+        assert!(text(&few.stdout).contains("STOPPED at record 8 (code 8)"), "{}", text(&few.stdout));
+    }
+    assert_eq!(status(&["check", "--width", "-1", &held], b""), 2);
 
     let table = bbhost(&["check", &held, &refused, &cut], b"");
     let table = text(&table.stdout);
@@ -229,6 +241,7 @@ fn usage() {
         &["check", "--timeout", "soon", "-"],
         &["worker", "1"],
         &["worker", "1", "1", "1"],
+        &["worker", "1", "1", "1", "1", "1"],
         &["check", "--explain", "--json", "-"],
         &["check", "-q", "--explain", "-"],
         &["check", "-q", "--json", "-"],
@@ -408,12 +421,16 @@ fn compare_finds_differences() {
     let right = format!(
         "{right}sweep 9 80\nswept 0 4 0\nsweep 9 79\nswept 21 0 0\nsweep 8 0\nswept 20 0 0\n\
          count 7 80 2\ncounted 0 3 1\ncount 9 80 300\ncounted 0 0 4\ncount 7 80 1\ncounted 22\ncount 10 79 1\ncounted 20\n\
-         derive 7 80 4 0102\nderived 0 02\nderive 0 80 1 -\nderived 0 01\nderive 7 80 1 0103\nderived 23 -\nderive 10 79 0 -\nderived 20 -\n"
+         derive 7 80 4 0102\nderived 0 02\nderive 0 80 1 -\nderived 0 01\nderive 7 80 1 0103\nderived 23 -\nderive 10 79 0 -\nderived 20 -\n\
+         within 1 10\ncame 0 9 1 10 0 0800c800090000000200\nwithin 1 9\ncame 8 7 0 9 0 \nwithin 0 99\ncame 7 0 0 2 0 \n"
     );
     expect(&right);
     let output = bbhost(&arguments, b"");
     assert_eq!(output.status.code(), Some(0), "{}", text(&output.stdout));
-    assert!(text(&output.stdout).contains("11 questions about final stores; in all 2 jobs, 0 differences"));
+    assert!(
+        text(&output.stdout)
+            .contains("11 questions about final stores; 3 runs under stated limits; in all 2 jobs, 0 differences")
+    );
     for (from, to) in [
         ("terms 10", "terms 11"),
         ("0200\n", "0300\n"),
@@ -435,13 +452,20 @@ fn compare_finds_differences() {
         ("derived 0 02", "derived 0 0202"),
         ("derived 23", "derived 21"),
         ("derive 7 80 4 0102", "derive 7 80 4 0002"),
+        ("within 1 10", "within 1 9"),
+        ("within 1 10", "within 0 10"),
+        ("within 1 9", "within 1 10"),
+        ("within 0 99", "within 1 99"),
+        ("came 8 7", "came 8 8"),
+        ("came 7 0 0 2", "came 7 0 0 3"),
+        ("came 0 9 1 10 0 08", "came 0 9 1 10 0 09"),
     ] {
         expect(&right.replace(from, to));
         let output = bbhost(&arguments, b"");
         assert_eq!(output.status.code(), Some(1), "{from}");
         assert!(text(&output.stdout).contains("DIFFERS"), "{from}");
     }
-    assert!(fs::read_to_string(&counts).unwrap().starts_with("jobs 22\ndifferences 20\n"));
+    assert!(fs::read_to_string(&counts).unwrap().starts_with("jobs 29\ndifferences 27\n"));
     for unreadable in [
         "work many\n".to_owned(),
         format!("{right}swept 0 4 0\n"),
@@ -449,6 +473,8 @@ fn compare_finds_differences() {
         format!("{right}count 9 80\ncounted 0\n"),
         format!("{right}derive 7 80 4 012\nderived 0 02\n"),
         format!("{right}derive 7 80 4\nderived 23 -\n"),
+        format!("{right}within 1 1\ncame 0 0 0 0 \n"),
+        format!("{right}within 1\ncame 0 0 0 0 0 \n"),
     ] {
         expect(&unreadable);
         assert_eq!(status(&arguments, b""), 2, "{unreadable}");

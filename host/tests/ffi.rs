@@ -67,6 +67,7 @@ fn the_source_says_the_same() {
     source(&Path::new(env!("CARGO_MANIFEST_DIR")).join("../crates"), &mut text);
     for declared in [
         "#[no_mangle] pub extern \"C\" fn bb_job(job: &[u8], work: &mut [u8], answers: &mut [u8]) -> Outcome ",
+        "#[no_mangle] pub extern \"C\" fn bb_job_within( job: &[u8], work: &mut [u8], answers: &mut [u8], width_limit: u32, term_limit: u32, ) -> Outcome ",
         "#[no_mangle] pub extern \"C\" fn bb_sweep( job: &[u8], work: &mut [u8], answers: &mut [u8], values: &mut [u8], number: u32, ) -> Swept ",
         "#[no_mangle] pub extern \"C\" fn bb_count( job: &[u8], work: &mut [u8], answers: &mut [u8], values: &mut [u8], number: u32, counts: &mut [u32], ) -> Counted ",
         "#[no_mangle] pub extern \"C\" fn bb_known( job: &[u8], work: &mut [u8], answers: &mut [u8], values: &mut [u8], number: u32, inputs: &[u8], outputs: &mut [u8], ) -> Known ",
@@ -80,7 +81,7 @@ fn the_source_says_the_same() {
     ] {
         assert!(text.contains(declared), "crates/ has no `{declared}`: does src/ffi.rs still fit?");
     }
-    assert_eq!(text.matches("pub extern \"C\" fn").count(), 6, "src/ffi.rs declares six functions");
+    assert_eq!(text.matches("pub extern \"C\" fn").count(), 7, "src/ffi.rs declares seven functions");
 }
 
 /// Declarations here, the header and the linked library are of one interface.

@@ -1,7 +1,7 @@
 //! docs/FORMAT.md is true: records are written from its tables alone, right and wrong ones, and every job in hex on it is run.
 mod page;
 
-use bitblast_host::{Answers, Outcome, rng::Rng, run_job};
+use bitblast_host::{Answers, Limits, Outcome, rng::Rng, run_job, run_job_within};
 use page::{Row, page, table};
 use std::collections::{BTreeMap, HashMap};
 
@@ -496,11 +496,26 @@ fn whole_jobs(page: &str) -> usize {
     hex
 }
 
-/// Every run of bytes in hex on the page stands in one of these four tables.
+fn limit_examples(page: &str) -> usize {
+    let rows = table(page, &["under limits", "job", "width", "terms", "stop", "records", "kept"]);
+    for row in &rows {
+        let number = |column: &str| row[column].parse::<u32>().unwrap();
+        let run = |limits: Limits| run_job_within(&bytes(&row["job"]), &mut [0; 80], &mut [], limits);
+        let outcome = run(Limits { width: number("width"), terms: number("terms") });
+        let said = [number("stop"), number("records"), number("kept")];
+        assert_eq!([outcome.stop, outcome.records, outcome.terms], said, "{}", row["under limits"]);
+        // Under the rack's limits it runs to its end.
+        assert_eq!(run(Limits::RACK).stop, 0, "{}", row["under limits"]);
+    }
+    rows.len()
+}
+
+/// Every run of bytes in hex on the page stands in one of these five tables.
 #[test]
 fn every_example() {
     let page = page("FORMAT.md");
-    let run = kind_examples(&page) + stop_examples(&page) + answer_examples(&page) + whole_jobs(&page);
+    let codes = stop_examples(&page) + limit_examples(&page) + answer_examples(&page);
+    let run = kind_examples(&page) + codes + whole_jobs(&page);
     let is_byte = |byte: &str| byte.len() == 2 && byte.chars().all(|c| c.is_ascii_digit() || ('A'..='F').contains(&c));
     let is_hex = |text: &&str| text.split(' ').all(is_byte);
     assert_eq!(page.split('`').skip(1).step_by(2).filter(is_hex).count(), run);

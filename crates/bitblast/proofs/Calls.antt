@@ -2,6 +2,7 @@
 use mathlib.Core.Path.{_≡_, sym, subst, ap, _∙_}
 use Prim.Native.Nat.{ℕ}
 use lib.ListN.{length, replicate, length-replicate}
+use Rattle.theory.specs.Limit.{Limits}
 use Rattle.theory.specs.Record.{Bytes, AllBytes}
 use Rattle.theory.specs.Answer.{decode-answers}
 use Rattle.theory.specs.Job.{Returned, call}
@@ -17,27 +18,27 @@ use Rattle.bitblast.specs.Walking.{told}
 pub zeros : (old : Bytes) {mid after : Bytes} → Wiped mid after → length after ≡ length old → after ≡ replicate (length old) 0
 zeros old {mid} w l = w .all-zero ∙ ap (λ (n : ℕ). replicate n 0) (sym (length-replicate {A = ℕ} (length mid) 0) ∙ sym (ap length (w .all-zero)) ∙ l)
 
--- the three demands, of a job, the lengths lent, what is returned and the answers' memory
-abbrev Demanded : Bytes → ℕ → ℕ → Returned → Bytes → Type 0
-Demanded job work space r memory =
-    Stops job work space (r .stop) (r .records)
-    × (Demand2 job work space (decode-answers (r .answers) memory) × Demand3 job work space (r .records) (decode-answers (r .answers) memory))
+-- the three demands, of stated limits, a job, the lengths lent, what is returned and the answers' memory
+abbrev Demanded : Limits → Bytes → ℕ → ℕ → Returned → Bytes → Type 0
+Demanded limits job work space r memory =
+    Stops limits job work space (r .stop) (r .records)
+    × (Demand2 limits job work space (decode-answers (r .answers) memory) × Demand3 limits job work space (r .records) (decode-answers (r .answers) memory))
 
 -- the six promises of a call, of which the last three follow from the others
-pub called : (job work old : Bytes) → AllBytes job → (o : Told) {work′ answers′ : Bytes} → let c = call job work old in
+pub called : (limits : Limits) (job work old : Bytes) → AllBytes job → (o : Told) {work′ answers′ : Bytes} → let c = call limits job work old in
     told o ≡ c .result → answers′ ≡ c .answer-memory → work′ ≡ c .work-memory
-    → (told o ≡ c .result) × ((answers′ ≡ c .answer-memory) × ((work′ ≡ c .work-memory) × Demanded job (length work) (length old) (told o) answers′))
-called job work old b o {work′} {answers′} r a w =
-    let c = call job work old in
-    let d : Demanded job (length work) (length old) (c .result) (c .answer-memory) =
-    (demand-1 job (length work) (length old), (demand-2-call job work old b, demand-3-call job work old b)) in (
+    → (told o ≡ c .result) × ((answers′ ≡ c .answer-memory) × ((work′ ≡ c .work-memory) × Demanded limits job (length work) (length old) (told o) answers′))
+called limits job work old b o {work′} {answers′} r a w =
+    let c = call limits job work old in
+    let d : Demanded limits job (length work) (length old) (c .result) (c .answer-memory) =
+    (demand-1 limits job (length work) (length old), (demand-2-call limits job work old b, demand-3-call limits job work old b)) in (
       r,
       (
         a,
         (
           w,
-          subst (Demanded job (length work) (length old) (told o)) (sym a)
-              (subst (λ (x : Returned). Demanded job (length work) (length old) x (c .answer-memory)) (sym r) d),
+          subst (Demanded limits job (length work) (length old) (told o)) (sym a)
+              (subst (λ (x : Returned). Demanded limits job (length work) (length old) x (c .answer-memory)) (sym r) d),
         ),
       ),
     )

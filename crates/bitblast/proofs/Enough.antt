@@ -10,7 +10,7 @@ use lib.Dec.{leb, ltb}
 use lib.ListN.{length, take, drop, length-drop, length-take, length-append}
 use lib.Seq.{length-take-le}
 use borrow.Author.Tests.{le-leb}
-use Rattle.theory.specs.Limit.{max-job, max-terms, first-terms, term-bytes}
+use Rattle.theory.specs.Limit.{Limits, capped, max-job, first-terms, term-bytes}
 use Rattle.theory.specs.Term.{Term}
 use Rattle.theory.specs.Record.{Bytes, extent, whole, cut, records-of, ending, Item, term, step, chain, back, unknown, misfit, read}
 use Rattle.theory.specs.Plain.{Plain, entry, start, term-of, has, put, feed-item, feed, repeat-of}
@@ -37,18 +37,18 @@ few-cut (suc fuel) bs =
     next-few (whole bs) n (take n bs) (cut fuel (drop n bs)) (length bs) (λ w. let p = whole-parts bs w in (let a = p .low in omega arith, p .fit)) (omega arith)
 
 -- ---- one record
-room-same : (more less : ℕ) (list : Plain) → term-bytes * (suc (length list) - first-terms) ≤ less → less ≤ more → room less list ≡ room more list
-room-same more less list h k =
-    ap (λ (b : Bool). b && ltb (length list) max-terms) (le-leb (term-bytes * (suc (length list) - first-terms)) less h ∙ sym (le-leb (term-bytes * (suc (length list) - first-terms)) more (omega arith)))
+room-same : (limits : Limits) (more less : ℕ) (list : Plain) → term-bytes * (suc (length list) - first-terms) ≤ less → less ≤ more → room limits less list ≡ room limits more list
+room-same limits more less list h k =
+    ap (λ (b : Bool). b && ltb (length list) (limits .terms)) (le-leb (term-bytes * (suc (length list) - first-terms)) less h ∙ sym (le-leb (term-bytes * (suc (length list) - first-terms)) more (omega arith)))
 
-fault-same : (more less space : ℕ) (list : Plain) (n : ℕ) (r : Bytes) → room less list ≡ room more list → fault less space list n r ≡ fault more space list n r
+fault-same : (limits : Limits) (more less space : ℕ) (list : Plain) (n : ℕ) (r : Bytes) → room (capped limits) less list ≡ room (capped limits) more list → fault limits less space list n r ≡ fault limits more space list n r
 unfolding fault
-fault-same more less space list n r e = go (read r)
+fault-same limits more less space list n r e = go (read r)
   where
-    go : (i : Item) → first-fault (tests less space list n r i) ≡ first-fault (tests more space list n r i)
+    go : (i : Item) → first-fault (tests limits less space list n r i) ≡ first-fault (tests limits more space list n r i)
     go unknown = refl
     go misfit = refl
-    go (term o ks) = ap (λ (b : Bool). first-fault ((all-below (length list) ks, 6) ∷ (well-sorted (term-of list o ks), 7) ∷ (has list r || b, 8) ∷ [])) e
+    go (term o ks) = ap (λ (b : Bool). first-fault ((all-below (length list) ks, 6) ∷ (well-sorted (capped limits) (term-of list o ks), 7) ∷ (has list r || b, 8) ∷ [])) e
     go (step m ks) = refl
     go (chain m ps k) = refl
     go (back m) = refl
@@ -79,16 +79,16 @@ by-fault : (c : ℕ) {x y : Outcome} (f : ℕ → Outcome) → x ≡ y
 by-fault zero f e = e
 by-fault (suc code) f e = refl
 
-run-from-same : (more less space end : ℕ) → less ≤ more → (rs : List Bytes) (done repeats : ℕ) (earlier : Earlier) (list : Plain) (given : List Answer)
-    → term-bytes * (length list + length rs - first-terms) ≤ less → run-from less space end done repeats earlier list given rs ≡ run-from more space end done repeats earlier list given rs
+run-from-same : (limits : Limits) (more less space end : ℕ) → less ≤ more → (rs : List Bytes) (done repeats : ℕ) (earlier : Earlier) (list : Plain) (given : List Answer)
+    → term-bytes * (length list + length rs - first-terms) ≤ less → run-from limits less space end done repeats earlier list given rs ≡ run-from limits more space end done repeats earlier list given rs
 unfolding run-from
-run-from-same more less space end k [] done repeats earlier list given h = refl
-run-from-same more less space end k (r ∷ rs) done repeats earlier list given h =
+run-from-same limits more less space end k [] done repeats earlier list given h = refl
+run-from-same limits more less space end k (r ∷ rs) done repeats earlier list given h =
     let s = feed-short list r in
     let stop : ℕ → Outcome = λ code. outcome (suc code) done repeats given list in
-    ap (λ (c : ℕ). elim c as (λ w. Outcome) [ zero ↦ run-from less space end (suc done) (repeats + repeat-of list r) (recall earlier list r) (feed list r) (given ++ answers-to earlier list r) rs | suc code ↦ stop code ])
-    (fault-same more less space list (length given) r (room-same more less list (omega arith) k))
-    ∙ by-fault (fault more space list (length given) r) stop (run-from-same more less space end k rs (suc done) (repeats + repeat-of list r) (recall earlier list r) (feed list r) (given ++ answers-to earlier list r) (omega arith))
+    ap (λ (c : ℕ). elim c as (λ w. Outcome) [ zero ↦ run-from limits less space end (suc done) (repeats + repeat-of list r) (recall earlier list r) (feed list r) (given ++ answers-to earlier list r) rs | suc code ↦ stop code ])
+    (fault-same limits more less space list (length given) r (room-same (capped limits) more less list (omega arith) k))
+    ∙ by-fault (fault limits more space list (length given) r) stop (run-from-same limits more less space end k rs (suc done) (repeats + repeat-of list r) (recall earlier list r) (feed list r) (given ++ answers-to earlier list r) (omega arith))
 
 by-length : (b : Bool) {x y : Outcome} (z : Outcome) → x ≡ y
     → _≡_ {A = Outcome} (elim b as (λ w. Outcome) [ true ↦ x | false ↦ z ]) (elim b as (λ w. Outcome) [ true ↦ y | false ↦ z ])
@@ -96,16 +96,16 @@ by-length true z e = e
 by-length false z e = refl
 
 -- less is enough where it has four bytes for each of the job's
-run-same : (job : Bytes) (more less space : ℕ) → less ≤ more → 4 * length job ≤ less → run job less space ≡ run job more space
+run-same : (limits : Limits) (job : Bytes) (more less space : ℕ) → less ≤ more → 4 * length job ≤ less → run limits job less space ≡ run limits job more space
 unfolding run
-run-same job more less space k h =
+run-same limits job more less space k h =
     let f = few-cut (length job) job in
-    by-length (leb (length job) max-job) (outcome 2 0 0 [] start) (run-from-same more less space (ending job) k (records-of job) 0 0 [] start [] (omega arith))
+    by-length (leb (length job) max-job) (outcome 2 0 0 [] start) (run-from-same limits more less space (ending job) k (records-of job) 0 0 [] start [] (omega arith))
 
 -- the first bytes of a work memory, where they are enough
-pub run-enough : (job work : Bytes) (used space : ℕ) → Enough (length job) (length work) used → run job (length (take used work)) space ≡ run job (length work) space
-run-enough job work used space e = ap (λ (n : ℕ). run job n space) (length-take-le used work (e .within)) ∙ go (decLt used (length work))
+pub run-enough : (limits : Limits) (job work : Bytes) (used space : ℕ) → Enough (length job) (length work) used → run limits job (length (take used work)) space ≡ run limits job (length work) space
+run-enough limits job work used space e = ap (λ (n : ℕ). run limits job n space) (length-take-le used work (e .within)) ∙ go (decLt used (length work))
   where
-    go : Dec (used < length work) → run job used space ≡ run job (length work) space
-    go (yes h) = run-same job (length work) used space (e .within) (e .enough h)
-    go (no h) = let w = e .within in ap (λ (n : ℕ). run job n space) (let d : used ≡ length work = omega arith in d)
+    go : Dec (used < length work) → run limits job used space ≡ run limits job (length work) space
+    go (yes h) = run-same limits job (length work) used space (e .within) (e .enough h)
+    go (no h) = let w = e .within in ap (λ (n : ℕ). run limits job n space) (let d : used ≡ length work = omega arith in d)

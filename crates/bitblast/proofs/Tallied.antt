@@ -16,9 +16,9 @@ use Rattle.tally.specs.Counted.{whole-answers, answers-in}
 all-whole : (size count : ℕ) → answer-bytes * count ≤ size → whole-answers size count ≡ count
 all-whole size count h = let q : count ≤ size / answer-bytes = omega arith in omega arith
 
-pub counted : (l : Lent) → let c = call (l .job) (l .work) (l .answers) in answers-in (c .result .answers) (c .answer-memory) ≡ left-by l
+pub counted : (l : Lent) → let c = call (l .limits) (l .job) (l .work) (l .answers) in answers-in (c .result .answers) (c .answer-memory) ≡ left-by l
 counted l =
-    let c = call (l .job) (l .work) (l .answers) in
-    let k = answers-kept (l .job) (l .work) (l .answers) .0 in
-    let f = run-fits (l .job) (length (l .work)) (length (l .answers)) .answers-fit in
+    let c = call (l .limits) (l .job) (l .work) (l .answers) in
+    let k = answers-kept (l .limits) (l .job) (l .work) (l .answers) .0 in
+    let f = run-fits (l .limits) (l .job) (length (l .work)) (length (l .answers)) .answers-fit in
     ap (λ (n : ℕ). decode-answers n (c .answer-memory)) (all-whole (length (c .answer-memory)) (c .result .answers) (omega arith))

@@ -10,7 +10,7 @@ use lib.Dec.{leb}
 use lib.ListN.{length, take, drop, replicate, length-drop, length-append, length-map, length-replicate}
 use lib.Seq.{drop-drop, length-take-le}
 use borrow.Author.Tests.{le-leb, lt-leb}
-use Rattle.theory.specs.Limit.{first-terms, max-job, answer-bytes}
+use Rattle.theory.specs.Limit.{Limits, first-terms, max-job, answer-bytes}
 use Rattle.theory.specs.Record.{Bytes, extent, whole, records-of, total-length, ending, Item, term, step, chain, back, unknown, misfit, read}
 use Rattle.theory.specs.Plain.{Plain, start, feed, plain-after, has, repeat-item, repeat-of}
 use Rattle.theory.specs.Codes.{fault}
@@ -52,47 +52,47 @@ one-repeat : (list : Plain) (r : Bytes) → repeat-of list r ≤ 1
 unfolding repeat-of
 one-repeat list r = one-item list r (read r)
 
-pub turn-repeats : {job work answers work′ answers′ : Bytes} {rows answered at : ℕ} {t : Turn} → Turned job work answers rows answered at work′ answers′ t → t .repeats ≤ 1
-turn-repeats {job} {work} {answers} {work′} {answers′} {rows} {answered} {at} {t} h = subst (λ (n : ℕ). n ≤ 1) (sym (h .repeats-is)) (go (t .code))
+pub turn-repeats : {limits : Limits} {job work answers work′ answers′ : Bytes} {rows answered at : ℕ} {t : Turn} → Turned limits job work answers rows answered at work′ answers′ t → t .repeats ≤ 1
+turn-repeats {limits} {job} {work} {answers} {work′} {answers′} {rows} {answered} {at} {t} h = subst (λ (n : ℕ). n ≤ 1) (sym (h .repeats-is)) (go (t .code))
   where
     go : (c : ℕ) → passed c (repeat-of (listed job work rows) (record-at job at)) 0 ≤ 1
     go zero = one-repeat (listed job work rows) (record-at job at)
     go (suc c) = omega arith
 
 -- ---- the run, record by record
-module _ (work space end done repeats : ℕ) (earlier : Earlier) (list : Plain) (answers : List Answer) where
+module _ (limits : Limits) (work space end done repeats : ℕ) (earlier : Earlier) (list : Plain) (answers : List Answer) where
   -- what it comes to with one more record, by the record's code
   abbrev by-code : Bytes → List Bytes → ℕ → Outcome
   by-code r rs f =
       elim f as (λ z. Outcome) [
-        | zero ↦ run-from work space end (suc done) (repeats + repeat-of list r) (recall earlier list r) (feed list r) (answers ++ answers-to earlier list r) rs
+        | zero ↦ run-from limits work space end (suc done) (repeats + repeat-of list r) (recall earlier list r) (feed list r) (answers ++ answers-to earlier list r) rs
         | suc code ↦ outcome (suc code) done repeats answers list
       ]
 
   -- one more record
-  run-record : (r : Bytes) (rs : List Bytes) {f : ℕ} → fault work space list (length answers) r ≡ f
-      → run-from work space end done repeats earlier list answers (r ∷ rs) ≡ by-code r rs f
+  run-record : (r : Bytes) (rs : List Bytes) {f : ℕ} → fault limits work space list (length answers) r ≡ f
+      → run-from limits work space end done repeats earlier list answers (r ∷ rs) ≡ by-code r rs f
   unfolding run-from
   run-record r rs e = ap (by-code r rs) e
 
   -- no record is left
-  run-ends : {rs : List Bytes} → rs ≡ [] → run-from work space end done repeats earlier list answers rs ≡ outcome end done repeats answers list
+  run-ends : {rs : List Bytes} → rs ≡ [] → run-from limits work space end done repeats earlier list answers rs ≡ outcome end done repeats answers list
   unfolding run-from
-  run-ends e = ap (run-from work space end done repeats earlier list answers) e
+  run-ends e = ap (run-from limits work space end done repeats earlier list answers) e
 
 -- the run, by the test of the job's length
-module _ (job : Bytes) (work space : ℕ) where
+module _ (limits : Limits) (job : Bytes) (work space : ℕ) where
   by-length : {b : Bool} → leb (length job) max-job ≡ b
-      → run job work space ≡ elim b as (λ z. Outcome) [ true ↦ run-from work space (ending job) 0 0 [] start [] (records-of job) | false ↦ outcome 2 0 0 [] start ]
+      → run limits job work space ≡ elim b as (λ z. Outcome) [ true ↦ run-from limits work space (ending job) 0 0 [] start [] (records-of job) | false ↦ outcome 2 0 0 [] start ]
   unfolding run
-  by-length e = ap (λ (b : Bool). elim b as (λ z. Outcome) [ true ↦ run-from work space (ending job) 0 0 [] start [] (records-of job) | false ↦ outcome 2 0 0 [] start ]) e
+  by-length e = ap (λ (b : Bool). elim b as (λ z. Outcome) [ true ↦ run-from limits work space (ending job) 0 0 [] start [] (records-of job) | false ↦ outcome 2 0 0 [] start ]) e
 
   -- a job that is not too long
-  run-short : length job ≤ max-job → run job work space ≡ run-from work space (ending job) 0 0 [] start [] (records-of job)
+  run-short : length job ≤ max-job → run limits job work space ≡ run-from limits work space (ending job) 0 0 [] start [] (records-of job)
   run-short h = by-length (le-leb (length job) max-job h)
 
   -- a job that is too long
-  pub run-long : max-job < length job → run job work space ≡ outcome 2 0 0 [] start
+  pub run-long : max-job < length job → run limits job work space ≡ outcome 2 0 0 [] start
   run-long h = by-length (lt-leb (length job) max-job h)
 
 -- ---- the records done
@@ -151,22 +151,22 @@ pub record Holding (job : Bytes) (size : ℕ) (old work answers : Bytes) (s : St
   pub rarer : s .repeats ≤ s .records
 
 -- the run goes on from here with the records that are left, and those before are the bytes before
-pub record Between (job : Bytes) (size : ℕ) (old work answers : Bytes) (s : State) : Type 0 where
+pub record Between (limits : Limits) (job : Bytes) (size : ℕ) (old work answers : Bytes) (s : State) : Type 0 where
   pub given : List Note
   pub holding : Holding job size old work answers s given
   pub tracks : Tracks (s .at) (origins work (s .rows)) (marks-in job answers (s .answers)) (earlier-in job work answers (s .rows) (s .answers)) (listed job work (s .rows))
   pub done : Done job size work (s .at) (s .records) (s .rows)
   pub left : drop (s .records) (records-of job) ≡ records-of (drop (s .at) job)
   pub before : total-length (records-of job) ≡ s .at + total-length (records-of (drop (s .at) job))
-  pub leads : run job size (length old)
-      ≡ run-from size (length old) (ending job) (s .records) (s .repeats) (earlier-in job work answers (s .rows) (s .answers)) (listed job work (s .rows)) (answers-of given) (records-of (drop (s .at) job))
+  pub leads : run limits job size (length old)
+      ≡ run-from limits size (length old) (ending job) (s .records) (s .repeats) (earlier-in job work answers (s .rows) (s .answers)) (listed job work (s .rows)) (answers-of given) (records-of (drop (s .at) job))
 
 -- the run ends here
-pub record Stopped (job : Bytes) (size : ℕ) (old work answers : Bytes) (s : State) : Type 0 where
+pub record Stopped (limits : Limits) (job : Bytes) (size : ℕ) (old work answers : Bytes) (s : State) : Type 0 where
   pub given : List Note
   pub holding : Holding job size old work answers s given
   pub done : Done job size work (s .at) (s .records) (s .rows)
-  pub ended : run job size (length old) ≡ outcome (s .stop) (s .records) (s .repeats) (answers-of given) (listed job work (s .rows))
+  pub ended : run limits job size (length old) ≡ outcome (s .stop) (s .records) (s .repeats) (answers-of given) (listed job work (s .rows))
 
 -- before the first record no step is there, and `true` and `false` are the only terms
 none-earlier : (job work answers : Bytes) → earlier-in job work answers 0 0 ≡ []
@@ -183,8 +183,8 @@ unfolding memory-run
 start-memory job work e = e ∙ ap (λ (n : ℕ). replicate n 0) (sym (ap length e ∙ length-replicate {A = ℕ} (length work) 0))
 
 -- at the first record
-pub begins : {job work after : Bytes} (old : Bytes) → length job ≤ max-job → Started job work after → Between job (length after) old after old (state 0 0 0 0 0 0)
-begins {job} {work} {after} old h s = record {
+pub begins : (limits : Limits) {job work after : Bytes} (old : Bytes) → length job ≤ max-job → Started job work after → Between limits job (length after) old after old (state 0 0 0 0 0 0)
+begins limits {job} {work} {after} old h s = record {
   given = [];
   tracks = start-tracks old h s;
   holding = record {
@@ -207,12 +207,12 @@ begins {job} {work} {after} old h s = record {
   };
   left = refl;
   before = omega arith;
-  leads = run-short job (length after) (length old) h
-      ∙ ap₂ (λ (earlier : Earlier) (list : Plain). run-from (length after) (length old) (ending job) 0 0 earlier list [] (records-of job)) (sym (none-earlier job after old)) (sym (s .listed-is));
+  leads = run-short limits job (length after) (length old) h
+      ∙ ap₂ (λ (earlier : Earlier) (list : Plain). run-from limits (length after) (length old) (ending job) 0 0 earlier list [] (records-of job)) (sym (none-earlier job after old)) (sym (s .listed-is));
 }
 
 -- what the next record may take for granted
-pub standing : {job old work answers : Bytes} {size : ℕ} {s : State} → Between job size old work answers s → Standing job work answers s
+pub standing : {limits : Limits} {job old work answers : Bytes} {size : ℕ} {s : State} → Between limits job size old work answers s → Standing job work answers s
 standing b =
     let h = b .holding in
     let l = h .same-answers in
@@ -220,15 +220,15 @@ standing b =
     record { noted = record { store = h .store; roomy = omega arith; places = h .places }; counted = h .few; repeated = h .rarer }
 
 -- no record is left: the run ends with the ending's code
-last : {job old work answers : Bytes} {size : ℕ} {s : State} (b : Between job size old work answers s) → records-of (drop (s .at) job) ≡ [] → {c : ℕ} → ending job ≡ c
-    → run job size (length old) ≡ outcome c (s .records) (s .repeats) (answers-of (b .given)) (listed job work (s .rows))
-last {job} {old} {work} {answers} {size} {s} b none e =
-    b .leads ∙ run-ends size (length old) (ending job) (s .records) (s .repeats) (earlier-in job work answers (s .rows) (s .answers)) (listed job work (s .rows)) (answers-of (b .given)) none
+last : {limits : Limits} {job old work answers : Bytes} {size : ℕ} {s : State} (b : Between limits job size old work answers s) → records-of (drop (s .at) job) ≡ [] → {c : ℕ} → ending job ≡ c
+    → run limits job size (length old) ≡ outcome c (s .records) (s .repeats) (answers-of (b .given)) (listed job work (s .rows))
+last {limits} {job} {old} {work} {answers} {size} {s} b none e =
+    b .leads ∙ run-ends limits size (length old) (ending job) (s .records) (s .repeats) (earlier-in job work answers (s .rows) (s .answers)) (listed job work (s .rows)) (answers-of (b .given)) none
     ∙ ap (λ (x : ℕ). outcome x (s .records) (s .repeats) (answers-of (b .given)) (listed job work (s .rows))) e
 
 -- the job ends where nothing is left
-pub ends : {job old work answers : Bytes} {size : ℕ} {s : State} → Between job size old work answers s → s .stop ≡ 0 → length job ≤ s .at → Stopped job size old work answers s
-ends {job} {old} {work} {answers} {size} {s} b z h =
+pub ends : {limits : Limits} {job old work answers : Bytes} {size : ℕ} {s : State} → Between limits job size old work answers s → s .stop ≡ 0 → length job ≤ s .at → Stopped limits job size old work answers s
+ends {limits} {job} {old} {work} {answers} {size} {s} b z h =
     let w = b .holding .within in
     let l = length-drop (s .at) job in
     let none : records-of (drop (s .at) job) ≡ [] = records-broken (drop (s .at) job) (none-left (drop (s .at) job) (omega arith)) in
@@ -236,8 +236,8 @@ ends {job} {old} {work} {answers} {size} {s} b z h =
     record { given = b .given; holding = b .holding; done = b .done; ended = last b none (ends-whole job total ∙ sym z) }
 
 -- what the host is told of a job that stopped
-pub walked : {job old work answers : Bytes} {size : ℕ} {s : State} → length job ≤ max-job → Stopped job size old work answers s → {given-size : ℕ} → size ≡ given-size → Walked job given-size old work answers s
-walked {job} {old} {work} {answers} {size} {s} short t {given-size} same =
+pub walked : {limits : Limits} {job old work answers : Bytes} {size : ℕ} {s : State} → length job ≤ max-job → Stopped limits job size old work answers s → {given-size : ℕ} → size ≡ given-size → Walked limits job given-size old work answers s
+walked {limits} {job} {old} {work} {answers} {size} {s} short t {given-size} same =
     let h = t .holding in
     let c = h .counted in
     let n = h .store .count in
@@ -249,7 +249,7 @@ walked {job} {old} {work} {answers} {size} {s} short t {given-size} same =
     let m : length (answers-of (t .given)) ≡ length (t .given) = length-map (t .given) (λ (x : Note). x .1) in
     let y = h .roomy in
     let z = h .same-answers in
-    let e : run job given-size (length old) ≡ outcome (s .stop) (s .records) (s .repeats) (answers-of (t .given)) (listed job work (s .rows)) = ap (λ (m : ℕ). run job m (length old)) (sym same) ∙ t .ended in
+    let e : run limits job given-size (length old) ≡ outcome (s .stop) (s .records) (s .repeats) (answers-of (t .given)) (listed job work (s .rows)) = ap (λ (m : ℕ). run limits job m (length old)) (sym same) ∙ t .ended in
     let terms : s .rows + first-terms ≡ length (listed job work (s .rows)) = omega arith in
     record {
       result-is = ap₂ (λ (x y : ℕ). told-of x y) (c ∙ sym m) terms ∙ ap returned (sym e);
@@ -269,18 +269,18 @@ walked {job} {old} {work} {answers} {size} {s} short t {given-size} same =
     told-of x y = record { stop = s .stop; records = s .records; answers = x; terms = y; repeats = s .repeats }
 
 -- ---- the work memory that a job leaves, by the test of its length
-module _ (job work : Bytes) (space : ℕ) where
-  by-test : {b : Bool} → leb (length job) max-job ≡ b → cond b (memory-run job (length work) (run job (length work) space .records)) work ≡ memory-left job work space
+module _ (limits : Limits) (job work : Bytes) (space : ℕ) where
+  by-test : {b : Bool} → leb (length job) max-job ≡ b → cond b (memory-run job (length work) (run limits job (length work) space .records)) work ≡ memory-left limits job work space
   unfolding memory-left
-  by-test e = sym (ap (λ (x : Bool). cond x (memory-run job (length work) (run job (length work) space .records)) work) e)
+  by-test e = sym (ap (λ (x : Bool). cond x (memory-run job (length work) (run limits job (length work) space .records)) work) e)
 
   -- a job that is too long
-  pub left-long : max-job < length job → work ≡ memory-left job work space
+  pub left-long : max-job < length job → work ≡ memory-left limits job work space
   left-long h = by-test (lt-leb (length job) max-job h)
 
   -- a job that is read
-  pub left-short : length job ≤ max-job → {work′ : Bytes} {m : ℕ} → work′ ≡ memory-run job (length work) m → m ≡ run job (length work) space .records
-      → work′ ≡ memory-left job work space
+  pub left-short : length job ≤ max-job → {work′ : Bytes} {m : ℕ} → work′ ≡ memory-run job (length work) m → m ≡ run limits job (length work) space .records
+      → work′ ≡ memory-left limits job work space
   left-short h e k = e ∙ ap (memory-run job (length work)) k ∙ by-test (le-leb (length job) max-job h)
 
 -- ---- one record: the state after it, by the code
@@ -298,17 +298,17 @@ module _ (size : ℕ) (s : State) (t : Turn) where
       go zero k = absurd (k refl)
       go (suc c) k = refl
 
-module _ {job old work answers : Bytes} {size : ℕ} {s : State} (b : Between job size old work answers s) (more : s .at < length job) (work′ answers′ : Bytes)
+module _ {limits : Limits} {job old work answers : Bytes} {size : ℕ} {s : State} (b : Between limits job size old work answers s) (more : s .at < length job) (work′ answers′ : Bytes)
     (lw : length work′ ≡ length work) (la : length answers′ ≡ length answers) where
   -- no whole record: code 3
   broke : whole (drop (s .at) job) ≡ false → work′ ≡ work → answers′ ≡ answers
-      → Stopped job size old work′ answers′ (state (s .at) 3 (s .records) (s .answers) (s .rows) (s .repeats))
+      → Stopped limits job size old work′ answers′ (state (s .at) 3 (s .records) (s .answers) (s .rows) (s .repeats))
   broke w p q =
       let h = b .holding in
       let none : records-of (drop (s .at) job) ≡ [] = records-broken (drop (s .at) job) w in
       let total : total-length (records-of job) ≡ s .at + 0 = b .before ∙ ap (λ (rs : List Bytes). s .at + total-length rs) none in
-      subst (λ (x : Bytes). Stopped job size old x answers′ (state (s .at) 3 (s .records) (s .answers) (s .rows) (s .repeats))) (sym p)
-      (subst (λ (x : Bytes). Stopped job size old work x (state (s .at) 3 (s .records) (s .answers) (s .rows) (s .repeats))) (sym q) (record {
+      subst (λ (x : Bytes). Stopped limits job size old x answers′ (state (s .at) 3 (s .records) (s .answers) (s .rows) (s .repeats))) (sym p)
+      (subst (λ (x : Bytes). Stopped limits job size old work x (state (s .at) 3 (s .records) (s .answers) (s .rows) (s .repeats))) (sym q) (record {
         given = b .given;
         holding = record {
           store = h .store;
@@ -343,21 +343,21 @@ module _ {job old work answers : Bytes} {size : ℕ} {s : State} (b : Between jo
   abbrev left : List Bytes
   left = records-of (drop n (drop (s .at) job))
 
-  module _ (w : whole (drop (s .at) job) ≡ true) (t : Turn) (turned : Turned job work answers (s .rows) (s .answers) (s .at) work′ answers′ t) where
+  module _ (w : whole (drop (s .at) job) ≡ true) (t : Turn) (turned : Turned limits job work answers (s .rows) (s .answers) (s .at) work′ answers′ t) where
     -- it is the run's next record
-    here : run job size (length old) ≡ run-from size (length old) (ending job) (s .records) (s .repeats) E list (answers-of (b .given)) (r ∷ left)
-    here = b .leads ∙ ap (run-from size (length old) (ending job) (s .records) (s .repeats) E list (answers-of (b .given))) (records-whole (drop (s .at) job) w)
+    here : run limits job size (length old) ≡ run-from limits size (length old) (ending job) (s .records) (s .repeats) E list (answers-of (b .given)) (r ∷ left)
+    here = b .leads ∙ ap (run-from limits size (length old) (ending job) (s .records) (s .repeats) E list (answers-of (b .given))) (records-whole (drop (s .at) job) w)
 
     -- as many answers as the code counts
     counts : s .answers ≡ length (answers-of (b .given))
     counts = b .holding .counted ∙ sym (length-map (b .given) (λ (x : Note). x .1))
 
     -- its code
-    test : fault size (length old) list (length (answers-of (b .given))) r ≡ t .code
+    test : fault limits size (length old) list (length (answers-of (b .given))) r ≡ t .code
     test =
         let h = b .holding in
-        sym (turned .code-is ∙ ap (λ (k : ℕ). fault (length work) (length answers) list k r) counts
-        ∙ ap₂ (λ (x y : ℕ). fault x y list (length (answers-of (b .given))) r) (h .same-work) (h .same-answers))
+        sym (turned .code-is ∙ ap (λ (k : ℕ). fault limits (length work) (length answers) list k r) counts
+        ∙ ap₂ (λ (x y : ℕ). fault limits x y list (length (answers-of (b .given))) r) (h .same-work) (h .same-answers))
 
     -- the answers after it, where the code is c
     module _ (c : ℕ) (e : t .code ≡ c) where
@@ -436,7 +436,7 @@ module _ {job old work answers : Bytes} {size : ℕ} {s : State} (b : Between jo
         let few = h .store .table .slots .rows .few in
         let c = h .store .count in
         let f = test ∙ e in
-        let small = new-small size (length old) E list (length (answers-of (b .given))) r f (h .store .well) (omega arith) in
+        let small = new-small limits size (length old) E list (length (answers-of (b .given))) r f (h .store .well) (omega arith) in
         let os : origins-item (origins work (s .rows)) list (s .at) r (read r) ≡ origins work′ (t .rows)
         = sym (turned .origins-are ∙ ap (λ (x : ℕ). passed x (origins-item (origins work (s .rows)) list (s .at) r (read r)) (origins work (s .rows))) e) in
         let ms : marks-item (marks-in job answers (s .answers)) (s .at) (read r) (answers-to E list r) ≡ marks-in job answers′ (t .answers)
@@ -444,13 +444,13 @@ module _ {job old work answers : Bytes} {size : ℕ} {s : State} (b : Between jo
         let ls : feed list r ≡ listed job work′ (t .rows) = sym (turned .listed-is ∙ ap (λ (x : ℕ). passed x (feed list r) list) e) in
         subst (λ (l : Plain). Tracks (s .at + n) (origins work′ (t .rows)) (marks-in job answers′ (t .answers)) (recall E list r) l) ls
         (subst₂ (λ (o : List ℕ) (m : List Mark). Tracks (s .at + n) o m (recall E list r) (feed list r)) os ms
-        (tracks-next size (length old) (length (answers-of (b .given))) (s .at) (s .at + n) r (origins work (s .rows)) (marks-in job answers (s .answers)) E list (b .tracks) (omega arith) f))
+        (tracks-next limits size (length old) (length (answers-of (b .given))) (s .at) (s .at + n) r (origins work (s .rows)) (marks-in job answers (s .answers)) E list (b .tracks) (omega arith) f))
 
     -- the repeats that it adds
     counted-repeats : t .code ≡ 0 → t .repeats ≡ repeat-of list r
     counted-repeats e = turned .repeats-is ∙ ap (λ (x : ℕ). passed x (repeat-of list r) 0) e
 
-    took : t .code ≡ 0 → Between job size old work′ answers′ (state (s .at + n) 0 (s .records + 1) (t .answers) (t .rows) (s .repeats + t .repeats))
+    took : t .code ≡ 0 → Between limits job size old work′ answers′ (state (s .at + n) 0 (s .records + 1) (t .answers) (t .rows) (s .repeats + t .repeats))
     took e =
         let h = b .holding in
         let st = stands job (s .at) w in
@@ -475,21 +475,21 @@ module _ {job old work answers : Bytes} {size : ℕ} {s : State} (b : Between jo
           left = left-more (b .done) (h .store .count) next-left ∙ ap records-of d;
           before = b .before ∙ ap (λ (rs : List Bytes). s .at + total-length rs) (records-whole (drop (s .at) job) w)
               ∙ ap (λ (m : ℕ). s .at + (m + total-length left)) len ∙ ap (λ (bs : Bytes). s .at + (n + total-length (records-of bs))) d ∙ omega arith;
-          leads = here ∙ run-record size (length old) (ending job) (s .records) (s .repeats) E list (answers-of (b .given)) r left (test ∙ e)
-              ∙ ap₂ (λ (x : Earlier) (l : Plain). run-from size (length old) (ending job) (suc (s .records)) (s .repeats + repeat-of list r) x l (answers-of (b .given) ++ answers-to E list r) left)
+          leads = here ∙ run-record limits size (length old) (ending job) (s .records) (s .repeats) E list (answers-of (b .given)) r left (test ∙ e)
+              ∙ ap₂ (λ (x : Earlier) (l : Plain). run-from limits size (length old) (ending job) (suc (s .records)) (s .repeats + repeat-of list r) x l (answers-of (b .given) ++ answers-to E list r) left)
               (tracked e .is) (sym (turned .listed-is ∙ ap (λ (x : ℕ). passed x (feed list r) list) e))
-              ∙ ap (λ (xs : List Answer). run-from size (length old) (ending job) (suc (s .records)) (s .repeats + repeat-of list r) (earlier-in job work′ answers′ (t .rows) (t .answers)) (listed job work′ (t .rows)) xs left)
+              ∙ ap (λ (xs : List Answer). run-from limits size (length old) (ending job) (suc (s .records)) (s .repeats + repeat-of list r) (earlier-in job work′ answers′ (t .rows) (t .answers)) (listed job work′ (t .rows)) xs left)
               (sym (answers-more (b .given) (s .at) (answers-to E list r)))
-              ∙ ap₂ (λ (m : ℕ) (bs : Bytes). run-from size (length old) (ending job) m (s .repeats + repeat-of list r) (earlier-in job work′ answers′ (t .rows) (t .answers)) (listed job work′ (t .rows))
+              ∙ ap₂ (λ (m : ℕ) (bs : Bytes). run-from limits size (length old) (ending job) m (s .repeats + repeat-of list r) (earlier-in job work′ answers′ (t .rows) (t .answers)) (listed job work′ (t .rows))
               (answers-of (b .given ++ at-record (s .at) (answers-to E list r))) (records-of bs))
               (sym (add-one (s .records))) d
-              ∙ ap (λ (i : ℕ). run-from size (length old) (ending job) (s .records + 1) (s .repeats + i) (earlier-in job work′ answers′ (t .rows) (t .answers)) (listed job work′ (t .rows))
+              ∙ ap (λ (i : ℕ). run-from limits size (length old) (ending job) (s .records + 1) (s .repeats + i) (earlier-in job work′ answers′ (t .rows) (t .answers)) (listed job work′ (t .rows))
               (answers-of (b .given ++ at-record (s .at) (answers-to E list r))) (records-of (drop (s .at + n) job)))
               (sym (counted-repeats e));
         }
 
     -- a code: the run stops at the record
-    halted : (c : ℕ) → t .code ≡ suc c → Stopped job size old work′ answers′ (state (s .at) (suc c) (s .records) (t .answers) (t .rows) (s .repeats))
+    halted : (c : ℕ) → t .code ≡ suc c → Stopped limits job size old work′ answers′ (state (s .at) (suc c) (s .records) (t .answers) (t .rows) (s .repeats))
     halted c e =
         let h = b .holding in
         let o = h .fewer in
@@ -502,16 +502,16 @@ module _ {job old work answers : Bytes} {size : ℕ} {s : State} (b : Between jo
             listed-is = turned .listed-is ∙ ap (λ (x : ℕ). passed x (feed list r) list) e ∙ b .done .listed-is;
             memory-is = turned .memory-is ∙ ap (λ (x : ℕ). passed x (memory-at job work (s .rows) (s .at)) work) e ∙ b .done .memory-is;
           };
-          ended = here ∙ run-record size (length old) (ending job) (s .records) (s .repeats) E list (answers-of (b .given)) r left (test ∙ e)
+          ended = here ∙ run-record limits size (length old) (ending job) (s .records) (s .repeats) E list (answers-of (b .given)) r left (test ∙ e)
               ∙ ap₂ (outcome (suc c) (s .records) (s .repeats)) (ap answers-of (sym (append-nil (b .given)))) (sym (turned .listed-is ∙ ap (λ (x : ℕ). passed x (feed list r) list) e));
         }
 
   -- the next state: it has no code and stands further on, between two records, or it has one and the run ends there
   abbrev After : State → Type 0
-  After s′ = ((s′ .stop ≡ 0) × (Between job size old work′ answers′ s′ × (s .at < s′ .at))) ⊎ ((s′ .stop ≡ 0 → ⊥) × Stopped job size old work′ answers′ s′)
+  After s′ = ((s′ .stop ≡ 0) × (Between limits job size old work′ answers′ s′ × (s .at < s′ .at))) ⊎ ((s′ .stop ≡ 0 → ⊥) × Stopped limits job size old work′ answers′ s′)
 
   -- each way that a record can take
-  after : {s′ : State} → Next job work answers s work′ answers′ s′ → After s′
+  after : {s′ : State} → Next limits job work answers s work′ answers′ s′ → After s′
   after (broken w p q e) = subst After (sym e) (inr (λ z. omega arith, broke w p q))
   after (taken w t turned e) = subst After (sym e) (go (t .code) refl)
     where
@@ -521,9 +521,9 @@ module _ {job old work answers : Bytes} {size : ℕ} {s : State} (b : Between jo
       go (suc c) f = inr (λ z. omega arith, halted w t turned c f)
 
   -- the loop goes on
-  pub goes : {s′ : State} → Next job work answers s work′ answers′ s′ → s′ .stop ≡ 0 → Between job size old work′ answers′ s′ × (s .at < s′ .at)
+  pub goes : {s′ : State} → Next limits job work answers s work′ answers′ s′ → s′ .stop ≡ 0 → Between limits job size old work′ answers′ s′ × (s .at < s′ .at)
   goes x z = ⊎-elim (λ p. p .1) (λ p. absurd (p .0 z)) (after x)
 
   -- the loop stops
-  pub stops : {s′ : State} → Next job work answers s work′ answers′ s′ → (s′ .stop ≡ 0 → ⊥) → Stopped job size old work′ answers′ s′
+  pub stops : {s′ : State} → Next limits job work answers s work′ answers′ s′ → (s′ .stop ≡ 0 → ⊥) → Stopped limits job size old work′ answers′ s′
   stops x f = ⊎-elim (λ p. absurd (f (p .0))) (λ p. p .1) (after x)

@@ -4,7 +4,7 @@ use mathlib.Core.Bool.{true, false, cond}
 use Prim.Native.Nat.{ℕ, zero, suc, _+_, _-_, _*_, _≤_, _<_}
 use lib.Dec.{leb}
 use lib.ListN.{length, take, drop, replicate}
-use Rattle.theory.specs.Limit.{first-terms, max-terms, max-job, answer-bytes}
+use Rattle.theory.specs.Limit.{Limits, first-terms, max-terms, max-job, answer-bytes}
 use Rattle.theory.specs.Record.{Bytes, extent, whole, records-of, total-length}
 use Rattle.theory.specs.Plain.{plain-after}
 use Rattle.theory.specs.Job.{Returned, returned, run, answers-after}
@@ -44,11 +44,11 @@ moved size s t =
     (state (s .at) (t .code) (s .records) (t .answers) (t .rows) (s .repeats))
 
 -- no whole record was there, so code 3 stops the job; or one was there, and it was taken
-pub data Next (job work answers : Bytes) (s : State) (work′ answers′ : Bytes) (s′ : State) : Type 0 where
+pub data Next (limits : Limits) (job work answers : Bytes) (s : State) (work′ answers′ : Bytes) (s′ : State) : Type 0 where
   broken : whole (drop (s .at) job) ≡ false → work′ ≡ work → answers′ ≡ answers → s′ ≡ state (s .at) (frame-code Broken) (s .records) (s .answers) (s .rows) (s .repeats)
-      → Next job work answers s work′ answers′ s′
-  taken : whole (drop (s .at) job) ≡ true → (t : Turn) → Turned job work answers (s .rows) (s .answers) (s .at) work′ answers′ t
-      → s′ ≡ moved (extent (drop (s .at) job)) s t → Next job work answers s work′ answers′ s′
+      → Next limits job work answers s work′ answers′ s′
+  taken : whole (drop (s .at) job) ≡ true → (t : Turn) → Turned limits job work answers (s .rows) (s .answers) (s .at) work′ answers′ t
+      → s′ ≡ moved (extent (drop (s .at) job)) s t → Next limits job work answers s work′ answers′ s′
 
 -- so many bytes of work memory are used of a job: all, or four for each byte of the job, which is more than its records can fill
 pub record Enough (job work used : ℕ) : Type 0 where
@@ -63,18 +63,19 @@ memory-run job size (suc m) =
     memory-at job (memory-run job size m) (length (plain-after m job) - first-terms) (total-length (take m (records-of job)))
 
 -- as a job leaves it: untouched where the job is too long to be read, else as the records done leave it
-unfoldable pub memory-left : Bytes → Bytes → ℕ → Bytes
-memory-left job work space = cond (leb (length job) max-job) (memory-run job (length work) (run job (length work) space .records)) work
+unfoldable pub memory-left : Limits → Bytes → Bytes → ℕ → Bytes
+memory-left limits job work space =
+    cond (leb (length job) max-job) (memory-run job (length work) (run limits job (length work) space .records)) work
 
 -- ---- the whole job
 -- what the host is to be told of it, and the answers' memory once its answers have their length and kind; where the records done end, the work
 -- memory after them, and the terms that are kept then; the numbers fit into 32 bits
-pub record Walked (job : Bytes) (size : ℕ) (old work answers : Bytes) (s : State) : Type 0 where
-  pub result-is : reached s ≡ returned (run job size (length old))
+pub record Walked (limits : Limits) (job : Bytes) (size : ℕ) (old work answers : Bytes) (s : State) : Type 0 where
+  pub result-is : reached s ≡ returned (run limits job size (length old))
   pub at-is : s .at ≡ total-length (take (s .records) (records-of job))
   pub memory-is : work ≡ memory-run job size (s .records)
   pub roomy : answer-bytes * s .answers ≤ length answers
-  pub answers-are : sealed (s .answers) answers ≡ answers-after (run job size (length old) .answers) old
+  pub answers-are : sealed (s .answers) answers ≡ answers-after (run limits job size (length old) .answers) old
   pub few-records : s .records ≤ max-job
   pub few-answers : s .answers ≤ max-job
   pub few-terms : s .rows + first-terms ≤ max-terms

@@ -1,5 +1,6 @@
 // The bits of a term of a job's final store where only part of its inputs is known.
 ghost use mathlib.Core.Path.{_≡_};
+ghost use Rattle.theory.specs.Limit.{rack};
 ghost use Rattle.theory.specs.Job.{call};
 ghost use Rattle.sweeps.specs.Calls.{known-lent, values-after, written};
 ghost use Rattle.bitblast.specs.Walking.{told};
@@ -26,8 +27,8 @@ fn known_job(
     inputs: &[u8],
     outputs: &mut [u8],
 ) -> Known
-    ensures outcome { λ r. ⌜ told (r .outcome) ≡ call (now (job .entry)) (now (work .entry)) (now (answers .entry)) .result ⌝ }
-    ensures answers { λ _. ⌜ now (answers .exit) ≡ call (now (job .entry)) (now (work .entry)) (now (answers .entry)) .answer-memory ⌝ }
+    ensures outcome { λ r. ⌜ told (r .outcome) ≡ call rack (now (job .entry)) (now (work .entry)) (now (answers .entry)) .result ⌝ }
+    ensures answers { λ _. ⌜ now (answers .exit) ≡ call rack (now (job .entry)) (now (work .entry)) (now (answers .entry)) .answer-memory ⌝ }
     ensures code { λ r. ⌜ r .code ≡ known-lent (now (job .entry)) (now (work .entry)) (now (answers .entry))
         (now (values .entry)) number (now (inputs .entry)) (now (outputs .entry)) .code ⌝ }
     ensures outputs { λ _. ⌜ now (outputs .exit) ≡ written (known-lent (now (job .entry)) (now (work .entry)) (now (answers .entry))
@@ -60,9 +61,9 @@ pub extern "C" fn bb_known(
     inputs: &[u8],
     outputs: &mut [u8],
 ) -> Known
-    ensures outcome { λ r. ⌜ told (r .outcome) ≡ call (now (job .entry)) (now (work .entry)) (now (answers .entry)) .result ⌝ }
-    ensures answers { λ _. ⌜ now (answers .exit) ≡ call (now (job .entry)) (now (work .entry)) (now (answers .entry)) .answer-memory ⌝ }
-    ensures work { λ _. ⌜ now (work .exit) ≡ call (now (job .entry)) (now (work .entry)) (now (answers .entry)) .work-memory ⌝ }
+    ensures outcome { λ r. ⌜ told (r .outcome) ≡ call rack (now (job .entry)) (now (work .entry)) (now (answers .entry)) .result ⌝ }
+    ensures answers { λ _. ⌜ now (answers .exit) ≡ call rack (now (job .entry)) (now (work .entry)) (now (answers .entry)) .answer-memory ⌝ }
+    ensures work { λ _. ⌜ now (work .exit) ≡ call rack (now (job .entry)) (now (work .entry)) (now (answers .entry)) .work-memory ⌝ }
     ensures code { λ r. ⌜ r .code ≡ known-lent (now (job .entry)) (now (work .entry)) (now (answers .entry))
         (now (values .entry)) number (now (inputs .entry)) (now (outputs .entry)) .code ⌝ }
     ensures outputs { λ _. ⌜ now (outputs .exit) ≡ written (known-lent (now (job .entry)) (now (work .entry)) (now (answers .entry))

@@ -8,19 +8,23 @@ mod walk;
 
 ghost use mathlib.Core.Path.{_≡_};
 ghost use lib.ListN.{length};
+ghost use Rattle.theory.specs.Limit.{stated, rack};
 ghost use Rattle.theory.specs.Answer.{decode-answers};
 ghost use Rattle.theory.specs.Job.{call};
 ghost use Rattle.theory.specs.Demand.{Demand3};
 ghost use Rattle.theory.specs.Demands.{Stops, Demand2};
+ghost use Rattle.intern.specs.Interning.{limits-of};
 ghost use Rattle.bitblast.specs.Walking.{told, Enough, memory-left};
 use crate::finished::outcome_of;
-use crate::finished::run_job;
+use crate::finished::run_within;
+use intern::Limits;
+use terms::Term;
 
 // The longest job, in bytes.
 pub const MAX_JOB: usize = 16777216;
 
 // The number of the interface. It grows with each change of an exported function, or of a struct that one takes or returns.
-pub const VERSION: u32 = 5;
+pub const VERSION: u32 = 6;
 
 // What a job comes to: the code that stopped it or 0, the records done, the answers written, the terms kept at the end, and the repeats: the term
 // records done whose term was there already.
@@ -33,13 +37,15 @@ pub struct Outcome {
     pub repeats: u32,
 }
 
-// The outcome of a job, and its answers. The work memory is left as the job used it.
-fn check_job(job: &[u8], work: &mut [u8], answers: &mut [u8]) -> Outcome
-    ensures result { λ r. ⌜ told r ≡ call (now (job .entry)) (now (work .entry)) (now (answers .entry)) .result ⌝ }
-    ensures answers { λ _. ⌜ now (answers .exit) ≡ call (now (job .entry)) (now (work .entry)) (now (answers .entry)) .answer-memory ⌝ }
-    ensures work { λ _. ⌜ now (work .exit) ≡ memory-left (now (job .entry)) (now (work .entry)) (length (now (answers .entry))) ⌝ }
+// The outcome of a job under limits that the caller states, and its answers. The work memory is left as the job used it.
+fn check_job(job: &[u8], work: &mut [u8], answers: &mut [u8], limits: Limits) -> Outcome
+    ensures result { λ r. ⌜ told r ≡ call (limits-of limits) (now (job .entry)) (now (work .entry)) (now (answers .entry)) .result ⌝ }
+    ensures answers { λ _. ⌜ now (answers .exit)
+        ≡ call (limits-of limits) (now (job .entry)) (now (work .entry)) (now (answers .entry)) .answer-memory ⌝ }
+    ensures work { λ _. ⌜ now (work .exit)
+        ≡ memory-left (limits-of limits) (now (job .entry)) (now (work .entry)) (length (now (answers .entry))) ⌝ }
 {
-    outcome_of(run_job(job, work, answers))
+    outcome_of(run_within(job, work, answers, limits))
 }
 
 // The bytes of work memory that a job of `size` bytes is given of those lent: four for each of its own, which leaves room in the table over
@@ -50,28 +56,59 @@ pub fn used(size: usize, lent: usize) -> usize
     if size < lent / 4 { 4 * size } else { lent }
 }
 
-// Checks a job, for a host. The answers stand at the start of their memory, and the work memory is all zero: nothing of the job stays in it.
+// Checks a job, for a host, under a width limit and a limit of the number of terms, `true` and `false` counted; a limit above the rack's is
+// the rack's. The answers stand at the start of their memory, and the work memory is all zero: nothing of the job stays in it.
 #[no_mangle]
-pub extern "C" fn bb_job(job: &[u8], work: &mut [u8], answers: &mut [u8]) -> Outcome
-    ensures result { λ r. ⌜ told r ≡ call (now (job .entry)) (now (work .entry)) (now (answers .entry)) .result ⌝ }
-    ensures answers { λ _. ⌜ now (answers .exit) ≡ call (now (job .entry)) (now (work .entry)) (now (answers .entry)) .answer-memory ⌝ }
-    ensures work { λ _. ⌜ now (work .exit) ≡ call (now (job .entry)) (now (work .entry)) (now (answers .entry)) .work-memory ⌝ }
-    ensures demand1 { λ r. ⌜ Stops (now (job .entry)) (length (now (work .entry))) (length (now (answers .entry))) (r .stop) (r .records) ⌝ }
-    ensures demand2 { λ r. ⌜ Demand2 (now (job .entry)) (length (now (work .entry))) (length (now (answers .entry)))
-        (decode-answers (r .answers) (now (answers .exit))) ⌝ }
-    ensures demand3 { λ r. ⌜ Demand3 (now (job .entry)) (length (now (work .entry))) (length (now (answers .entry))) (r .records)
-        (decode-answers (r .answers) (now (answers .exit))) ⌝ }
+pub extern "C" fn bb_job_within(
+    job: &[u8],
+    work: &mut [u8],
+    answers: &mut [u8],
+    width_limit: u32,
+    term_limit: u32,
+) -> Outcome
+    ensures result { λ r. ⌜ told r
+        ≡ call (stated «width_limit» «term_limit») (now (job .entry)) (now (work .entry)) (now (answers .entry)) .result ⌝ }
+    ensures answers { λ _. ⌜ now (answers .exit)
+        ≡ call (stated «width_limit» «term_limit») (now (job .entry)) (now (work .entry)) (now (answers .entry)) .answer-memory ⌝ }
+    ensures work { λ _. ⌜ now (work .exit)
+        ≡ call (stated «width_limit» «term_limit») (now (job .entry)) (now (work .entry)) (now (answers .entry)) .work-memory ⌝ }
+    ensures demand1 { λ r. ⌜ Stops (stated «width_limit» «term_limit») (now (job .entry)) (length (now (work .entry)))
+        (length (now (answers .entry))) (r .stop) (r .records) ⌝ }
+    ensures demand2 { λ r. ⌜ Demand2 (stated «width_limit» «term_limit») (now (job .entry)) (length (now (work .entry)))
+        (length (now (answers .entry))) (decode-answers (r .answers) (now (answers .exit))) ⌝ }
+    ensures demand3 { λ r. ⌜ Demand3 (stated «width_limit» «term_limit») (now (job .entry)) (length (now (work .entry)))
+        (length (now (answers .entry))) (r .records) (decode-answers (r .answers) (now (answers .exit))) ⌝ }
 {
+    let limits = Limits {
+        width: width_limit,
+        terms: term_limit,
+    };
     let n = used(job.len(), work.len());
-    let outcome = check_job(job, &mut work[..n], answers);
+    let outcome = check_job(job, &mut work[..n], answers, limits);
     table::wipe(work);
     outcome
+}
+
+// Checks a job, for a host: the same under the rack's limits.
+#[no_mangle]
+pub extern "C" fn bb_job(job: &[u8], work: &mut [u8], answers: &mut [u8]) -> Outcome
+    ensures result { λ r. ⌜ told r ≡ call rack (now (job .entry)) (now (work .entry)) (now (answers .entry)) .result ⌝ }
+    ensures answers { λ _. ⌜ now (answers .exit) ≡ call rack (now (job .entry)) (now (work .entry)) (now (answers .entry)) .answer-memory ⌝ }
+    ensures work { λ _. ⌜ now (work .exit) ≡ call rack (now (job .entry)) (now (work .entry)) (now (answers .entry)) .work-memory ⌝ }
+    ensures demand1 { λ r. ⌜ Stops rack (now (job .entry)) (length (now (work .entry))) (length (now (answers .entry)))
+        (r .stop) (r .records) ⌝ }
+    ensures demand2 { λ r. ⌜ Demand2 rack (now (job .entry)) (length (now (work .entry))) (length (now (answers .entry)))
+        (decode-answers (r .answers) (now (answers .exit))) ⌝ }
+    ensures demand3 { λ r. ⌜ Demand3 rack (now (job .entry)) (length (now (work .entry))) (length (now (answers .entry))) (r .records)
+        (decode-answers (r .answers) (now (answers .exit))) ⌝ }
+{
+    bb_job_within(job, work, answers, Term::MAX_WIDTH, Term::MAX_TERMS as u32)
 }
 
 // The number of the interface, for a host to compare with the one that it was written for.
 #[no_mangle]
 pub extern "C" fn bb_version() -> u32
-    ensures { λ r. ⌜ r ≡ 5 ⌝ }
+    ensures { λ r. ⌜ r ≡ 6 ⌝ }
 {
     VERSION
 }

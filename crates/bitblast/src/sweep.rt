@@ -1,5 +1,6 @@
 // The sweep of an equality of a job's final store.
 ghost use mathlib.Core.Path.{_≡_};
+ghost use Rattle.theory.specs.Limit.{rack};
 ghost use Rattle.theory.specs.Job.{call};
 ghost use Rattle.sweeps.specs.Calls.{sweep-lent, values-after};
 ghost use Rattle.bitblast.specs.Walking.{told};
@@ -27,8 +28,8 @@ fn sweep_job(
     values: &mut [u8],
     number: u32,
 ) -> Swept
-    ensures outcome { λ r. ⌜ told (r .outcome) ≡ call (now (job .entry)) (now (work .entry)) (now (answers .entry)) .result ⌝ }
-    ensures answers { λ _. ⌜ now (answers .exit) ≡ call (now (job .entry)) (now (work .entry)) (now (answers .entry)) .answer-memory ⌝ }
+    ensures outcome { λ r. ⌜ told (r .outcome) ≡ call rack (now (job .entry)) (now (work .entry)) (now (answers .entry)) .result ⌝ }
+    ensures answers { λ _. ⌜ now (answers .exit) ≡ call rack (now (job .entry)) (now (work .entry)) (now (answers .entry)) .answer-memory ⌝ }
     ensures result { λ r. ⌜ as-swept r ≡ sweep-lent (now (job .entry)) (now (work .entry)) (now (answers .entry)) (now (values .entry)) number ⌝ }
     ensures values { λ r. ⌜ now (values .exit) ≡ values-after (r .code) (now (values .entry)) ⌝ }
 {
@@ -59,9 +60,9 @@ pub extern "C" fn bb_sweep(
     values: &mut [u8],
     number: u32,
 ) -> Swept
-    ensures outcome { λ r. ⌜ told (r .outcome) ≡ call (now (job .entry)) (now (work .entry)) (now (answers .entry)) .result ⌝ }
-    ensures answers { λ _. ⌜ now (answers .exit) ≡ call (now (job .entry)) (now (work .entry)) (now (answers .entry)) .answer-memory ⌝ }
-    ensures work { λ _. ⌜ now (work .exit) ≡ call (now (job .entry)) (now (work .entry)) (now (answers .entry)) .work-memory ⌝ }
+    ensures outcome { λ r. ⌜ told (r .outcome) ≡ call rack (now (job .entry)) (now (work .entry)) (now (answers .entry)) .result ⌝ }
+    ensures answers { λ _. ⌜ now (answers .exit) ≡ call rack (now (job .entry)) (now (work .entry)) (now (answers .entry)) .answer-memory ⌝ }
+    ensures work { λ _. ⌜ now (work .exit) ≡ call rack (now (job .entry)) (now (work .entry)) (now (answers .entry)) .work-memory ⌝ }
     ensures result { λ r. ⌜ as-swept r ≡ sweep-lent (now (job .entry)) (now (work .entry)) (now (answers .entry)) (now (values .entry)) number ⌝ }
     ensures values { λ r. ⌜ now (values .exit) ≡ values-after (r .code) (now (values .entry)) ⌝ }
 {

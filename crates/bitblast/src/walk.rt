@@ -2,7 +2,9 @@
 ghost use Prim.Native.Nat.{_≤_};
 ghost use lib.ListN.{length};
 ghost use Rattle.theory.specs.Limit.{max-job};
+ghost use Rattle.intern.specs.Interning.{limits-of};
 ghost use Rattle.bitblast.specs.Walking.{Standing, Next, Walked};
+use intern::Limits;
 use records::take_record;
 use terms::Frame;
 use terms::Term;
@@ -19,9 +21,10 @@ pub struct State {
 }
 
 // Takes the record where the job stands: 3 where no whole record is there.
-fn next(job: &[u8], work: &mut [u8], answers: &mut [u8], s: State) -> State
+fn next(job: &[u8], work: &mut [u8], answers: &mut [u8], limits: Limits, s: State) -> State
     requires { ⌜ Standing (now job) (now work) (now answers) s ⌝ }
-    ensures { λ r. ⌜ Next (now (job .entry)) (now (work .entry)) (now (answers .entry)) s (now (work .exit)) (now (answers .exit)) r ⌝ }
+    ensures { λ r. ⌜ Next (limits-of limits) (now (job .entry)) (now (work .entry)) (now (answers .entry)) s
+        (now (work .exit)) (now (answers .exit)) r ⌝ }
 {
     let at = s.at;
     let Frame::Whole(size) = Term::frame(job, at) else {
@@ -34,7 +37,7 @@ fn next(job: &[u8], work: &mut [u8], answers: &mut [u8], s: State) -> State
             repeats: s.repeats,
         };
     };
-    let t = take_record(job, work, answers, s.rows, s.answers, at);
+    let t = take_record(job, work, answers, limits, s.rows, s.answers, at);
     if t.code != 0 {
         return State {
             at: at,
@@ -55,10 +58,11 @@ fn next(job: &[u8], work: &mut [u8], answers: &mut [u8], s: State) -> State
     }
 }
 
-// Takes all records of a job.
-pub fn walk(job: &[u8], work: &mut [u8], answers: &mut [u8]) -> State
+// Takes all records of a job, under limits that the caller states.
+pub fn walk(job: &[u8], work: &mut [u8], answers: &mut [u8], limits: Limits) -> State
     requires { ⌜ length (now job) ≤ max-job ⌝ }
-    ensures { λ r. ⌜ Walked (now (job .entry)) (length (now (work .entry))) (now (answers .entry)) (now (work .exit)) (now (answers .exit)) r ⌝ }
+    ensures { λ r. ⌜ Walked (limits-of limits) (now (job .entry)) (length (now (work .entry))) (now (answers .entry))
+        (now (work .exit)) (now (answers .exit)) r ⌝ }
 {
     intern::start(job, work);
     let mut s = State {
@@ -70,7 +74,7 @@ pub fn walk(job: &[u8], work: &mut [u8], answers: &mut [u8]) -> State
         repeats: 0,
     };
     while s.at < job.len() {
-        s = next(job, work, answers, s);
+        s = next(job, work, answers, limits, s);
         if s.stop != 0 {
             return s;
         }

@@ -6,7 +6,7 @@ use Prim.Native.Nat.{ℕ, _+_, _*_, _≤_, _<_}
 use native.Mathlib.Omega.{arith}
 use borrow.Author.Tests.{le-leb, lt-leb}
 use lib.ListN.{length, drop, length-append}
-use Rattle.theory.specs.Limit.{answer-bytes}
+use Rattle.theory.specs.Limit.{rack, answer-bytes}
 use Rattle.theory.specs.Record.{Bytes, AllBytes}
 use Rattle.theory.specs.Answer.{Answer}
 use Rattle.theory.specs.Job.{Returned, run, answers-after, call}
@@ -19,9 +19,9 @@ use Rattle.console.specs.Shown.{text-space, shown, Printed}
 -- the two cases of `bbcheck`
 module _ (input : Bytes) where
   told : Bool → Bytes
-  told b = elim b [ true ↦ outcome-text (run input memory memory) | false ↦ too-long-text ++ end-line ]
+  told b = elim b [ true ↦ outcome-text (run rack input memory memory) | false ↦ too-long-text ++ end-line ]
 
-  of-run : length input ≤ memory → outcome-text (run input memory memory) ≡ bbcheck input
+  of-run : length input ≤ memory → outcome-text (run rack input memory memory) ≡ bbcheck input
   unfolding bbcheck told
   of-run h = sym (ap told (le-leb (length input) memory h))
 
@@ -51,25 +51,25 @@ module _ (input old : Bytes) where
 
   -- the answers in the memory are the run's, and there is space for their lines
   pub run-shown : (work answers : Bytes) → AllBytes input → length work ≡ memory → length answers ≡ memory → text-space ≤ length old → length input ≤ memory
-      → let c = call input work answers in
+      → let c = call rack input work answers in
       report-text (c .result .stop) (c .result .terms) (c .result .repeats) (c .result .answers) (c .answer-memory) (length old) ≡ shown input (length old)
   unfolding shown report-text
   run-shown work answers bytes w a h l =
-      let o = run input (length work) (length answers) in
+      let o = run rack input (length work) (length answers) in
       let n = length (o .answers) in
-      let f = run-fits input (length work) (length answers) .answers-fit in
-      let k = answers-kept input work answers .0 in
+      let f = run-fits rack input (length work) (length answers) .answers-fit in
+      let k = answers-kept rack input work answers .0 in
       rw (
         le-leb (n * answer-bytes) (length (answers-after (o .answers) answers)) (omega arith),
         le-leb (head-space + n * line-space) (length old) (omega arith),
         le-leb text-space (length old) h,
       )
-      (ap (λ (ls : List Answer). outcome-text (record { stop = o .stop; records = 0; answers = ls; terms = o .terms; repeats = o .repeats })) (answers-read input bytes (length work) (length answers) answers)
-      ∙ ap₂ (λ (x y : ℕ). outcome-text (run input x y)) w a ∙ of-run input l)
+      (ap (λ (ls : List Answer). outcome-text (record { stop = o .stop; records = 0; answers = ls; terms = o .terms; repeats = o .repeats })) (answers-read rack input bytes (length work) (length answers) answers)
+      ∙ ap₂ (λ (x y : ℕ). outcome-text (run rack input x y)) w a ∙ of-run input l)
 
   -- what a job came to, as it is returned and stands in the memory
   pub job-shown : (work answers : Bytes) → AllBytes input → memory ≡ length work → memory ≡ length answers → text-space ≤ length old → length input ≤ memory
-      → {q : Returned} {m : Bytes} → q ≡ call input work answers .result → m ≡ call input work answers .answer-memory
+      → {q : Returned} {m : Bytes} → q ≡ call rack input work answers .result → m ≡ call rack input work answers .answer-memory
       → report-text (q .stop) (q .terms) (q .repeats) (q .answers) m (length old) ≡ shown input (length old)
   job-shown work answers bytes w a h l e f =
       ap₂ (λ (r : Returned) (n : Bytes). report-text (r .stop) (r .terms) (r .repeats) (r .answers) n (length old)) e f

@@ -3,18 +3,18 @@ use mathlib.Core.Path.{_≡_, refl, sym, ap, ap₂, subst, _∙_}
 use mathlib.Core.Bool.{Bool, true, false, _&&_, _||_, cond}
 use mathlib.Core.List.{List, [], _∷_, _++_, map, map-append}
 use mathlib.Core.Option.{some}
-use Prim.Native.Nat.{ℕ, zero, suc, _+_, _-_, _*_, _<_, _≤_}
+use Prim.Native.Nat.{ℕ, zero, suc, _+_, _-_, _*_, _<_, _≤_, min}
 use native.Mathlib.Omega.{arith}
-use native.Mathlib.Decide.{ℕ-discrete}
+use native.Mathlib.Decide.{ℕ-discrete, decLe}
 use lib.Dec.{T, leb, ltb, eqb, leb→le}
 use lib.Ieee.Fits.{and-r}
 use lib.ListN.{length, take, drop, getD, getElem?, length-take, length-append, length-drop, List·getD-append}
 use lib.Seq.{take-take, getD-append-seam, drop-append-le}
-use borrow.Author.Tests.{eqb-true, eqb-false}
-use Rattle.theory.specs.Limit.{first-terms, max-terms, term-bytes}
+use borrow.Author.Tests.{eqb-true, eqb-false, le-leb, lt-leb}
+use Rattle.theory.specs.Limit.{Limits, capped, first-terms, max-width, term-bytes}
 use Rattle.theory.specs.Kind.{Op, True}
 use Rattle.theory.specs.Term.{Term, node, nil, same-numbers}
-use Rattle.theory.specs.Sort.{Sort, bad, bool, bv, good, same-sort, sort-of, sort-width, first}
+use Rattle.theory.specs.Sort.{Sort, bad, bool, bv, good, sort-of, sort-width, first}
 use Rattle.theory.specs.Depth.{depth}
 use Rattle.theory.specs.Record.{Bytes, AllBytes, little-endian, word, extent, whole, term, read}
 use Rattle.theory.specs.Plain.{Entry, entry, Plain, term-of, has, put, feed, feed-item}
@@ -40,7 +40,7 @@ use Rattle.table.specs.Promise.{Grown, room-for, added-for, count-after, list-a
 use Rattle.table.specs.declared.kept.Added.{Added}
 use Rattle.table.specs.declared.kept.Added.the-variants as A
 use Rattle.table.proofs.Face.{depths-at, widths-at, place-stands, place-absent}
-use Rattle.rows.proofs.RowLaws.{length-column, length-kept}
+use Rattle.rows.proofs.RowLaws.{and-first, length-column, length-kept}
 use Rattle.terms.specs.declared.Term.{Term as Decoded}
 use Rattle.terms.specs.Decoded.{op-of, arguments-of}
 use Rattle.store.specs.Store.{Store, stored, listed, records}
@@ -220,28 +220,28 @@ width-step bool h = omega arith
 width-step (bv n) h = leb→le n 64 (and-r (leb 1 n) _ h)
 
 -- ---- what adding a row says
-module _ (x : Bytes) (rows : List Bytes) (len : ℕ) where
-  pub found-means : {p : ℕ} → A.Found p ≡ added-for x rows len → place-of x rows ≡ missing → ⊥
+module _ (limit : ℕ) (x : Bytes) (rows : List Bytes) (len : ℕ) where
+  pub found-means : {p : ℕ} → A.Found p ≡ added-for limit x rows len → place-of x rows ≡ missing → ⊥
   unfolding added-for
-  found-means {p} e = go (eqb (place-of x rows) missing) (room-for (length rows) len) (eqb-false (place-of x rows) missing) e
+  found-means {p} e = go (eqb (place-of x rows) missing) (room-for limit (length rows) len) (eqb-false (place-of x rows) missing) e
     where
       go : (b c : Bool) → (b ≡ false → place-of x rows ≡ missing → ⊥) → A.Found p ≡ cond b (cond c (A.New (first-terms + length rows)) A.Spent) (A.Found (place-of x rows)) → place-of x rows ≡ missing → ⊥
       go true true f d = absurd (let z : _≡_ {A = ℕ} 0 1 = cc in omega arith)
       go true false f d = absurd (let z : _≡_ {A = ℕ} 0 1 = cc in omega arith)
       go false c f d = f refl
 
-  pub new-means : {p : ℕ} → A.New p ≡ added-for x rows len → (place-of x rows ≡ missing) × (room-for (length rows) len ≡ true)
+  pub new-means : {p : ℕ} → A.New p ≡ added-for limit x rows len → (place-of x rows ≡ missing) × (room-for limit (length rows) len ≡ true)
   unfolding added-for
-  new-means {p} e = go (eqb (place-of x rows) missing) (room-for (length rows) len) (eqb-true (place-of x rows) missing) e
+  new-means {p} e = go (eqb (place-of x rows) missing) (room-for limit (length rows) len) (eqb-true (place-of x rows) missing) e
     where
       go : (b c : Bool) → (b ≡ true → place-of x rows ≡ missing) → A.New p ≡ cond b (cond c (A.New (first-terms + length rows)) A.Spent) (A.Found (place-of x rows)) → (place-of x rows ≡ missing) × (c ≡ true)
       go true true f d = (f refl, refl)
       go true false f d = absurd (let z : _≡_ {A = ℕ} 0 1 = cc in omega arith)
       go false c f d = absurd (let z : _≡_ {A = ℕ} 0 1 = cc in omega arith)
 
-  pub spent-means : A.Spent ≡ added-for x rows len → (place-of x rows ≡ missing) × (room-for (length rows) len ≡ false)
+  pub spent-means : A.Spent ≡ added-for limit x rows len → (place-of x rows ≡ missing) × (room-for limit (length rows) len ≡ false)
   unfolding added-for
-  spent-means e = go (eqb (place-of x rows) missing) (room-for (length rows) len) (eqb-true (place-of x rows) missing) e
+  spent-means e = go (eqb (place-of x rows) missing) (room-for limit (length rows) len) (eqb-true (place-of x rows) missing) e
     where
       go : (b c : Bool) → (b ≡ true → place-of x rows ≡ missing) → A.Spent ≡ cond b (cond c (A.New (first-terms + length rows)) A.Spent) (A.Found (place-of x rows)) → (place-of x rows ≡ missing) × (c ≡ false)
       go true true f d = absurd (let z : _≡_ {A = ℕ} 0 1 = cc in omega arith)
@@ -256,12 +256,19 @@ code-law true false true n = refl
 code-law true false false n = refl
 code-law false there roomy n = refl
 
-bad-test : (s : Sort) → (same-sort s bad ≡ true → good s ≡ false) × (same-sort s bad ≡ false → T (good s))
-bad-test bad = (λ e. refl, λ e. absurd (let z : _≡_ {A = ℕ} 0 1 = cc in omega arith))
-bad-test bool = (λ e. absurd (let z : _≡_ {A = ℕ} 0 1 = cc in omega arith), λ e. tt)
-bad-test (bv n) = (λ e. absurd (let z : _≡_ {A = ℕ} 0 1 = cc in omega arith), λ e. tt)
+-- a width is at most the rack's, so the limit that is stated is tested as well as the capped one
+capped-width : (w limit : ℕ) → w ≤ max-width → leb w (min limit max-width) ≡ leb w limit
+capped-width w limit h = go (decLe w limit)
+  where
+    go : Dec (w ≤ limit) → leb w (min limit max-width) ≡ leb w limit
+    go (yes l) = le-leb w (min limit max-width) (omega arith) ∙ sym (le-leb w limit l)
+    go (no l) = lt-leb w (min limit max-width) (omega arith) ∙ sym (lt-leb w limit (omega arith))
 
-module _ {job work : Bytes} {n at : ℕ} {t : Decoded} (o : Offered job work n at t) where
+-- what is tested of a sort
+abbrev fits : Limits → Sort → Bool
+fits limits s = good s && leb (sort-width s) (limits .width)
+
+module _ (limits : Limits) {job work : Bytes} {n at : ℕ} {t : Decoded} (o : Offered job work n at t) where
   says-it : read (record-at job at) ≡ term (op-of t) (arguments-of job t)
   says-it = sym (o .says)
 
@@ -286,79 +293,83 @@ module _ {job work : Bytes} {n at : ℕ} {t : Decoded} (o : Offered job work n a
       let z = tree-depth (listed job work n) (op-of t) (arguments-of job t) in
       omega arith
 
+  width-within : {s : Sort} → s ≡ sort-of (tree-of (listed job work n) (op-of t) (arguments-of job t)) → sort-width s ≤ max-width
+  width-within {s} e = width-step s (subst (λ (x : Sort). T (sized x)) (sym e) (sorts-sized (tree-of (listed job work n) (op-of t) (arguments-of job t))))
+
   pub width-small : {s : Sort} → s ≡ sort-of (tree-of (listed job work n) (op-of t) (arguments-of job t)) → {w : ℕ} → w ≡ sort-width s → w < 256
-  width-small {s} e f =
-      let q = width-step s (subst (λ (x : Sort). T (sized x)) (sym e) (sorts-sized (tree-of (listed job work n) (op-of t) (arguments-of job t)))) in
-      omega arith
+  width-small e f = let q = width-within e in omega arith
 
-  sorted-is : {s : Sort} → s ≡ sort-of (tree-of (listed job work n) (op-of t) (arguments-of job t)) → well-sorted (term-of (listed job work n) (op-of t) (arguments-of job t)) ≡ good s
-  sorted-is e = ap well-sorted (term-of-is (listed job work n) (op-of t) (arguments-of job t) all-low) ∙ ap good (sym e)
+  sorted-is : {s : Sort} → s ≡ sort-of (tree-of (listed job work n) (op-of t) (arguments-of job t))
+      → well-sorted (capped limits) (term-of (listed job work n) (op-of t) (arguments-of job t)) ≡ fits limits s
+  sorted-is {s} e =
+      ap (well-sorted (capped limits)) (term-of-is (listed job work n) (op-of t) (arguments-of job t) all-low) ∙ ap (fits (capped limits)) (sym e)
+      ∙ ap (λ (b : Bool). good s && b) (capped-width (sort-width s) (limits .width) (width-within e))
 
-  room-is : room (length work) (listed job work n) ≡ room-for n (length work)
+  room-is : room (capped limits) (length work) (listed job work n) ≡ room-for (limits .terms) n (length work)
   unfolding room-for
   room-is =
       let c = o .arguments .store .count in
       let a : suc (length (listed job work n)) - first-terms ≡ suc n = omega arith in
-      ap₂ (λ (x y : ℕ). leb (term-bytes * x) (length work) && ltb y max-terms) a c
+      ap₂ (λ (x y : ℕ). leb (term-bytes * x) (length work) && ltb y (capped limits .terms)) a c
 
   -- the answer and its code
-  decided : {sorted there roomy : Bool} → well-sorted (term-of (listed job work n) (op-of t) (arguments-of job t)) ≡ sorted
-      → has (listed job work n) (record-at job at) ≡ there → room (length work) (listed job work n) ≡ roomy
-      → answer-for sorted there roomy n ≡ answer-for (well-sorted (term-of (listed job work n) (op-of t) (arguments-of job t))) (has (listed job work n) (record-at job at)) (room (length work) (listed job work n)) n
+  decided : {sorted there roomy : Bool} → well-sorted (capped limits) (term-of (listed job work n) (op-of t) (arguments-of job t)) ≡ sorted
+      → has (listed job work n) (record-at job at) ≡ there → room (capped limits) (length work) (listed job work n) ≡ roomy
+      → answer-for sorted there roomy n ≡ answer-for (well-sorted (capped limits) (term-of (listed job work n) (op-of t) (arguments-of job t))) (has (listed job work n) (record-at job at)) (room (capped limits) (length work) (listed job work n)) n
   decided e f g = rw (e, f, g)
 
   taken : {answer : Interned} {after : Bytes}
-      → answer ≡ answer-for (well-sorted (term-of (listed job work n) (op-of t) (arguments-of job t))) (has (listed job work n) (record-at job at)) (room (length work) (listed job work n)) n
+      → answer ≡ answer-for (well-sorted (capped limits) (term-of (listed job work n) (op-of t) (arguments-of job t))) (has (listed job work n) (record-at job at)) (room (capped limits) (length work) (listed job work n)) n
       → after ≡ bytes-after answer work (with-term job work n at (tree-of (listed job work n) (op-of t) (arguments-of job t)))
       → Store job after (rows-after answer n) → listed job after (rows-after answer n) ≡ list-after-of answer (listed job work n) (record-at job at)
-      → offsets after (rows-after answer n) ≡ offsets-after answer at (offsets work n) → Taken job work after n at t answer
+      → offsets after (rows-after answer n) ≡ offsets-after answer at (offsets work n) → Taken limits job work after n at t answer
   taken {answer} e m s l f = record { answer-is = e; code-is = ap code-of e ∙ code-law _ _ _ n; memory-is = m; store = s; listed-is = l; offsets-are = f }
 
-  -- it has no sort
-  pub taken-unsorted : {s : Sort} → s ≡ sort-of (tree-of (listed job work n) (op-of t) (arguments-of job t)) → same-sort s bad ≡ true → Taken job work work n at t I.Unsorted
+  -- it has no sort, or is too wide
+  pub taken-unsorted : {s : Sort} → s ≡ sort-of (tree-of (listed job work n) (op-of t) (arguments-of job t)) → fits limits s ≡ false → Taken limits job work work n at t I.Unsorted
   unfolding answer-for
-  taken-unsorted {s} e f = taken (decided (sorted-is e ∙ bad-test s .0 f) refl refl) refl (o .arguments .store) refl refl
+  taken-unsorted {s} e f = taken (decided (sorted-is e ∙ f) refl refl) refl (o .arguments .store) refl refl
 
-  module _ {after : Bytes} {d w : ℕ} {s : Sort} (bytes : AllBytes job) (e : s ≡ sort-of (tree-of (listed job work n) (op-of t) (arguments-of job t))) (f : same-sort s bad ≡ false)
-      (de : d ≡ depth (tree-of (listed job work n) (op-of t) (arguments-of job t))) (we : w ≡ sort-width s) {a : Added} (g : Grown job work after n at d w a) where
-    sorted-true : well-sorted (term-of (listed job work n) (op-of t) (arguments-of job t)) ≡ true
-    sorted-true = sorted-is e ∙ T-true _ (bad-test s .1 f)
+  module _ {after : Bytes} {d w : ℕ} {s : Sort} (bytes : AllBytes job) (e : s ≡ sort-of (tree-of (listed job work n) (op-of t) (arguments-of job t))) (f : fits limits s ≡ true)
+      (de : d ≡ depth (tree-of (listed job work n) (op-of t) (arguments-of job t))) (we : w ≡ sort-width s) {a : Added} (g : Grown job work after n (limits .terms) at d w a) where
+    sorted-true : well-sorted (capped limits) (term-of (listed job work n) (op-of t) (arguments-of job t)) ≡ true
+    sorted-true = sorted-is e ∙ f
 
     sound-it : Sound (record-at job at)
     sound-it = whole-sound job at bytes (o .stands)
 
-    grown-as : (b : Added) → a ≡ b → Grown job work after n at d w b
-    grown-as b q = subst (Grown job work after n at d w) q g
+    grown-as : (b : Added) → a ≡ b → Grown job work after n (limits .terms) at d w b
+    grown-as b q = subst (Grown job work after n (limits .terms) at d w) q g
 
-    pub taken-found : {p : ℕ} → a ≡ A.Found p → Taken job work after n at t (I.Found n)
+    pub taken-found : {p : ℕ} → a ≡ A.Found p → Taken limits job work after n at t (I.Found n)
     unfolding count-after list-after memory-after answer-for
     taken-found {p} q =
         let h = grown-as (A.Found p) q in
         let s = o .arguments .store in
-        let there = found-there s (record-at job at) (found-means (record-at job at) (kept job work n) (length work) (h .answer-is)) in
+        let there = found-there s (record-at job at) (found-means (limits .terms) (record-at job at) (kept job work n) (length work) (h .answer-is)) in
         taken (decided sorted-true there refl) (h .memory-is) (store-same s (h .table) (h .kept-is) (h .depths-are) (h .widths-are))
         (ap stored (h .kept-is) ∙ fed-old s (record-at job at) (op-of t) (arguments-of job t) says-it all-low there) (h .offsets-are)
 
-    pub taken-spent : a ≡ A.Spent → Taken job work after n at t I.Spent
+    pub taken-spent : a ≡ A.Spent → Taken limits job work after n at t I.Spent
     unfolding count-after list-after memory-after answer-for
     taken-spent q =
         let h = grown-as A.Spent q in
         let s = o .arguments .store in
-        let m = spent-means (record-at job at) (kept job work n) (length work) (h .answer-is) in
+        let m = spent-means (limits .terms) (record-at job at) (kept job work n) (length work) (h .answer-is) in
         let there = missing-there s (record-at job at) (sound-it .long) (m .0) in
-        let none-left : room (length work) (listed job work n) ≡ false = room-is ∙ ap (λ (k : ℕ). room-for k (length work)) (sym (length-kept job work n)) ∙ m .1 in
+        let none-left : room (capped limits) (length work) (listed job work n) ≡ false = room-is ∙ ap (λ (k : ℕ). room-for (limits .terms) k (length work)) (sym (length-kept job work n)) ∙ m .1 in
         taken (decided sorted-true there none-left) (h .memory-is) (store-same s (h .table) (h .kept-is) (h .depths-are) (h .widths-are)) (ap stored (h .kept-is)) (h .offsets-are)
 
-    pub taken-new : {p : ℕ} → a ≡ A.New p → Taken job work after n at t (I.New (n + 1))
+    pub taken-new : {p : ℕ} → a ≡ A.New p → Taken limits job work after n at t (I.New (n + 1))
     unfolding count-after list-after memory-after answer-for with-term
     taken-new {p} q =
         let h = grown-as (A.New p) q in
         let st = o .arguments .store in
-        let m = new-means (record-at job at) (kept job work n) (length work) (h .answer-is) in
+        let m = new-means (limits .terms) (record-at job at) (kept job work n) (length work) (h .answer-is) in
         let there = missing-there st (record-at job at) (sound-it .long) (m .0) in
-        let some-left : room (length work) (listed job work n) ≡ true = room-is ∙ ap (λ (k : ℕ). room-for k (length work)) (sym (length-kept job work n)) ∙ m .1 in
+        let some-left : room (capped limits) (length work) (listed job work n) ≡ true = room-is ∙ ap (λ (k : ℕ). room-for (limits .terms) k (length work)) (sym (length-kept job work n)) ∙ m .1 in
         let ds = h .depths-are ∙ ap (λ (x : ℕ). depths work n ++ (x ∷ [])) de in
         let ws = h .widths-are ∙ ap (λ (x : ℕ). widths work n ++ (x ∷ [])) (we ∙ ap sort-width e) in
         taken (decided sorted-true there some-left) (h .memory-is ∙ ap₂ (with-row job work n at) de (we ∙ ap sort-width e))
-        (store-snoc st (record-at job at) (op-of t) (arguments-of job t) says-it all-low after there (h .kept-is) sound-it (subst (λ (x : Sort). T (good x)) e (bad-test s .1 f)) (h .table) ds ws)
+        (store-snoc st (record-at job at) (op-of t) (arguments-of job t) says-it all-low after there (h .kept-is) sound-it (subst (λ (x : Sort). T (good x)) e (subst T (sym (and-first (good s) _ f)) tt)) (h .table) ds ws)
         (snoc-fed st (record-at job at) (op-of t) (arguments-of job t) says-it all-low after there (h .kept-is)) (h .offsets-are)

@@ -4,7 +4,7 @@ use mathlib.Core.Bool.{Bool, true, _||_, cond}
 use mathlib.Core.List.{List, [], _∷_, _++_}
 use Prim.Native.Nat.{ℕ, _+_, _-_}
 use lib.ListN.{length, take, drop, replicate}
-use Rattle.theory.specs.Limit.{first-terms}
+use Rattle.theory.specs.Limit.{Limits, stated, capped, first-terms}
 use Rattle.theory.specs.Term as T
 use Rattle.theory.specs.Sort.{sort-of, sort-width}
 use Rattle.theory.specs.Depth.{depth}
@@ -21,6 +21,7 @@ use Rattle.rows.specs.Rows.{offsets}
 use Rattle.table.specs.Promise.{with-row, dropped-rows}
 use Rattle.store.specs.Store.{Store, listed}
 use Rattle.store.specs.Sorts.{Arguments}
+use Rattle.intern.specs.declared.Limits.{Limits as Given}
 use Rattle.intern.specs.declared.Interned.{Interned}
 use Rattle.intern.specs.declared.Interned.the-variants.{Unsorted, Spent, Found, New}
 
@@ -42,6 +43,10 @@ pub record CutBack (job work after : Bytes) (n count : ℕ) : Type 0 where
   pub offsets-are : offsets after (count - first-terms) ≡ take (count - first-terms) (offsets work n)
 
 -- ---- taking a term
+-- the limits that a caller gives, as theory has them
+abbrev pub limits-of : Given → Limits
+limits-of l = stated (l .width) (l .terms)
+
 -- document 01's code of an answer
 abbrev pub code-of : Interned → ℕ
 code-of Unsorted = 7
@@ -81,7 +86,7 @@ bytes-after (New m) work new = new
 unfoldable pub with-term : Bytes → Bytes → ℕ → ℕ → T.Term → Bytes
 with-term job work n at t = with-row job work n at (depth t) (sort-width (sort-of t))
 
--- the answer where the term has a sort or not, its record is there or not, and there is room or not
+-- the answer where the term fits or not, its record is there or not, and there is room or not
 unfoldable pub answer-for : Bool → Bool → Bool → ℕ → Interned
 answer-for sorted there roomy n = cond sorted (cond there (Found n) (cond roomy (New (n + 1)) Spent)) Unsorted
 
@@ -91,14 +96,15 @@ pub record Offered (job work : Bytes) (n at : ℕ) (t : Term) : Type 0 where
   pub stands : whole (drop at job) ≡ true
   pub says : item-of job (I.Term t) ≡ read (record-at job at)
 
--- the term was taken or not: the answer, its code by document 01's tests 7 and 8, the work memory then, and the store in it
-pub record Taken (job work after : Bytes) (n at : ℕ) (t : Term) (answer : Interned) : Type 0 where
+-- the term was taken or not, under stated limits: the answer, its code by document 01's tests 7 and 8, the work memory then, and the store
+-- in it
+pub record Taken (limits : Limits) (job work after : Bytes) (n at : ℕ) (t : Term) (answer : Interned) : Type 0 where
   pub answer-is : answer
-      ≡ answer-for (well-sorted (term-of (listed job work n) (op-of t) (arguments-of job t))) (has (listed job work n) (record-at job at))
-      (room (length work) (listed job work n)) n
+      ≡ answer-for (well-sorted (capped limits) (term-of (listed job work n) (op-of t) (arguments-of job t)))
+      (has (listed job work n) (record-at job at)) (room (capped limits) (length work) (listed job work n)) n
   pub code-is : code-of answer
-      ≡ first-fault ((well-sorted (term-of (listed job work n) (op-of t) (arguments-of job t)), 7)
-      ∷ (has (listed job work n) (record-at job at) || room (length work) (listed job work n), 8) ∷ [])
+      ≡ first-fault ((well-sorted (capped limits) (term-of (listed job work n) (op-of t) (arguments-of job t)), 7)
+      ∷ (has (listed job work n) (record-at job at) || room (capped limits) (length work) (listed job work n), 8) ∷ [])
   pub memory-is : after ≡ bytes-after answer work (with-term job work n at (tree-of (listed job work n) (op-of t) (arguments-of job t)))
   pub store : Store job after (rows-after answer n)
   pub listed-is : listed job after (rows-after answer n) ≡ list-after answer (listed job work n) (record-at job at)

@@ -4,7 +4,7 @@ ghost use mathlib.Core.Bool.{_&&_};
 ghost use Prim.Native.Nat.{_+_, _-_, _*_, _^_};
 ghost use lib.Dec.{leb, ltb};
 ghost use Rattle.theory.specs.Limit.{max-width};
-ghost use Rattle.theory.specs.Sort.{bool, bv, same-sort, guard, width, is-bv-sort, sort-width};
+ghost use Rattle.theory.specs.Sort.{bool, bv, good, same-sort, guard, width, is-bv-sort, sort-width};
 ghost use Rattle.store.specs.Sorts.{sort-read};
 use store::sorts::Sort;
 use store::sorts::width_of;
@@ -30,6 +30,17 @@ pub fn same_sort(a: Sort, b: Sort) -> bool
             Sort::Bool => false,
             Sort::Bv(n) => m == n,
         },
+    }
+}
+
+// Does a term of this sort fit, no wider than the limit?
+pub fn fits_within(s: Sort, limit: u32) -> bool
+    ensures { λ r. ⌜ r ≡ (good (sort-read s) && leb (sort-width (sort-read s)) limit) ⌝ }
+{
+    match s {
+        Sort::Bad => false,
+        Sort::Bool => true,
+        Sort::Bv(n) => n <= limit,
     }
 }
 

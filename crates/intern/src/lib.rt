@@ -7,16 +7,22 @@ ghost use Prim.Native.Nat.{_+_, _≤_};
 ghost use lib.ListN.{length};
 ghost use Rattle.theory.specs.Limit.{first-terms, max-job};
 ghost use Rattle.store.specs.Store.{Store};
-ghost use Rattle.intern.specs.Interning.{Started, CutBack, Offered, Taken};
-use crate::guards::same_sort;
+ghost use Rattle.intern.specs.Interning.{Started, CutBack, limits-of, Offered, Taken};
+use crate::guards::fits_within;
 use crate::kinds::depth_of;
 use crate::kinds::sort_of;
-use store::sorts::Sort;
 use store::sorts::width_of;
 use table::Added;
 use terms::Term;
 
-// The result for a record's term: it has no sort, there is no room for it, or it is kept, and there are so many rows then.
+// What a caller states: the greatest width of a bit-vector, and the greatest number of terms, `true` and `false` counted. Above the rack's they
+// are the rack's.
+pub struct Limits {
+    pub width: u32,
+    pub terms: u32,
+}
+
+// The result for a record's term: it has no sort or is too wide, there is no room for it, or it is kept, and there are so many rows then.
 pub enum Interned {
     Unsorted,
     Spent,
@@ -40,18 +46,26 @@ pub fn back(job: &[u8], work: &mut [u8], n: usize, count: usize)
     table::drop_rows(job, work, n, count - rows::FIRST_PLACE);
 }
 
-// Keeps the term that the record at `at` says, unless it is kept already, has no sort, or there is no room for it.
-pub fn intern(job: &[u8], work: &mut [u8], n: usize, at: usize, term: Term) -> Interned
+// Keeps the term that the record at `at` says, unless it is kept already, has no sort or is too wide, or there is no room for it. The limit of
+// terms is for new ones alone, so the table tests it.
+pub fn intern(
+    job: &[u8],
+    work: &mut [u8],
+    n: usize,
+    limits: Limits,
+    at: usize,
+    term: Term,
+) -> Interned
     requires { ⌜ Offered (now job) (now work) n at term ⌝ }
-    ensures { λ r. ⌜ Taken (now (job .entry)) (now (work .entry)) (now (work .exit)) n at term r ⌝ }
+    ensures { λ r. ⌜ Taken (limits-of limits) (now (job .entry)) (now (work .entry)) (now (work .exit)) n at term r ⌝ }
 {
     let s = sort_of(job, work, n, term);
-    if same_sort(s, Sort::Bad) {
+    if !fits_within(s, limits.width) {
         return Interned::Unsorted;
     }
     let depth = depth_of(job, work, n, term);
     let width = width_of(s) as usize;
-    let added = table::add(job, work, n, at, depth, width);
+    let added = table::add(job, work, n, limits.terms as usize, at, depth, width);
     match added {
         Added::Found(_) => Interned::Found(n),
         Added::New(_) => Interned::New(n + 1),

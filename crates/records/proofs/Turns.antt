@@ -7,7 +7,7 @@ use Prim.Native.Nat.{ℕ, zero, suc, _+_, _-_, _<_, _≤_}
 use native.Mathlib.Omega.{arith}
 use lib.ListN.{length, take, drop}
 use borrow.Author.Tests.{le-leb, lt-leb}
-use Rattle.theory.specs.Limit.{first-terms}
+use Rattle.theory.specs.Limit.{Limits, capped, first-terms}
 use Rattle.theory.specs.Term as T
 use Rattle.theory.specs.Optional.{is-some, collect}
 use Rattle.theory.specs.Verdict.{held, wrong-form, accepted}
@@ -59,15 +59,6 @@ module _ {job work : Bytes} {rows at : ℕ} {item : Item} (g : Reading job work 
   abbrev r : Bytes
   r = record-at job at
 
-  -- the code of the item's tests
-  abbrev code : ℕ
-  code = first-fault (tests (length work) (length answers) list answered r (item-of job item))
-
-  -- it is the record's
-  fault-is : code ≡ fault (length work) (length answers) list answered r
-  unfolding fault
-  fault-is = ap (λ (i : R.Item). first-fault (tests (length work) (length answers) list answered r i)) (g .says)
-
   -- what the item does to the list, the record does
   feed-is : feed-item list r (item-of job item) ≡ feed list r
   unfolding feed
@@ -91,10 +82,20 @@ module _ {job work : Bytes} {rows at : ℕ} {item : Item} (g : Reading job work 
   memory-same : memory-item job work rows at (item-of job item) ≡ memory-at job work rows at
   memory-same = ap (memory-item job work rows at) (g .says)
 
+module _ (limits : Limits) {job work : Bytes} {rows at : ℕ} {item : Item} (g : Reading job work rows at item) (answers : Bytes) (answered : ℕ) where
+  -- the code of the item's tests
+  abbrev code : ℕ
+  code = first-fault (tests limits (length work) (length answers) (listed job work rows) answered (record-at job at) (item-of job item))
+
+  -- it is the record's
+  fault-is : code ≡ fault limits (length work) (length answers) (listed job work rows) answered (record-at job at)
+  unfolding fault
+  fault-is = ap (λ (i : R.Item). first-fault (tests limits (length work) (length answers) (listed job work rows) answered (record-at job at) i)) (g .says)
+
   -- a turn that writes no answer
-  unanswered : {after : Bytes} {c n m : ℕ} → c ≡ code → after ≡ passed c (memory-at job work rows at) work → Store job after n → listed job after n ≡ passed c (feed list r) list
+  unanswered : {after : Bytes} {c n m : ℕ} → c ≡ code → after ≡ passed c (memory-at job work rows at) work → Store job after n → listed job after n ≡ passed c (feed (listed job work rows) (record-at job at)) (listed job work rows)
       → origins after n ≡ passed c (origins-at job work rows at) (origins work rows) → passed c (answers-at job work answers rows answered at) [] ≡ []
-      → m ≡ passed c (repeat-of list r) 0 → Turned job work answers rows answered at after answers (turn c answered n m)
+      → m ≡ passed c (repeat-of (listed job work rows) (record-at job at)) 0 → Turned limits job work answers rows answered at after answers (turn c answered n m)
   unanswered e w s l o a q = record {
     code-is = e ∙ fault-is;
     memory-is = w;
@@ -107,7 +108,7 @@ module _ {job work : Bytes} {rows at : ℕ} {item : Item} (g : Reading job work 
   }
 
   -- a code stops the job
-  pub stopped : (c : ℕ) → (c ≡ 0 → ⊥) → c ≡ code → Turned job work answers rows answered at work answers (turn c answered rows 0)
+  pub stopped : (c : ℕ) → (c ≡ 0 → ⊥) → c ≡ code → Turned limits job work answers rows answered at work answers (turn c answered rows 0)
   stopped zero h e = absurd (h refl)
   stopped (suc c) h e = unanswered e refl (g .store) refl refl refl refl
 
@@ -137,7 +138,7 @@ offered {job} {work} {rows} {at} {t} g e =
       says = g .says;
     }
 
-module _ {job work : Bytes} {rows at : ℕ} {t : Term} (g : Reading job work rows at (I.Term t)) (answers : Bytes) (answered : ℕ) where
+module _ (limits : Limits) {job work : Bytes} {rows at : ℕ} {t : Term} (g : Reading job work rows at (I.Term t)) (answers : Bytes) (answered : ℕ) where
   -- as many terms are kept as the code counts
   first-test : {b : Bool} → all-below (rows + first-terms) (arguments-of job t) ≡ b → all-below (length (listed job work rows)) (arguments-of job t) ≡ b
   first-test e =
@@ -146,11 +147,11 @@ module _ {job work : Bytes} {rows at : ℕ} {t : Term} (g : Reading job work row
       ap (λ (n : ℕ). all-below n (arguments-of job t)) same ∙ e
 
   -- an argument is not kept
-  pub not-below : all-below (rows + first-terms) (arguments-of job t) ≡ false → Turned job work answers rows answered at work answers (turn 6 answered rows 0)
-  not-below e = stopped g answers answered 6 (λ z. omega arith) (rw (first-test e))
+  pub not-below : all-below (rows + first-terms) (arguments-of job t) ≡ false → Turned limits job work answers rows answered at work answers (turn 6 answered rows 0)
+  not-below e = stopped limits g answers answered 6 (λ z. omega arith) (rw (first-test e))
 
   -- the origins after it, by whether it was there
-  term-origins : {after : Bytes} {a : Interned} → Taken job work after rows at t a → origins after (rows-after a rows) ≡ passed (code-of a) (origins-at job work rows at) (origins work rows)
+  term-origins : {after : Bytes} {a : Interned} → Taken limits job work after rows at t a → origins after (rows-after a rows) ≡ passed (code-of a) (origins-at job work rows at) (origins work rows)
   unfolding origins answer-for
   term-origins {after} {a} k = ap (λ (os : List ℕ). 0 ∷ 0 ∷ map suc os) (k .offsets-are) ∙ go a (k .answer-is)
     where
@@ -164,17 +165,17 @@ module _ {job work : Bytes} {rows at : ℕ} {t : Term} (g : Reading job work row
       snoc-map [] = refl
       snoc-map (o ∷ os) = ap (λ (xs : List ℕ). suc o ∷ xs) (snoc-map os)
 
-      go : (x : Interned) → x ≡ answer-for (well-sorted (term-of (listed job work rows) (op-of t) (arguments-of job t))) (has (listed job work rows) (record-at job at)) (room (length work) (listed job work rows)) rows
+      go : (x : Interned) → x ≡ answer-for (well-sorted (capped limits) (term-of (listed job work rows) (op-of t) (arguments-of job t))) (has (listed job work rows) (record-at job at)) (room (capped limits) (length work) (listed job work rows)) rows
           → 0 ∷ 0 ∷ map suc (offsets-after x at (offsets work rows)) ≡ passed (code-of x) (origins-at job work rows at) (origins work rows)
       go N.Unsorted e = refl
       go N.Spent e = refl
-      go (N.Found m) e = put-at true (found-was (well-sorted (term-of (listed job work rows) (op-of t) (arguments-of job t))) _ (room (length work) (listed job work rows)) rows m e)
+      go (N.Found m) e = put-at true (found-was (well-sorted (capped limits) (term-of (listed job work rows) (op-of t) (arguments-of job t))) _ (room (capped limits) (length work) (listed job work rows)) rows m e)
       go (N.New m) e =
           ap (λ (xs : List ℕ). 0 ∷ 0 ∷ xs) (snoc-map (offsets work rows))
-          ∙ put-at false (new-was (well-sorted (term-of (listed job work rows) (op-of t) (arguments-of job t))) _ (room (length work) (listed job work rows)) rows m e)
+          ∙ put-at false (new-was (well-sorted (capped limits) (term-of (listed job work rows) (op-of t) (arguments-of job t))) _ (room (capped limits) (length work) (listed job work rows)) rows m e)
 
   -- the work memory after it, by whether it was there
-  term-memory : {after : Bytes} {a : Interned} → Taken job work after rows at t a → after ≡ passed (code-of a) (memory-at job work rows at) work
+  term-memory : {after : Bytes} {a : Interned} → Taken limits job work after rows at t a → after ≡ passed (code-of a) (memory-at job work rows at) work
   unfolding answer-for
   term-memory {after} {a} k = k .memory-is ∙ go a (k .answer-is)
     where
@@ -183,34 +184,34 @@ module _ {job work : Bytes} {rows at : ℕ} {t : Term} (g : Reading job work row
       put-row b e =
           sym (ap (λ (x : Bool). cond x work (with-term job work rows at (tree-of (listed job work rows) (op-of t) (arguments-of job t)))) e) ∙ memory-same g answers answered
 
-      go : (x : Interned) → x ≡ answer-for (well-sorted (term-of (listed job work rows) (op-of t) (arguments-of job t))) (has (listed job work rows) (record-at job at)) (room (length work) (listed job work rows)) rows
+      go : (x : Interned) → x ≡ answer-for (well-sorted (capped limits) (term-of (listed job work rows) (op-of t) (arguments-of job t))) (has (listed job work rows) (record-at job at)) (room (capped limits) (length work) (listed job work rows)) rows
           → bytes-after x work (with-term job work rows at (tree-of (listed job work rows) (op-of t) (arguments-of job t))) ≡ passed (code-of x) (memory-at job work rows at) work
       go N.Unsorted e = refl
       go N.Spent e = refl
-      go (N.Found m) e = put-row true (found-was (well-sorted (term-of (listed job work rows) (op-of t) (arguments-of job t))) _ (room (length work) (listed job work rows)) rows m e)
-      go (N.New m) e = put-row false (new-was (well-sorted (term-of (listed job work rows) (op-of t) (arguments-of job t))) _ (room (length work) (listed job work rows)) rows m e)
+      go (N.Found m) e = put-row true (found-was (well-sorted (capped limits) (term-of (listed job work rows) (op-of t) (arguments-of job t))) _ (room (capped limits) (length work) (listed job work rows)) rows m e)
+      go (N.New m) e = put-row false (new-was (well-sorted (capped limits) (term-of (listed job work rows) (op-of t) (arguments-of job t))) _ (room (capped limits) (length work) (listed job work rows)) rows m e)
 
   -- a repeat, where it was there
-  term-repeats : {after : Bytes} {a : Interned} → Taken job work after rows at t a → repeats-in a ≡ passed (code-of a) (repeat-of (listed job work rows) (record-at job at)) 0
+  term-repeats : {after : Bytes} {a : Interned} → Taken limits job work after rows at t a → repeats-in a ≡ passed (code-of a) (repeat-of (listed job work rows) (record-at job at)) 0
   unfolding answer-for
   term-repeats {after} {a} k = go a (k .answer-is)
     where
       counts : (b : Bool) → has (listed job work rows) (record-at job at) ≡ b → cond b 1 0 ≡ repeat-of (listed job work rows) (record-at job at)
       counts b e = sym (ap (λ (x : Bool). cond x 1 0) e) ∙ repeats-are g answers answered
 
-      go : (x : Interned) → x ≡ answer-for (well-sorted (term-of (listed job work rows) (op-of t) (arguments-of job t))) (has (listed job work rows) (record-at job at)) (room (length work) (listed job work rows)) rows
+      go : (x : Interned) → x ≡ answer-for (well-sorted (capped limits) (term-of (listed job work rows) (op-of t) (arguments-of job t))) (has (listed job work rows) (record-at job at)) (room (capped limits) (length work) (listed job work rows)) rows
           → repeats-in x ≡ passed (code-of x) (repeat-of (listed job work rows) (record-at job at)) 0
       go N.Unsorted e = refl
       go N.Spent e = refl
-      go (N.Found m) e = counts true (found-was (well-sorted (term-of (listed job work rows) (op-of t) (arguments-of job t))) _ (room (length work) (listed job work rows)) rows m e)
-      go (N.New m) e = counts false (new-was (well-sorted (term-of (listed job work rows) (op-of t) (arguments-of job t))) _ (room (length work) (listed job work rows)) rows m e)
+      go (N.Found m) e = counts true (found-was (well-sorted (capped limits) (term-of (listed job work rows) (op-of t) (arguments-of job t))) _ (room (capped limits) (length work) (listed job work rows)) rows m e)
+      go (N.New m) e = counts false (new-was (well-sorted (capped limits) (term-of (listed job work rows) (op-of t) (arguments-of job t))) _ (room (capped limits) (length work) (listed job work rows)) rows m e)
 
   -- the term is offered to `intern`, whose answer says the rest
-  pub term-turned : {after : Bytes} {a : Interned} → all-below (rows + first-terms) (arguments-of job t) ≡ true → Taken job work after rows at t a
-      → {u : Turn} → u ≡ turn (code-of a) answered (rows-after a rows) (repeats-in a) → Turned job work answers rows answered at after answers u
+  pub term-turned : {after : Bytes} {a : Interned} → all-below (rows + first-terms) (arguments-of job t) ≡ true → Taken limits job work after rows at t a
+      → {u : Turn} → u ≡ turn (code-of a) answered (rows-after a rows) (repeats-in a) → Turned limits job work answers rows answered at after answers u
   term-turned {after} {a} e k d =
-      subst (Turned job work answers rows answered at after answers) (sym d)
-      (unanswered g answers answered (k .code-is ∙ rw (first-test e)) (term-memory k) (k .store) (k .listed-is ∙ by-code a) (term-origins k) (no-answers a) (term-repeats k))
+      subst (Turned limits job work answers rows answered at after answers) (sym d)
+      (unanswered limits g answers answered (k .code-is ∙ rw (first-test e)) (term-memory k) (k .store) (k .listed-is ∙ by-code a) (term-origins k) (no-answers a) (term-repeats k))
     where
       by-code : (x : Interned) → list-after x (listed job work rows) (record-at job at) ≡ passed (code-of x) (feed (listed job work rows) (record-at job at)) (listed job work rows)
       by-code N.Unsorted = refl
@@ -225,16 +226,16 @@ module _ {job work : Bytes} {rows at : ℕ} {t : Term} (g : Reading job work row
       no-answers (N.New m) = sym (answers-are g answers answered)
 
 -- ---- a back
-module _ {job work : Bytes} {rows at n : ℕ} (g : Reading job work rows at (I.Back n)) (answers : Bytes) (answered : ℕ) where
+module _ (limits : Limits) {job work : Bytes} {rows at n : ℕ} (g : Reading job work rows at (I.Back n)) (answers : Bytes) (answered : ℕ) where
   -- its count is too low
-  pub back-low : n < first-terms → Turned job work answers rows answered at work answers (turn 18 answered rows 0)
-  back-low h = stopped g answers answered 18 (λ z. omega arith) (rw (lt-leb first-terms n h))
+  pub back-low : n < first-terms → Turned limits job work answers rows answered at work answers (turn 18 answered rows 0)
+  back-low h = stopped limits g answers answered 18 (λ z. omega arith) (rw (lt-leb first-terms n h))
 
   -- its count is too high
-  pub back-high : first-terms ≤ n → rows + first-terms < n → Turned job work answers rows answered at work answers (turn 18 answered rows 0)
+  pub back-high : first-terms ≤ n → rows + first-terms < n → Turned limits job work answers rows answered at work answers (turn 18 answered rows 0)
   back-high h k =
       let c = g .store .count in
-      stopped g answers answered 18 (λ z. omega arith) (rw (le-leb first-terms n h, lt-leb n (length (listed job work rows)) (omega arith)))
+      stopped limits g answers answered 18 (λ z. omega arith) (rw (le-leb first-terms n h, lt-leb n (length (listed job work rows)) (omega arith)))
 
   back-origins : {after : Bytes} → first-terms ≤ n → CutBack job work after rows n → origins after (n - first-terms) ≡ origins-at job work rows at
   unfolding origins
@@ -246,30 +247,30 @@ module _ {job work : Bytes} {rows at n : ℕ} (g : Reading job work rows at (I.B
 
   -- the list is cut back
   pub back-turned : {after : Bytes} → first-terms ≤ n → n ≤ rows + first-terms → CutBack job work after rows n
-      → Turned job work answers rows answered at after answers (turn 0 answered (n - first-terms) 0)
+      → Turned limits job work answers rows answered at after answers (turn 0 answered (n - first-terms) 0)
   back-turned h k b =
       let c = g .store .count in
-      unanswered g answers answered (rw (le-leb first-terms n h, le-leb n (length (listed job work rows)) (omega arith)))
+      unanswered limits g answers answered (rw (le-leb first-terms n h, le-leb n (length (listed job work rows)) (omega arith)))
       (b .memory-is ∙ memory-same g answers answered) (b .store)
       (b .listed-is ∙ feed-is g answers answered) (back-origins h b) (sym (answers-are g answers answered)) (repeats-are g answers answered)
 
 -- ---- a step
-module _ {job work : Bytes} {rows at rule : ℕ} {literals : Args} (g : Reading job work rows at (I.Step rule literals)) (answers : Bytes) (answered : ℕ) {c : ℕ}
+module _ (limits : Limits) {job work : Bytes} {rows at rule : ℕ} {literals : Args} (g : Reading job work rows at (I.Step rule literals)) (answers : Bytes) (answered : ℕ) {c : ℕ}
     (f : c ≡ first-fault (step-tests (rows + first-terms) (length answers) answered (is-some (rule-at rule)) (words-in job literals))) where
   -- as many terms are kept as the code counts
-  same-code : c ≡ code g answers answered
+  same-code : c ≡ code limits g answers answered
   same-code =
       let n = g .store .count in
       let e : rows + first-terms ≡ length (listed job work rows) = omega arith in
       f ∙ ap (λ (k : ℕ). first-fault (step-tests k (length answers) answered (is-some (rule-at rule)) (words-in job literals))) e
 
   -- a test fails
-  pub step-stopped : (c ≡ 0 → ⊥) → Turned job work answers rows answered at work answers (turn c answered rows 0)
-  step-stopped h = stopped g answers answered c h same-code
+  pub step-stopped : (c ≡ 0 → ⊥) → Turned limits job work answers rows answered at work answers (turn c answered rows 0)
+  step-stopped h = stopped limits g answers answered c h same-code
 
   -- all tests pass: the literals are kept, there is such a rule, and there is room for the answer
   pub step-right : c ≡ 0 → StepPassed (length answers) (listed job work rows) answered rule (words-in job literals)
-  step-right z = step-passed (length work) (length answers) (listed job work rows) answered (record-at job at) rule (words-in job literals) (sym same-code ∙ z)
+  step-right z = step-passed limits (length work) (length answers) (listed job work rows) answered (record-at job at) rule (words-in job literals) (sym same-code ∙ z)
 
   -- so they may be answered
   pub step-literals : c ≡ 0 → Literals job work rows literals × (is-some (rule-at rule) ≡ true)
@@ -286,15 +287,15 @@ module _ {job work : Bytes} {rows at rule : ℕ} {literals : Args} (g : Reading 
   -- its answer is written
   pub step-turned : c ≡ 0 → {reply : Reply} {after : Bytes}
       → ((by : Rule) → rule-at rule ≡ some by → given rule reply ≡ answer-to rule by (map (tree-at (listed job work rows)) (words-in job literals)))
-      → after ≡ with-notes answers answered at (given rule reply ∷ []) → {u : Turn} → u ≡ turn 0 (answered + 1) rows 0 → Turned job work answers rows answered at work after u
+      → after ≡ with-notes answers answered at (given rule reply ∷ []) → {u : Turn} → u ≡ turn 0 (answered + 1) rows 0 → Turned limits job work answers rows answered at work after u
   step-turned z {reply} {after} says wrote d =
       let p = step-right z in
       let one : answers-at job work answers rows answered at ≡ given rule reply ∷ []
       = sym (answers-are g answers answered) ∙ step-answer (length answers) (listed job work rows) answered rule (words-in job literals) p
       ∙ ap (λ (a : Answer). a ∷ []) (sym (says (p .rule) (p .rule-is))) in
-      subst (Turned job work answers rows answered at work after) (sym d)
+      subst (Turned limits job work answers rows answered at work after) (sym d)
       (record {
-        code-is = sym z ∙ same-code ∙ fault-is g answers answered;
+        code-is = sym z ∙ same-code ∙ fault-is limits g answers answered;
         memory-is = memory-same g answers answered;
         store = g .store;
         listed-is = feed-is g answers answered;
@@ -311,21 +312,21 @@ unfolding chain-verdict
 joined-depth by none t a = absurd (let z : _≡_ {A = ℕ} 0 1 = cc in omega arith)
 joined-depth by (some ts) t a = accepted-depth t (λ l r. form (collect (map sides ts)) (λ ps. cond (joins by ps l r) held wrong-form)) a
 
-module _ {job work : Bytes} {rows at rule literal : ℕ} {premises : Args} (g : Reading job work rows at (I.Chain rule premises literal)) (answers : Bytes) (answered : ℕ) {c : ℕ}
+module _ (limits : Limits) {job work : Bytes} {rows at rule literal : ℕ} {premises : Args} (g : Reading job work rows at (I.Chain rule premises literal)) (answers : Bytes) (answered : ℕ) {c : ℕ}
     (f : c ≡ first-fault (step-tests (rows + first-terms) (length answers) answered (is-some (chain-rule-at rule)) (literal ∷ []))) where
-  chain-code : c ≡ code g answers answered
+  chain-code : c ≡ code limits g answers answered
   chain-code =
       let n = g .store .count in
       let e : rows + first-terms ≡ length (listed job work rows) = omega arith in
       f ∙ ap (λ (k : ℕ). first-fault (step-tests k (length answers) answered (is-some (chain-rule-at rule)) (literal ∷ []))) e
 
   -- a test fails
-  pub chain-stopped : (c ≡ 0 → ⊥) → Turned job work answers rows answered at work answers (turn c answered rows 0)
-  chain-stopped h = stopped g answers answered c h chain-code
+  pub chain-stopped : (c ≡ 0 → ⊥) → Turned limits job work answers rows answered at work answers (turn c answered rows 0)
+  chain-stopped h = stopped limits g answers answered c h chain-code
 
   -- all tests pass
   pub chain-right : c ≡ 0 → ChainPassed (length answers) (listed job work rows) answered rule literal
-  chain-right z = chain-passed (length work) (length answers) (listed job work rows) answered (record-at job at) rule (words-in job premises) literal (sym chain-code ∙ z)
+  chain-right z = chain-passed limits (length work) (length answers) (listed job work rows) answered (record-at job at) rule (words-in job premises) literal (sym chain-code ∙ z)
 
   -- so its literal is kept
   pub chain-claimed : c ≡ 0 → Noted job work answers rows answered → Claimed job work answers rows answered premises literal
@@ -335,7 +336,7 @@ module _ {job work : Bytes} {rows at rule literal : ℕ} {premises : Args} (g : 
   pub chain-turned : c ≡ 0 → {v : Said} {reply : Reply} {after : Bytes}
       → ((by : ChainRule) → chain-rule-at rule ≡ some by → v ≡ joined by (premises-at (earlier-in job work answers rows answered) (listed job work rows) (words-in job premises)) (tree-at (listed job work rows) literal))
       → Judged v (tree-at (listed job work rows) literal) reply
-      → after ≡ with-notes answers answered at (given rule reply ∷ []) → {u : Turn} → u ≡ turn 0 (answered + 1) rows 0 → Turned job work answers rows answered at work after u
+      → after ≡ with-notes answers answered at (given rule reply ∷ []) → {u : Turn} → u ≡ turn 0 (answered + 1) rows 0 → Turned limits job work answers rows answered at work after u
   chain-turned z {v} {reply} {after} says j wrote d =
       let p = chain-right z in
       let q = premises-at (earlier-in job work answers rows answered) (listed job work rows) (words-in job premises) in
@@ -344,9 +345,9 @@ module _ {job work : Bytes} {rows at rule literal : ℕ} {premises : Args} (g : 
       let one : answers-at job work answers rows answered at ≡ given rule reply ∷ []
       = sym (answers-are g answers answered) ∙ chain-answer (earlier-in job work answers rows answered) (length answers) (listed job work rows) answered rule literal (words-in job premises) p
       ∙ ap (λ (a : Answer). a ∷ []) (sym (judged-is rule j (λ a. joined-depth (p .rule) q t (ap accepted (sym e) ∙ a)) ∙ ap (λ (w : Said). judged rule w t) e)) in
-      subst (Turned job work answers rows answered at work after) (sym d)
+      subst (Turned limits job work answers rows answered at work after) (sym d)
       (record {
-        code-is = sym z ∙ chain-code ∙ fault-is g answers answered;
+        code-is = sym z ∙ chain-code ∙ fault-is limits g answers answered;
         memory-is = memory-same g answers answered;
         store = g .store;
         listed-is = feed-is g answers answered;

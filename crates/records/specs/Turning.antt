@@ -4,6 +4,7 @@ use mathlib.Core.Bool.{true, cond}
 use mathlib.Core.List.{List, []}
 use Prim.Native.Nat.{ℕ, zero, suc, _+_}
 use lib.ListN.{length, drop}
+use Rattle.theory.specs.Limit.{Limits}
 use Rattle.theory.specs.Record.{Bytes, whole, read}
 use Rattle.theory.specs.Record as R
 use Rattle.theory.specs.Plain.{has, feed, repeat-of}
@@ -69,10 +70,10 @@ memory-item job work rows at R.misfit = work
 abbrev pub memory-at : Bytes → Bytes → ℕ → ℕ → Bytes
 memory-at job work rows at = memory-item job work rows at (read (record-at job at))
 
--- what became of the record at `at`, by theory's tests, plain list, repeats and answers; where a code stops the job, both memories stay as they were, and it
--- is no repeat
-pub record Turned (job work answers : Bytes) (rows answered at : ℕ) (work′ answers′ : Bytes) (t : Turn) : Type 0 where
-  pub code-is : t .code ≡ fault (length work) (length answers) (listed job work rows) answered (record-at job at)
+-- what became of the record at `at` under stated limits, by theory's tests, plain list, repeats and answers; where a code stops the job, both
+-- memories stay as they were, and it is no repeat
+pub record Turned (limits : Limits) (job work answers : Bytes) (rows answered at : ℕ) (work′ answers′ : Bytes) (t : Turn) : Type 0 where
+  pub code-is : t .code ≡ fault limits (length work) (length answers) (listed job work rows) answered (record-at job at)
   pub memory-is : work′ ≡ passed (t .code) (memory-at job work rows at) work
   pub store : Store job work′ (t .rows)
   pub listed-is : listed job work′ (t .rows) ≡ passed (t .code) (feed (listed job work rows) (record-at job at)) (listed job work rows)

@@ -5,6 +5,7 @@ ghost use mathlib.Core.List.{[], _∷_};
 ghost use Prim.Native.Nat.{suc, _+_, _*_, _≤_};
 ghost use lib.Dec.{leb};
 ghost use lib.ListN.{length, drop};
+ghost use Rattle.theory.specs.Limit as L;
 ghost use Rattle.theory.specs.Limit.{answer-bytes, first-terms, max-terms};
 ghost use Rattle.theory.specs.Optional.{is-some};
 ghost use Rattle.theory.specs.RuleTable.{rule-at, chain-rule-at};
@@ -12,12 +13,13 @@ ghost use Rattle.theory.specs.Record.{Bytes, whole};
 ghost use Rattle.theory.specs.Codes.{first-fault, step-tests};
 ghost use Rattle.terms.specs.declared.Item.the-variants as I;
 ghost use Rattle.terms.specs.Decoded.{Inside, words-in};
-ghost use Rattle.intern.specs.Interning.{code-of, rows-after};
+ghost use Rattle.intern.specs.Interning.{limits-of, code-of, rows-after};
 ghost use Rattle.steps.specs.Answering.{given, with-notes};
 ghost use Rattle.chains.specs.Premises.{Noted};
 ghost use Rattle.records.specs.Turning.{repeats-in, turn, Reading, Turned};
 use chains::chain_verdict;
 use intern::Interned;
+use intern::Limits;
 use intern::back;
 use intern::intern;
 use rows::FIRST_PLACE;
@@ -47,7 +49,7 @@ pub struct Turn {
     pub repeats: usize,
 }
 
-// The result for a term that `intern` was offered: 7 where it has no sort, 8 where there is no room for it.
+// The result for a term that `intern` was offered: 7 where it has no sort or is too wide, 8 where there is no room for it.
 fn kept_turn(kept: Interned, answered: usize, rows: usize) -> Turn
     ensures { λ r. ⌜ r ≡ turn (code-of kept) answered (rows-after kept rows) (repeats-in kept) ⌝ }
 {
@@ -79,17 +81,19 @@ fn kept_turn(kept: Interned, answered: usize, rows: usize) -> Turn
     }
 }
 
-// A term: 6 where an argument is not kept; else `intern` is offered it.
+// A term: 6 where an argument is not kept; else `intern` is offered it. No other record knows limits.
 fn term_record(
     job: &[u8],
     work: &mut [u8],
+    limits: Limits,
     rows: usize,
     answered: usize,
     at: usize,
     term: Term,
 ) -> Turn
     requires { ⌜ Reading (now job) (now work) rows at (I.Term term) ⌝ }
-    ensures { λ r. ⌜ ((answers : Bytes) → Turned (now (job .entry)) (now (work .entry)) answers rows answered at (now (work .exit)) answers r) ⌝ }
+    ensures { λ r. ⌜ ((answers : Bytes)
+        → Turned (limits-of limits) (now (job .entry)) (now (work .entry)) answers rows answered at (now (work .exit)) answers r) ⌝ }
 {
     if !term.below(job, (rows + FIRST_PLACE) as u32) {
         return Turn {
@@ -99,7 +103,7 @@ fn term_record(
             repeats: 0,
         };
     }
-    let kept = intern(job, work, rows, at, term);
+    let kept = intern(job, work, rows, limits, at, term);
     kept_turn(kept, answered, rows)
 }
 
@@ -172,7 +176,8 @@ fn step_record(
     literals: Args,
 ) -> Turn
     requires { ⌜ Reading (now job) (now work) rows at (I.Step rule literals) × (answer-bytes * answered ≤ length (now answers)) ⌝ }
-    ensures { λ r. ⌜ Turned (now (job .entry)) (now (work .entry)) (now (answers .entry)) rows answered at (now (work .entry)) (now (answers .exit)) r ⌝ }
+    ensures { λ r. ⌜ ((limits : L.Limits)
+        → Turned limits (now (job .entry)) (now (work .entry)) (now (answers .entry)) rows answered at (now (work .entry)) (now (answers .exit)) r) ⌝ }
 {
     let code = step_fault(job, rows, answered, answers.len(), rule, literals);
     if code != 0 {
@@ -217,7 +222,8 @@ fn chain_record(
     literal: u32,
 ) -> Turn
     requires { ⌜ Reading (now job) (now work) rows at (I.Chain rule premises literal) × Noted (now job) (now work) (now answers) rows answered ⌝ }
-    ensures { λ r. ⌜ Turned (now (job .entry)) (now (work .entry)) (now (answers .entry)) rows answered at (now (work .entry)) (now (answers .exit)) r ⌝ }
+    ensures { λ r. ⌜ ((limits : L.Limits)
+        → Turned limits (now (job .entry)) (now (work .entry)) (now (answers .entry)) rows answered at (now (work .entry)) (now (answers .exit)) r) ⌝ }
 {
     let code = chain_fault(rows, answered, answers.len(), rule, literal);
     if code != 0 {
@@ -243,7 +249,8 @@ fn back_record(
     count: u32,
 ) -> Turn
     requires { ⌜ Reading (now job) (now work) rows at (I.Back count) ⌝ }
-    ensures { λ r. ⌜ ((answers : Bytes) → Turned (now (job .entry)) (now (work .entry)) answers rows answered at (now (work .exit)) answers r) ⌝ }
+    ensures { λ r. ⌜ ((limits : L.Limits) (answers : Bytes)
+        → Turned limits (now (job .entry)) (now (work .entry)) answers rows answered at (now (work .exit)) answers r) ⌝ }
 {
     let n = count as usize;
     if n < FIRST_PLACE {
@@ -271,21 +278,23 @@ fn back_record(
     }
 }
 
-// The whole record at `at`: 4 where its kind is unknown, 5 where its body has not the kind's length.
+// The whole record at `at`, under limits that the caller states: 4 where its kind is unknown, 5 where its body has not the kind's length.
 pub fn take_record(
     job: &[u8],
     work: &mut [u8],
     answers: &mut [u8],
+    limits: Limits,
     rows: usize,
     answered: usize,
     at: usize,
 ) -> Turn
     requires { ⌜ Noted (now job) (now work) (now answers) rows answered × (whole (drop at (now job)) ≡ true) ⌝ }
-    ensures { λ r. ⌜ Turned (now (job .entry)) (now (work .entry)) (now (answers .entry)) rows answered at (now (work .exit)) (now (answers .exit)) r ⌝ }
+    ensures { λ r. ⌜ Turned (limits-of limits) (now (job .entry)) (now (work .entry)) (now (answers .entry)) rows answered at
+        (now (work .exit)) (now (answers .exit)) r ⌝ }
 {
     let item = Term::read(job, at);
     match item {
-        Item::Term(t) => term_record(job, work, rows, answered, at, t),
+        Item::Term(t) => term_record(job, work, limits, rows, answered, at, t),
         Item::Step(rule, literals) => step_record(
             job,
             work,

@@ -7,6 +7,7 @@ use Prim.Native.Nat.{ℕ, zero, suc, _<_}
 use native.Mathlib.Omega.{arith}
 use lib.Dec.{T, eqb, eqb→eq}
 use lib.ListN.{length}
+use Rattle.theory.specs.Limit.{rack}
 use Rattle.theory.specs.Term.{Term}
 use Rattle.theory.specs.Record.{Bytes}
 use Rattle.theory.specs.Plain.{Plain, at-place}
@@ -31,10 +32,10 @@ asked-cases false q t e = absurd (none-some t e)
 
 module _ (job : Bytes) (work space number : ℕ) (t : Term) (e : asked job work space number ≡ some t) where
   pub asked-at : at-place (final job work space) number ≡ some t
-  asked-at = asked-cases (eqb (run job work space .stop) 0) (at-place (final job work space) number) t e .1
+  asked-at = asked-cases (eqb (run rack job work space .stop) 0) (at-place (final job work space) number) t e .1
 
   pub asked-place : Stands (final job work space) number t
   asked-place = stands-at (final job work space) number t asked-at
 
-  pub asked-end : run job work space .stop ≡ 0
-  asked-end = eqb→eq (run job work space .stop) 0 (asked-cases (eqb (run job work space .stop) 0) (at-place (final job work space) number) t e .0)
+  pub asked-end : run rack job work space .stop ≡ 0
+  asked-end = eqb→eq (run rack job work space .stop) 0 (asked-cases (eqb (run rack job work space .stop) 0) (at-place (final job work space) number) t e .0)

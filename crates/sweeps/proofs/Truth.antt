@@ -17,6 +17,7 @@ use Rattle.theory.specs.Optional.{either}
 use Rattle.theory.specs.Record.{Bytes}
 use Rattle.theory.specs.Plain.{Plain}
 use Rattle.theory.specs.Codes.{first-fault}
+use Rattle.theory.specs.Limit.{rack}
 use Rattle.theory.specs.Job.{run}
 use Rattle.theory.proofs.Basics.{taken as passed}
 use Rattle.theory.proofs.Demand.{terms-are-sorted}
@@ -213,10 +214,10 @@ true-bits job bytes work space lent place inputs output t e c ρ f =
     (subst (λ (bs : Bytes). AllTrue (map of-byte bs) (value-bits (value ρ t))) (sym (d .1))
     (subst (λ (ks : List Known). AllTrue ks (value-bits (value ρ t))) (sym (codes-back (known (input-of (variables list t) inputs) t)))
     (known-true ρ (input-of (variables list t) inputs) t
-    (subst (λ (x : Term). T (good (sort-of x))) (p .is) (good-at list place (terms-are-sorted job work space) (p .low)))
+    (subst (λ (x : Term). T (good (sort-of x))) (p .is) (good-at list place (terms-are-sorted rack job work space) (p .low)))
     (known-passed list t lent inputs output (d .0))
     (λ u v s.
-    let q = placed list (plain-well job bytes work space (run job work space .records) (omega arith)) (λ j. Unit {0}) (λ i h l z j m. tt) place (p .low) tt u
+    let q = placed list (plain-well rack job bytes work space (run rack job work space .records) (omega arith)) (λ j. Unit {0}) (λ i h l z j m. tt) place (p .low) tt u
     (subst (λ (x : Term). T (stands u x)) (sym (p .is)) s) in
     fits-input list t u (q .place) (omega (arith, q .low, p .low)) (q .is) v s inputs ρ f))))
 

@@ -1,8 +1,8 @@
 -- Laws of adding a record.
 use mathlib.Core.Path.{_≡_, refl, sym, ap, _∙_, subst}
-use mathlib.Core.Bool.{Bool, true, false, not, _&&_, _||_, and-false, cond}
+use mathlib.Core.Bool.{Bool, true, false, not, _&&_, _||_, and-false, and-true, cond}
 use mathlib.Core.List.{List, [], _∷_}
-use Prim.Native.Nat.{ℕ, suc, _+_, _*_, _-_, _≤_, _<_}
+use Prim.Native.Nat.{ℕ, suc, _+_, _*_, _-_, _≤_, _<_, min}
 use native.Mathlib.Omega.{arith}
 use lib.Dec.{eqb, leb, ltb}
 use lib.ListN.{drop, length, take}
@@ -35,25 +35,24 @@ free-below job work c x t q =
 
 -- ---- room for a row
 
-room-tests : (n len : ℕ) (a b : Bool) → leb (term-bytes * suc n) len ≡ a → ltb (2 + n) max-terms ≡ b → room-for n len ≡ (a && b)
-unfolding room-for
-room-tests n len a b p q = rw (p, q)
+module _ (limit n len : ℕ) where
+  -- the test of the memory, where there is a number
+  pub room-memory : {b : Bool} {m : ℕ} → b ≡ leb m len → m ≡ term-bytes * suc n → n < max-rows → 2 + n < limit → b ≡ room-for limit n len
+  unfolding room-for
+  room-memory e same h k =
+      e ∙ ap (λ (m : ℕ). leb m len) same ∙ sym (ap (λ (b : Bool). leb (term-bytes * suc n) len && b) (lt-ltb (2 + n) (min limit max-terms) (omega arith)) ∙ and-true (leb (term-bytes * suc n) len))
 
-pub room-yes : (n len : ℕ) → n < max-rows → n * term-bytes + term-bytes ≤ len → room-for n len ≡ true
-room-yes n len h k = room-tests n len true true (le-leb (term-bytes * suc n) len (omega arith)) (lt-ltb (2 + n) max-terms (omega arith))
+  -- too many terms already
+  pub room-numbers : min limit max-terms ≤ 2 + n → false ≡ room-for limit n len
+  unfolding room-for
+  room-numbers h = sym (ap (λ (b : Bool). leb (term-bytes * suc n) len && b) (le-ltb (2 + n) (min limit max-terms) h) ∙ and-false (leb (term-bytes * suc n) len))
 
-pub room-numbers : (n len : ℕ) → max-rows ≤ n → room-for n len ≡ false
-room-numbers n len h = room-tests n len (leb (term-bytes * suc n) len) false refl (le-ltb (2 + n) max-terms (omega arith)) ∙ and-false (leb (term-bytes * suc n) len)
-
-pub room-memory : (n len : ℕ) → len < n * term-bytes + term-bytes → room-for n len ≡ false
-room-memory n len h = room-tests n len false (ltb (2 + n) max-terms) (lt-leb (term-bytes * suc n) len (omega arith)) refl
-
-room-true : (n len : ℕ) → room-for n len ≡ true → (n < max-rows) × (n * term-bytes + term-bytes ≤ len)
-unfolding room-for
-room-true n len e =
-    let a : 2 + n < max-terms = ltb-true (2 + n) max-terms (and-second (leb (term-bytes * suc n) len) (ltb (2 + n) max-terms) e) in
-    let b : term-bytes * suc n ≤ len = leb-true (term-bytes * suc n) len (and-first (leb (term-bytes * suc n) len) (ltb (2 + n) max-terms) e) in
-    (omega arith, omega arith)
+  pub room-true : room-for limit n len ≡ true → (n < max-rows) × (n * term-bytes + term-bytes ≤ len)
+  unfolding room-for
+  room-true e =
+      let a : 2 + n < min limit max-terms = ltb-true (2 + n) (min limit max-terms) (and-second (leb (term-bytes * suc n) len) (ltb (2 + n) (min limit max-terms)) e) in
+      let b : term-bytes * suc n ≤ len = leb-true (term-bytes * suc n) len (and-first (leb (term-bytes * suc n) len) (ltb (2 + n) (min limit max-terms)) e) in
+      (omega arith, omega arith)
 
 -- ---- the answer and the memory, by what the table has for the record
 
@@ -93,37 +92,37 @@ module _ (q : Seek) (room : Bool) (work : Bytes) (n offset depth width : ℕ) wh
 
 -- ---- the answer, by the list of kept records
 
-module _ (job work : Bytes) (n c : ℕ) (table : TableOf job work n c) (slot : room-for n (length work) ≡ true → n < c) (x : Bytes) where
+module _ (job work : Bytes) (n limit c : ℕ) (table : TableOf job work n c) (slot : room-for limit n (length work) ≡ true → n < c) (x : Bytes) where
   place-sought : (q : Seek) → seek-of job work c x ≡ q → place-of x (kept job work n) ≡ place-in q
   place-sought q e = sym (seek-is-place job work n c table x) ∙ ap place-in e
 
   spent-or-new : (q : Seek) → place-in q ≡ missing → seek-of job work c x ≡ q
-      → added-for x (kept job work n) (length work) ≡ cond (room-for n (length work)) (Added.New (2 + n)) Added.Spent
+      → added-for limit x (kept job work n) (length work) ≡ cond (room-for limit n (length work)) (Added.New (2 + n)) Added.Spent
   unfolding added-for
   spent-or-new q m e = rw (eq-eqb (place-of x (kept job work n)) missing (place-sought q e ∙ m), length-kept job work n)
 
-  answer-full : (room : Bool) → room-for n (length work) ≡ room → seek-of job work c x ≡ Seek.Full
+  answer-full : (room : Bool) → room-for limit n (length work) ≡ room → seek-of job work c x ≡ Seek.Full
       → Added.Spent ≡ cond room (Added.New (2 + n)) Added.Spent
   answer-full true f e = absurd (never-full job work n c table x (slot f) e)
   answer-full false f e = refl
 
-  found-is : (p : ℕ) → place-of x (kept job work n) ≡ p → (p ≡ missing → ⊥) → Added.Found p ≡ added-for x (kept job work n) (length work)
+  found-is : (p : ℕ) → place-of x (kept job work n) ≡ p → (p ≡ missing → ⊥) → Added.Found p ≡ added-for limit x (kept job work n) (length work)
   unfolding added-for
   found-is p r f = rw (r, ne-eqb p missing f)
 
-  answer-is : (q : Seek) → seek-of job work c x ≡ q → answer-for q (room-for n (length work)) n ≡ added-for x (kept job work n) (length work)
+  answer-is : (q : Seek) → seek-of job work c x ≡ q → answer-for q (room-for limit n (length work)) n ≡ added-for limit x (kept job work n) (length work)
   unfolding answer-for place-in
   answer-is (Seek.At p) e =
       let small : p ≤ n + 1 = seek-is-at job work c x n p (table .slots .low) e in
       let few : n ≤ max-rows = table .slots .rows .few in
       found-is p (place-sought (Seek.At p) e) (λ m. omega arith)
   answer-is (Seek.Free t) e = sym (spent-or-new (Seek.Free t) refl e)
-  answer-is Seek.Full e = answer-full (room-for n (length work)) refl e ∙ sym (spent-or-new Seek.Full refl e)
+  answer-is Seek.Full e = answer-full (room-for limit n (length work)) refl e ∙ sym (spent-or-new Seek.Full refl e)
 
 -- its code
-code-for : (x : Bytes) (rows : List Bytes) (len : ℕ) → added-code (added-for x rows len) ≡ first-fault ((is-kept x rows || room-for (length rows) len, 8) ∷ [])
+code-for : (limit : ℕ) (x : Bytes) (rows : List Bytes) (len : ℕ) → added-code (added-for limit x rows len) ≡ first-fault ((is-kept x rows || room-for limit (length rows) len, 8) ∷ [])
 unfolding added-for is-kept
-code-for x rows len = go (eqb (place-of x rows) missing) (room-for (length rows) len)
+code-for limit x rows len = go (eqb (place-of x rows) missing) (room-for limit (length rows) len)
   where
     go : (a b : Bool) → added-code (cond a (cond b (Added.New (first-terms + length rows)) Added.Spent) (Added.Found (place-of x rows))) ≡ first-fault ((not a || b, 8) ∷ [])
     go true true = refl
@@ -132,14 +131,14 @@ code-for x rows len = go (eqb (place-of x rows) missing) (room-for (length rows)
 
 -- ---- what the work memory keeps then
 
-module _ (job work : Bytes) (n c at depth width : ℕ) (table : TableOf job work n c) (count : c ≡ slot-count (length work))
+module _ (job work : Bytes) (n limit c at depth width : ℕ) (table : TableOf job work n c) (count : c ≡ slot-count (length work))
     (inside : at + extent (drop at job) ≤ length job) (deep : depth < number-end) (wide : width < 256) where
   small : at < 16777216
   small = omega (arith, table .slots .rows .short)
 
-  slot : room-for n (length work) ≡ true → n < c
+  slot : room-for limit n (length work) ≡ true → n < c
   slot e =
-      let r : (n < max-rows) × (n * term-bytes + term-bytes ≤ length work) = room-true n (length work) e in
+      let r : (n < max-rows) × (n * term-bytes + term-bytes ≤ length work) = room-true limit n (length work) e in
       rw count (slot-count-more n (length work) (omega arith) (r .1))
 
   -- a memory of the same length has the same slots
@@ -151,15 +150,15 @@ module _ (job work : Bytes) (n c at depth width : ℕ) (table : TableOf job work
   unfolding placed-row with-row
   placed t e = sym (ap (λ (q : Seek). placed-row q work n at depth width) (ap (λ (i : ℕ). seek-of job work i (record-at job at)) (sym count) ∙ e))
 
-  code-is : {r : Added} → r ≡ added-for (record-at job at) (kept job work n) (length work)
-      → added-code r ≡ first-fault ((is-kept (record-at job at) (kept job work n) || room-for n (length work), 8) ∷ [])
+  code-is : {r : Added} → r ≡ added-for limit (record-at job at) (kept job work n) (length work)
+      → added-code r ≡ first-fault ((is-kept (record-at job at) (kept job work n) || room-for limit n (length work), 8) ∷ [])
   code-is e =
-      ap added-code e ∙ code-for (record-at job at) (kept job work n) (length work)
-      ∙ ap (λ (k : ℕ). first-fault ((is-kept (record-at job at) (kept job work n) || room-for k (length work), 8) ∷ [])) (length-kept job work n)
+      ap added-code e ∙ code-for limit (record-at job at) (kept job work n) (length work)
+      ∙ ap (λ (k : ℕ). first-fault ((is-kept (record-at job at) (kept job work n) || room-for limit k (length work), 8) ∷ [])) (length-kept job work n)
 
   grown-same : (r : Added) → count-after r n ≡ n → memory-after r job work n at depth width ≡ work → list-after r (record-at job at) (kept job work n) ≡ kept job work n
       → list-after r at (offsets work n) ≡ offsets work n → list-after r depth (depths work n) ≡ depths work n → list-after r width (widths work n) ≡ widths work n
-      → r ≡ added-for (record-at job at) (kept job work n) (length work) → Grown job work work n at depth width r
+      → r ≡ added-for limit (record-at job at) (kept job work n) (length work) → Grown job work work n limit at depth width r
   grown-same r a m b o d e f = record {
     answer-is = f;
     code-is = code-is f;
@@ -171,12 +170,12 @@ module _ (job work : Bytes) (n c at depth width : ℕ) (table : TableOf job work
     widths-are = rw (a, e);
   }
 
-  grown-free : (t : ℕ) → seek-of job work c (record-at job at) ≡ Seek.Free t → (room : Bool) → room-for n (length work) ≡ room
-      → cond room (Added.New (2 + n)) Added.Spent ≡ added-for (record-at job at) (kept job work n) (length work)
-      → Grown job work (cond room (added-row work n t at depth width) work) n at depth width (cond room (Added.New (2 + n)) Added.Spent)
+  grown-free : (t : ℕ) → seek-of job work c (record-at job at) ≡ Seek.Free t → (room : Bool) → room-for limit n (length work) ≡ room
+      → cond room (Added.New (2 + n)) Added.Spent ≡ added-for limit (record-at job at) (kept job work n) (length work)
+      → Grown job work (cond room (added-row work n t at depth width) work) n limit at depth width (cond room (Added.New (2 + n)) Added.Spent)
   unfolding count-after list-after memory-after
   grown-free t e true f g =
-      let r : (n < max-rows) × (n * term-bytes + term-bytes ≤ length work) = room-true n (length work) f in
+      let r : (n < max-rows) × (n * term-bytes + term-bytes ≤ length work) = room-true limit n (length work) f in
       record {
         answer-is = g;
         code-is = code-is g;
@@ -191,18 +190,18 @@ module _ (job work : Bytes) (n c at depth width : ℕ) (table : TableOf job work
   grown-free t e false f g = grown-same Added.Spent refl refl refl refl refl refl g
 
   grown-is : (q : Seek) → seek-of job work c (record-at job at) ≡ q
-      → answer-for q (room-for n (length work)) n ≡ added-for (record-at job at) (kept job work n) (length work)
-      → Grown job work (memory-for q (room-for n (length work)) work n at depth width) n at depth width (answer-for q (room-for n (length work)) n)
+      → answer-for q (room-for limit n (length work)) n ≡ added-for limit (record-at job at) (kept job work n) (length work)
+      → Grown job work (memory-for q (room-for limit n (length work)) work n at depth width) n limit at depth width (answer-for q (room-for limit n (length work)) n)
   unfolding memory-for answer-for count-after list-after memory-after
   grown-is (Seek.At p) e g = grown-same (Added.Found p) refl refl refl refl refl refl g
-  grown-is (Seek.Free t) e g = grown-free t e (room-for n (length work)) refl g
+  grown-is (Seek.Free t) e g = grown-free t e (room-for limit n (length work)) refl g
   grown-is Seek.Full e g = grown-same Added.Spent refl refl refl refl refl refl g
 
   -- from what the table says of a record to what callers are promised
   pub grown : {r : Added} {after : Bytes}
-      → (r ≡ answer-for (seek-of job work c (record-at job at)) (room-for n (length work)) n)
-      × (after ≡ memory-for (seek-of job work c (record-at job at)) (room-for n (length work)) work n at depth width)
-      → Grown job work after n at depth width r
+      → (r ≡ answer-for (seek-of job work c (record-at job at)) (room-for limit n (length work)) n)
+      × (after ≡ memory-for (seek-of job work c (record-at job at)) (room-for limit n (length work)) work n at depth width)
+      → Grown job work after n limit at depth width r
   grown {r} {after} p =
       rw (p .0, p .1)
-      (grown-is (seek-of job work c (record-at job at)) refl (answer-is job work n c table slot (record-at job at) (seek-of job work c (record-at job at)) refl))
+      (grown-is (seek-of job work c (record-at job at)) refl (answer-is job work n limit c table slot (record-at job at) (seek-of job work c (record-at job at)) refl))

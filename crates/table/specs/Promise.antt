@@ -2,7 +2,7 @@
 use mathlib.Core.Path.{_≡_}
 use mathlib.Core.Bool.{Bool, not, _&&_, _||_, cond}
 use mathlib.Core.List.{List, [], _∷_, _++_}
-use Prim.Native.Nat.{ℕ, suc, _+_, _-_, _*_, _≤_}
+use Prim.Native.Nat.{ℕ, suc, _+_, _-_, _*_, _≤_, min}
 use lib.ListN.{length, take, replicate}
 use lib.Dec.{eqb, ltb, leb}
 use Rattle.theory.specs.Limit.{term-bytes, first-terms, max-terms, max-job}
@@ -18,19 +18,20 @@ use Rattle.table.specs.declared.kept.Added.{Added}
 use Rattle.table.specs.declared.kept.Added.the-variants.{Found, New, Spent}
 
 -- ---- adding a record
--- there is memory and a place for one row more than n
-unfoldable pub room-for : ℕ → ℕ → Bool
-room-for n len = leb (term-bytes * suc n) len && ltb (first-terms + n) max-terms
+-- there is memory and a place for one row more than n; the terms may be as many as the limit says, and no more than the rack's
+unfoldable pub room-for : ℕ → ℕ → ℕ → Bool
+room-for limit n len = leb (term-bytes * suc n) len && ltb (first-terms + n) (min limit max-terms)
 
 -- a record that equals x is kept
 unfoldable pub is-kept : Bytes → List Bytes → Bool
 is-kept x rows = not (eqb (place-of x rows) missing)
 
--- the answer to record x where `rows` are kept in len bytes: the place of the kept record that equals it, or the place after the last, or that
--- there is no room
-unfoldable pub added-for : Bytes → List Bytes → ℕ → Added
-added-for x rows len =
-    cond (eqb (place-of x rows) missing) (cond (room-for (length rows) len) (New (first-terms + length rows)) Spent) (Found (place-of x rows))
+-- the answer to record x under a limit of terms where `rows` are kept in len bytes: the place of the kept record that equals it, or the place after
+-- the last, or that there is no room
+unfoldable pub added-for : ℕ → Bytes → List Bytes → ℕ → Added
+added-for limit x rows len =
+    cond (eqb (place-of x rows) missing)
+    (cond (room-for limit (length rows) len) (New (first-terms + length rows)) Spent) (Found (place-of x rows))
 
 -- document 01's code of an answer: 8 where there is no room
 abbrev pub added-code : Added → ℕ
@@ -67,10 +68,10 @@ memory-after (Found p) job work n at depth width = work
 memory-after (New p) job work n at depth width = with-row job work n at depth width
 memory-after Spent job work n at depth width = work
 
--- the record at `at` was added to n rows, with a depth and a width: the answer, the work memory then, and what it keeps
-pub record Grown (job work after : Bytes) (n at depth width : ℕ) (answer : Added) : Type 0 where
-  pub answer-is : answer ≡ added-for (record-at job at) (kept job work n) (length work)
-  pub code-is : added-code answer ≡ first-fault ((is-kept (record-at job at) (kept job work n) || room-for n (length work), 8) ∷ [])
+-- the record at `at` was added to n rows under a limit of terms, with a depth and a width: the answer, the work memory then, and what is kept
+pub record Grown (job work after : Bytes) (n limit at depth width : ℕ) (answer : Added) : Type 0 where
+  pub answer-is : answer ≡ added-for limit (record-at job at) (kept job work n) (length work)
+  pub code-is : added-code answer ≡ first-fault ((is-kept (record-at job at) (kept job work n) || room-for limit n (length work), 8) ∷ [])
   pub memory-is : after ≡ memory-after answer job work n at depth width
   pub table : Table job after (count-after answer n)
   pub kept-is : kept job after (count-after answer n) ≡ list-after answer (record-at job at) (kept job work n)

@@ -4,10 +4,10 @@ ghost use Prim.Native.Nat.{_+_, _*_, _≤_, _<_};
 ghost use lib.ListN.{length, drop};
 ghost use Rattle.theory.specs.Limit.{term-bytes};
 ghost use Rattle.theory.specs.Record.{extent};
-ghost use Rattle.rows.specs.Layout.{number-end};
+ghost use Rattle.rows.specs.Layout.{number-end, max-rows};
 ghost use Rattle.rows.specs.Rows.{kept, place-of};
 ghost use Rattle.table.specs.Slots.{Table, TableOf, added-row, dropped-row};
-ghost use Rattle.table.specs.Promise.{Grown, Cut};
+ghost use Rattle.table.specs.Promise.{room-for, Grown, Cut};
 use super::slots::Seek;
 use super::slots::first_slot;
 use super::slots::holder;
@@ -49,10 +49,33 @@ pub enum Added {
     Spent,
 }
 
-// Adds the record that stands at `at` in the job to n kept ones, with its depth and width, unless one of them equals it.
-pub fn add(job: &[u8], work: &mut [u8], n: usize, at: usize, depth: usize, width: usize) -> Added
+// Is there memory and a place for one row more than n, where there may be `limit` terms?
+fn has_room(n: usize, limit: usize, len: usize) -> bool
+    requires { ⌜ n ≤ max-rows ⌝ }
+    ensures { λ r. ⌜ r ≡ room-for limit n len ⌝ }
+{
+    if MAX_ROWS <= n {
+        return false;
+    }
+    if limit <= n + FIRST_PLACE {
+        return false;
+    }
+    n * ROW_BYTES + ROW_BYTES <= len
+}
+
+// Adds the record that stands at `at` in the job to n kept ones, with its depth and width, unless one of them equals it. There may be `limit`
+// terms; above the rack's limit it is the rack's.
+pub fn add(
+    job: &[u8],
+    work: &mut [u8],
+    n: usize,
+    limit: usize,
+    at: usize,
+    depth: usize,
+    width: usize,
+) -> Added
     requires { ⌜ Table (now job) (now work) n × (at + extent (drop at (now job)) ≤ length (now job)) × (depth < number-end) × (width < 256) ⌝ }
-    ensures { λ r. ⌜ Grown (now (job .entry)) (now (work .entry)) (now (work .exit)) n at depth width r ⌝ }
+    ensures { λ r. ⌜ Grown (now (job .entry)) (now (work .entry)) (now (work .exit)) n limit at depth width r ⌝ }
 {
     let end = at + number(job, at) + Term::NUMBER_BYTES;
     let c = slot_count(work.len());
@@ -61,10 +84,7 @@ pub fn add(job: &[u8], work: &mut [u8], n: usize, at: usize, depth: usize, width
         Seek::At(place) => Added::Found(place),
         Seek::Full => Added::Spent,
         Seek::Free(slot) => {
-            if MAX_ROWS <= n {
-                return Added::Spent;
-            }
-            if work.len() < n * ROW_BYTES + ROW_BYTES {
+            if !has_room(n, limit, work.len()) {
                 return Added::Spent;
             }
             add_row(work, n, slot, at, depth, width);

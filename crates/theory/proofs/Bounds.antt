@@ -7,7 +7,7 @@ use native.Mathlib.Omega.{arith}
 use lib.Dec.{T, leb, ltb, eqb, ltb→lt, leb→le}
 use lib.Ieee.Fits.{and-l, and-r}
 use lib.ListN.{length, take, length-append, length-take}
-use Rattle.theory.specs.Limit.{max-terms, first-terms, term-bytes, answer-bytes}
+use Rattle.theory.specs.Limit.{Limits, capped, first-terms, term-bytes, answer-bytes}
 use Rattle.theory.specs.Kind.{Op, True, False, kind}
 use Rattle.theory.specs.Term.{Term, node, nil, from-list}
 use Rattle.theory.specs.Sort.{Sort, first, sorts-of}
@@ -23,21 +23,21 @@ use Rattle.theory.proofs.Run.{step-passed, chain-passed, fed, ran, plai
 use Rattle.theory.proofs.Distinct.{WellKept, tree-0, tree-1, kept-at, plain-well}
 
 -- ---- the memories
-pub record TermsFit (work : ℕ) (list : Plain) : Type 0 where
+pub record TermsFit (limits : Limits) (work : ℕ) (list : Plain) : Type 0 where
   pub first-there : first-terms ≤ length list
   pub terms-fit : term-bytes * (length list - first-terms) ≤ work
-  pub numbers-fit : length list ≤ max-terms
+  pub numbers-fit : length list ≤ max first-terms (capped limits .terms)
 
-feed-fits : (work space : ℕ) (list : Plain) (answered : ℕ) (r : Bytes) → fault work space list answered r ≡ 0 → TermsFit work list → TermsFit work (feed list r)
-feed-fits work space list answered r e f =
+feed-fits : (limits : Limits) (work space : ℕ) (list : Plain) (answered : ℕ) (r : Bytes) → fault limits work space list answered r ≡ 0 → TermsFit limits work list → TermsFit limits work (feed list r)
+feed-fits limits work space list answered r e f =
     let a = f .first-there in
     let b = f .terms-fit in
     let c = f .numbers-fit in
-    fed (TermsFit work) work space list answered r e f
+    fed (TermsFit limits work) limits work space list answered r e f
     (λ o ks d p n.
-    let t = or-not (has list r) (room work list) (p .roomy) n in
+    let t = or-not (has list r) (room (capped limits) work list) (p .roomy) n in
     let u = leb→le (term-bytes * (suc (length list) - first-terms)) work (and-l (leb (term-bytes * (suc (length list) - first-terms)) work) _ t) in
-    let v = ltb→lt (length list) max-terms (and-r (leb (term-bytes * (suc (length list) - first-terms)) work) _ t) in
+    let v = ltb→lt (length list) (capped limits .terms) (and-r (leb (term-bytes * (suc (length list) - first-terms)) work) _ t) in
     let l : length (list ++ (entry (tree-of list o ks) r ∷ [])) ≡ length list + 1 = length-append list (entry (tree-of list o ks) r ∷ []) in
     record { first-there = omega arith; terms-fit = omega arith; numbers-fit = omega arith })
     (λ n h k.
@@ -45,38 +45,38 @@ feed-fits work space list answered r e f =
     record { first-there = omega arith; terms-fit = omega arith; numbers-fit = omega arith })
 
 -- one more step has room for its answer
-step-fits : (work space : ℕ) (list : Plain) (answered : ℕ) (r : Bytes) → fault work space list answered r ≡ 0 → answer-bytes * answered ≤ space
+step-fits : (limits : Limits) (work space : ℕ) (list : Plain) (answered : ℕ) (r : Bytes) → fault limits work space list answered r ≡ 0 → answer-bytes * answered ≤ space
     → answer-bytes * (answered + cond (is-step (read r)) 1 0) ≤ space
 unfolding fault
-step-fits work space list answered r e f = go (read r) e
+step-fits limits work space list answered r e f = go (read r) e
   where
-    go : (i : Item) → first-fault (tests work space list answered r i) ≡ 0 → answer-bytes * (answered + cond (is-step i) 1 0) ≤ space
-    go (step n ks) d = let p = step-passed work space list answered r n ks d .roomy in omega arith
-    go (chain n ps k) d = let p = chain-passed work space list answered r n ps k d .roomy in omega arith
+    go : (i : Item) → first-fault (tests limits work space list answered r i) ≡ 0 → answer-bytes * (answered + cond (is-step i) 1 0) ≤ space
+    go (step n ks) d = let p = step-passed limits work space list answered r n ks d .roomy in omega arith
+    go (chain n ps k) d = let p = chain-passed limits work space list answered r n ps k d .roomy in omega arith
     go (term o ks) d = omega arith
     go (back n) d = omega arith
     go unknown d = omega arith
     go misfit d = omega arith
 
-module _ (job : Bytes) (work space : ℕ) where
-  pub terms-fit : (m : ℕ) → m ≤ run job work space .records → TermsFit work (plain-after m job)
+module _ (limits : Limits) (job : Bytes) (work space : ℕ) where
+  pub terms-fit : (m : ℕ) → m ≤ run limits job work space .records → TermsFit limits work (plain-after m job)
   terms-fit =
-      plain-ind job work space (λ m. TermsFit work (plain-after m job)) (record { first-there = omega arith; terms-fit = omega arith; numbers-fit = omega arith })
-      (λ m r l e p f. subst (TermsFit work) (sym (plain-next job work space m r e)) (feed-fits work space (plain-after m job) (step-count (take m (records-of job))) r p f))
+      plain-ind limits job work space (λ m. TermsFit limits work (plain-after m job)) (record { first-there = omega arith; terms-fit = omega arith; numbers-fit = omega arith })
+      (λ m r l e p f. subst (TermsFit limits work) (sym (plain-next limits job work space m r e)) (feed-fits limits work space (plain-after m job) (step-count (take m (records-of job))) r p f))
 
-  answers-fit : (m : ℕ) → m ≤ run job work space .records → answer-bytes * step-count (take m (records-of job)) ≤ space
+  answers-fit : (m : ℕ) → m ≤ run limits job work space .records → answer-bytes * step-count (take m (records-of job)) ≤ space
   answers-fit =
-      plain-ind job work space (λ m. answer-bytes * step-count (take m (records-of job)) ≤ space) (omega arith)
-      (λ m r l e p f. subst (λ (k : ℕ). answer-bytes * k ≤ space) (sym (count-next job work space m r e)) (step-fits work space (plain-after m job) (step-count (take m (records-of job))) r p f))
+      plain-ind limits job work space (λ m. answer-bytes * step-count (take m (records-of job)) ≤ space) (omega arith)
+      (λ m r l e p f. subst (λ (k : ℕ). answer-bytes * k ≤ space) (sym (count-next limits job work space m r e)) (step-fits limits work space (plain-after m job) (step-count (take m (records-of job))) r p f))
 
 pub run-fits : LentEnough
-run-fits job work space =
-    let o = run job work space in
-    let h = ran job work space in
-    let t = terms-fit job work space (o .records) (omega arith) in
+run-fits limits job work space =
+    let o = run limits job work space in
+    let h = ran limits job work space in
+    let t = terms-fit limits job work space (o .records) (omega arith) in
     let e = h .terms-are in
     record {
-      answers-fit = subst (λ (n : ℕ). answer-bytes * n ≤ space) (sym (h .answers-are)) (answers-fit job work space (o .records) (omega arith));
+      answers-fit = subst (λ (n : ℕ). answer-bytes * n ≤ space) (sym (h .answers-are)) (answers-fit limits job work space (o .records) (omega arith));
       terms-fit = let x = t .terms-fit in omega arith;
       numbers-fit = let y = t .numbers-fit in omega arith;
     }
@@ -120,6 +120,6 @@ module _ (list : Plain) (w : WellKept list) where
       subst (λ (x : Term). depth x ≤ suc (suc j)) (sym (k .made)) (let q = term-depth list (k .op) (k .args) in omega arith)
 
 -- in a job of bytes a depth is at most the term's place, so it fits into two bytes
-pub depth-fits : (job : Bytes) → AllBytes job → (work space m i : ℕ) → m ≤ run job work space .records
+pub depth-fits : (limits : Limits) (job : Bytes) → AllBytes job → (work space m i : ℕ) → m ≤ run limits job work space .records
     → i < length (plain-after m job) → depth (tree-at (plain-after m job) i) ≤ i
-depth-fits job b work space m i l h = place-depth (plain-after m job) (plain-well job b work space m l) (suc i) i (omega arith) h
+depth-fits limits job b work space m i l h = place-depth (plain-after m job) (plain-well limits job b work space m l) (suc i) i (omega arith) h

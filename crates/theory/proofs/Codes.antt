@@ -6,7 +6,7 @@ use Prim.Native.Nat.{ℕ, _<_}
 use native.Mathlib.Omega.{arith}
 use lib.Dec.{T, leb, leb→le}
 use lib.ListN.{length}
-use Rattle.theory.specs.Limit.{max-job}
+use Rattle.theory.specs.Limit.{Limits, max-job}
 use Rattle.theory.specs.Term.{Term}
 use Rattle.theory.specs.Verdict.{Verdict, held, form-only, not-one-literal, wrong-form, not-bit-vector, not-constant, bit-not-literal, other-value, terms-differ, index-not-next, premise-broken, code-of}
 use Rattle.theory.specs.RuleTable.{Rule}
@@ -47,18 +47,18 @@ code-known {list = list} (to-step n rule ks f b) = answer-code n rule (map (tree
 code-known {earlier = earlier} {list = list} (to-chain n rule ps k f b) = verdict-code (joined rule (premises-at earlier list ps) (tree-at list k))
 
 pub answer-codes-are : AnswerCodes
-answer-codes-are job work space k a e =
-    code-known (ran job work space .exact-answers k a e .is)
+answer-codes-are limits job work space k a e =
+    code-known (ran limits job work space .exact-answers k a e .is)
 
 -- ---- stops
 pub stop-codes-are : StopCodes
-stop-codes-are job work space = ran job work space .stop-known
+stop-codes-are limits job work space = ran limits job work space .stop-known
 
 -- code 2: nothing is done, and the two first terms are kept
-pub too-long : (job : Bytes) (work space : ℕ) → max-job < length job → run job work space ≡ outcome 2 0 0 [] start
+pub too-long : (limits : Limits) (job : Bytes) (work space : ℕ) → max-job < length job → run limits job work space ≡ outcome 2 0 0 [] start
 unfolding run
-too-long job work space h =
-    go (leb (length job) max-job) (λ t. omega (arith, leb→le (length job) max-job t)) (run-from work space (ending job) 0 0 [] start [] (records-of job))
+too-long limits job work space h =
+    go (leb (length job) max-job) (λ t. omega (arith, leb→le (length job) max-job t)) (run-from limits work space (ending job) 0 0 [] start [] (records-of job))
   where
     go : (b : Bool) → (T b → ⊥) → (x : Outcome) → elim b as (λ z. Outcome) [ true ↦ x | false ↦ outcome 2 0 0 [] start ] ≡ outcome 2 0 0 [] start
     go true f x = absurd (f tt)

@@ -6,6 +6,7 @@ use mathlib.Core.Option.{some}
 use Prim.Native.Nat.{ℕ, _<_}
 use native.Mathlib.Omega.{arith}
 use lib.ListN.{length, getElem?}
+use Rattle.theory.specs.Limit.{Limits}
 use Rattle.theory.specs.Kind.{Equals}
 use Rattle.theory.specs.Term.{two}
 use Rattle.theory.specs.Value.{Assign, truth, value}
@@ -20,21 +21,21 @@ use Rattle.theory.proofs.Rules.{literal-holds}
 use Rattle.theory.proofs.Run.{AllGood, Answered, ran}
 use Rattle.theory.proofs.Premises.{answer-holds, premises-valid}
 
-module _ (job : Bytes) (work space : ℕ) where
+module _ (limits : Limits) (job : Bytes) (work space : ℕ) where
   abbrev done : ℕ
-  done = run job work space .records
+  done = run limits job work space .records
 
-  reached : (m : ℕ) (r : Bytes) → m < done → getElem? (records-of job) m ≡ some r → Reached job work space m r
+  reached : (m : ℕ) (r : Bytes) → m < done → getElem? (records-of job) m ≡ some r → Reached limits job work space m r
   reached m r l e = record {
-    short = ran job work space .short m l;
+    short = ran limits job work space .short m l;
     stands = e;
-    passes = λ i s h f. ran job work space .all-passed i s (omega arith) f;
+    passes = λ i s h f. ran limits job work space .all-passed i s (omega arith) f;
   }
 
-  answers-of : (k : ℕ) (a : Answer) → Answered job work space done k a → Answers job work space done k a
+  answers-of : (k : ℕ) (a : Answer) → Answered limits job work space done k a → Answers limits job work space done k a
   answers-of k a h =
       let l = h .m-done in
-      let v = premises-valid job work space (h .m) (omega arith) in
+      let v = premises-valid limits job work space (h .m) (omega arith) in
       let p = answer-holds (earlier-after (h .m) job) (plain-after (h .m) job) (v .1) (v .0) (h .is) in
       record {
         m = h .m;
@@ -47,18 +48,18 @@ module _ (job : Bytes) (work space : ℕ) where
         held = p .2;
       }
 
-  pub demand-3 : Demand3 job work space done (run job work space .answers)
+  pub demand-3 : Demand3 limits job work space done (run limits job work space .answers)
   demand-3 = record {
-    counted = ran job work space .answers-are;
-    each = λ k a e. answers-of k a (ran job work space .exact-answers k a e);
+    counted = ran limits job work space .answers-are;
+    each = λ k a e. answers-of k a (ran limits job work space .exact-answers k a e);
   }
 
   -- the terms that a run keeps are those of the plain list, and each has a sort
-  pub terms-are-plain : run job work space .terms ≡ length (plain-after done job)
-  terms-are-plain = ran job work space .terms-are
+  pub terms-are-plain : run limits job work space .terms ≡ length (plain-after done job)
+  terms-are-plain = ran limits job work space .terms-are
 
   pub terms-are-sorted : AllGood (plain-after done job)
-  terms-are-sorted = ran job work space .all-sorted
+  terms-are-sorted = ran limits job work space .all-sorted
 
 -- the literal of a held step is true under every assignment
 pub held-true : (list : Plain) (ks : List ℕ) (h : Held list ks) (ρ : Assign) → value ρ (two Equals (h .left) (h .right)) ≡ truth true

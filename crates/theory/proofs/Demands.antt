@@ -8,6 +8,7 @@ use native.Mathlib.Decide.{ℕ-discrete, decLe}
 use native.Mathlib.Omega.{arith}
 use lib.Dec.{T}
 use lib.ListN.{length, take, getD, getElem?}
+use Rattle.theory.specs.Limit.{Limits}
 use Rattle.theory.specs.Record.{Bytes, records-of, Item, step, chain, read, is-step, step-count}
 use Rattle.theory.specs.Plain.{Plain, plain-after}
 use Rattle.theory.specs.RuleTable.{Rule, rule-at, ChainRule, chain-rule-at}
@@ -70,16 +71,16 @@ to-that-chain {earlier} {list} n ps p (to-chain k rule qs q e b) d =
     place : {i j p q : ℕ} {is js : List ℕ} → chain i is p ≡ chain j js q → p ≡ q
     place e = cc
 
-module _ (job : Bytes) (work space : ℕ) where
+module _ (limits : Limits) (job : Bytes) (work space : ℕ) where
   -- demand 1: why the job stops
-  pub demand-1 : let o = run job work space in Stops job work space (o .stop) (o .records)
-  demand-1 = ran job work space .why
+  pub demand-1 : let o = run limits job work space in Stops limits job work space (o .stop) (o .records)
+  demand-1 = ran limits job work space .why
 
   -- a record that is reached is done
-  pub reached-done : (m : ℕ) (r : Bytes) → Reached job work space m r → m < run job work space .records
-  reached-done m r h = go (run job work space .stop) (run job work space .records) demand-1
+  pub reached-done : (m : ℕ) (r : Bytes) → Reached limits job work space m r → m < run limits job work space .records
+  reached-done m r h = go (run limits job work space .stop) (run limits job work space .records) demand-1
     where
-      go : (stop done : ℕ) → Stops job work space stop done → m < done
+      go : (stop done : ℕ) → Stops limits job work space stop done → m < done
       go stop done (too-long l) = absurd (let s = h .short in omega arith)
       go stop done (at-record {m = d} {code = c} {r = q} s e f p) = late (decLe (suc m) d)
         where
@@ -91,7 +92,7 @@ module _ (job : Bytes) (work space : ℕ) where
   -- one more step after record m
   step-more : (m : ℕ) (r : Bytes) → getElem? (records-of job) m ≡ some r → is-step (read r) ≡ true
       → step-count (take (suc m) (records-of job)) ≡ step-count (take m (records-of job)) + 1
-  step-more m r s e = count-next job work space m r s ∙ ap (λ (b : Bool). step-count (take m (records-of job)) + cond b 1 0) e
+  step-more m r s e = count-next limits job work space m r s ∙ ap (λ (b : Bool). step-count (take m (records-of job)) + cond b 1 0) e
 
   -- two steps with as many steps before them are one
   one-step : (i j : ℕ) (p q : Bytes) → getElem? (records-of job) i ≡ some p → getElem? (records-of job) j ≡ some q → is-step (read p) ≡ true → is-step (read q) ≡ true
@@ -104,11 +105,11 @@ module _ (job : Bytes) (work space : ℕ) where
       go (no z) (no w) = absurd (let u = step-more j q b d in let v = steps-grow (records-of job) (suc j) i (omega arith) in omega arith)
 
   -- a step of either kind that is reached has its answer
-  reply-at : (m : ℕ) (r : Bytes) → Reached job work space m r → is-step (read r) ≡ true
-      → (a : Answer) × (getElem? (run job work space .answers) (step-count (take m (records-of job))) ≡ some a) × AnswerOf (earlier-after m job) (plain-after m job) (read r) a
+  reply-at : (m : ℕ) (r : Bytes) → Reached limits job work space m r → is-step (read r) ≡ true
+      → (a : Answer) × (getElem? (run limits job work space .answers) (step-count (take m (records-of job))) ≡ some a) × AnswerOf (earlier-after m job) (plain-after m job) (read r) a
   reply-at m r h e =
-      let o = run job work space in
-      let w = ran job work space in
+      let o = run limits job work space in
+      let w = ran limits job work space in
       let k = step-count (take m (records-of job)) in
       let d : Answer = record { rule = 0; code = 0; depth = 0 } in
       let l = reached-done m r h in
@@ -122,7 +123,7 @@ module _ (job : Bytes) (work space : ℕ) where
       let b : g .bytes ≡ r = some-inj (g .bytes) r (sym (g .stands) ∙ ap (getElem? (records-of job)) q ∙ h .stands) in
       (a, f, subst₂ (λ (i : ℕ) (s : Bytes). AnswerOf (earlier-after i job) (plain-after i job) (read s) a) q b (g .is))
 
-  pub demand-2 : Demand2 job work space (run job work space .answers)
+  pub demand-2 : Demand2 limits job work space (run limits job work space .answers)
   demand-2 = record {
     steps = λ m r n ks h e.
         let g = reply-at m r h (ap is-step e) in

@@ -8,7 +8,7 @@ use native.Mathlib.Decide.{ℕ-discrete}
 use lib.Dec.{T, ltb, ltb→lt}
 use lib.Ieee.Fits.{and-l, and-r}
 use lib.ListN.{length, take, drop, getElem?, take-append-drop}
-use Rattle.theory.specs.Limit.{first-terms}
+use Rattle.theory.specs.Limit.{Limits, first-terms}
 use Rattle.theory.specs.Kind.{Op, True, False, kind}
 use Rattle.theory.specs.Term.{Term, node, nil, to-list, from-list, same-numbers}
 use Rattle.theory.specs.Record.{Bytes, AllBytes, records-of, term, read, step-count}
@@ -84,18 +84,18 @@ start-well = record {
   kept = λ i e p f. let l = getElem-lt start i e f in absurd (omega arith);
 }
 
-feed-well : (work space : ℕ) (list : Plain) (answered : ℕ) (r : Bytes) → fault work space list answered r ≡ 0 → Sound r → WellKept list → WellKept (feed list r)
-feed-well work space list answered r e s w =
-    fed WellKept work space list answered r e w
+feed-well : (limits : Limits) (work space : ℕ) (list : Plain) (answered : ℕ) (r : Bytes) → fault limits work space list answered r ≡ 0 → Sound r → WellKept list → WellKept (feed list r)
+feed-well limits work space list answered r e s w =
+    fed WellKept limits work space list answered r e w
     (λ o ks d p n. snoc-well list r o ks w s d (p .below) n) (λ n a b. take-well n list a b w)
 
-module _ (job : Bytes) (bytes : AllBytes job) (work space : ℕ) where
+module _ (limits : Limits) (job : Bytes) (bytes : AllBytes job) (work space : ℕ) where
   -- after m records done the list is well kept
-  pub plain-well : (m : ℕ) → m ≤ run job work space .records → WellKept (plain-after m job)
+  pub plain-well : (m : ℕ) → m ≤ run limits job work space .records → WellKept (plain-after m job)
   plain-well =
-      plain-ind job work space (λ m. WellKept (plain-after m job)) start-well
-      (λ m r l e p w. subst WellKept (sym (plain-next job work space m r e))
-      (feed-well work space (plain-after m job) (step-count (take m (records-of job))) r p (record-sound job bytes m r e) w))
+      plain-ind limits job work space (λ m. WellKept (plain-after m job)) start-well
+      (λ m r l e p w. subst WellKept (sym (plain-next limits job work space m r e))
+      (feed-well limits work space (plain-after m job) (step-count (take m (records-of job))) r p (record-sound job bytes m r e) w))
 
 -- ---- the terms of a well-kept list
 module _ (list : Plain) (w : WellKept list) where
@@ -172,8 +172,8 @@ module _ (list : Plain) (w : WellKept list) where
 
 -- all through a run
 pub one-number : OneNumber
-one-number job b work space m i j t l p q =
+one-number limits job b work space m i j t l p q =
     let list = plain-after m job in
     let x = term-there list i t p in
     let y = term-there list j t q in
-    trees-distinct list (plain-well job b work space m l) i j (x .0) (y .0) (x .1 ∙ sym (y .1))
+    trees-distinct list (plain-well limits job b work space m l) i j (x .0) (y .0) (x .1 ∙ sym (y .1))

@@ -22,7 +22,7 @@ abbrev by-outcome : Outcome → ℕ → Bytes → Call
 by-outcome o work answers = record { result = returned o; work-memory = replicate work 0; answer-memory = answers }
 
 pub nothing-kept : NothingKept
-nothing-kept job work work₂ old old₂ w o e =
-    let r = run job (length work) (length old) in
+nothing-kept limits job work work₂ old old₂ w o e =
+    let r = run limits job (length work) (length old) in
     ap (by-outcome r (length work)) (same-after (r .answers) old old₂ e)
-    ∙ ap₂ (λ (m n : ℕ). let s = run job m n in by-outcome s m (answers-after (s .answers) old₂)) w o
+    ∙ ap₂ (λ (m n : ℕ). let s = run limits job m n in by-outcome s m (answers-after (s .answers) old₂)) w o

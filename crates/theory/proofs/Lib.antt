@@ -45,6 +45,7 @@ pub mod Specimens
 pub mod Worked
 pub mod Computed
 pub mod Printed
+pub mod Limits
 pub mod ShutOut
 pub mod ShutOutHeld
 pub mod Demands

@@ -296,11 +296,11 @@ low-of {rule} of number list g (p ∷ q ∷ ks) ts e c =
     absurd (let z : answer-to number rule (h .0 ∷ k .0 ∷ k .1) .code ≡ 0 = subst (λ (us : List Term). answer-to number rule us .code ≡ 0) i c in omega arith)
 
 pub low-bits-held : LowBitsHeld
-low-bits-held job work space m r number places rule o a h e q of f c =
-    let s = demand-2 job work space .steps m r number places h e in
-    let l = reached-done job work space m r h in
+low-bits-held limits job work space m r number places rule o a h e q of f c =
+    let s = demand-2 limits job work space .steps m r number places h e in
+    let l = reached-done limits job work space m r h in
     let i : s .rule ≡ rule = some-inj (s .rule) rule (sym (s .rule-is) ∙ q) in
     let j : answer-to number (s .rule) (s .literals) ≡ a = some-inj (answer-to number (s .rule) (s .literals)) a (sym (s .answered) ∙ f) in
     let z : answer-to number rule (s .literals) .code ≡ 0 =
     ap (λ (t : Rule). answer-to number t (s .literals) .code) (sym i) ∙ ap (λ (b : Answer). b .code) j ∙ c in
-    low-of of number (plain-after m job) (sorted-after job work space m (omega arith)) places (s .literals) (s .literals-are) z
+    low-of of number (plain-after m job) (sorted-after limits job work space m (omega arith)) places (s .literals) (s .literals-are) z

@@ -10,6 +10,7 @@ use lib.Dec.{T, leb, ltb, eqb, ltb→lt, lt→ltb}
 use lib.Ieee.Fits.{and-l, and-i}
 use lib.ListN.{length, take, getElem?, length-append, length-take}
 use borrow.Author.Tests.{le-leb, lt-leb, lt-ltb, le-ltb}
+use Rattle.theory.specs.Limit.{Limits}
 use Rattle.theory.specs.Term.{Term}
 use Rattle.theory.specs.Record.{Bytes, Item, term, step, chain, back, unknown, misfit, read}
 use Rattle.theory.specs.Plain.{Entry, entry, Plain, start, has, put, feed-item, feed}
@@ -151,7 +152,7 @@ left-below n ks a p b e = go (eqb (a .code) 0) ks b e
     go true (j ∷ js) h d = subst (λ (x : ℕ). x < n) (some-inj j p d) (ltb→lt j n (and-l (ltb j n) _ h))
     go false js h d = absurd (none-some p d)
 
-module _ (work space answered at at′ : ℕ) (r : Bytes) (os : List ℕ) (marks : List Mark) (earlier : Earlier) (list : Plain)
+module _ (limits : Limits) (work space answered at at′ : ℕ) (r : Bytes) (os : List ℕ) (marks : List Mark) (earlier : Earlier) (list : Plain)
     (t : Tracks at os marks earlier list) (on : at < at′) where
   -- nothing changes
   tracks-same : Tracks at′ os marks earlier list
@@ -185,22 +186,22 @@ module _ (work space answered at at′ : ℕ) (r : Bytes) (os : List ℕ) (marks
         ∙ sym (all-snoc os marks (at, q));
   }
 
-  tracks-item : (i : Item) → first-fault (tests work space list answered r i) ≡ 0
+  tracks-item : (i : Item) → first-fault (tests limits work space list answered r i) ≡ 0
       → Tracks at′ (origins-item os list at r i) (marks-item marks at i (item-answers earlier list i)) (recall-item earlier i (item-answers earlier list i)) (feed-item list r i)
   tracks-item (term o ks) e =
       subst (λ (q : Option Term). Tracks at′ (cond (has list r) os (os ++ (suc at ∷ []))) marks earlier (put list r q))
-      (sym (term-of-is list o ks (term-passed work space list answered r o ks e .below))) (go (has list r))
+      (sym (term-of-is list o ks (term-passed limits work space list answered r o ks e .below))) (go (has list r))
     where
       go : (b : Bool) → Tracks at′ (cond b os (os ++ (suc at ∷ []))) marks earlier (cond b list (list ++ (entry (tree-of list o ks) r ∷ [])))
       go true = tracks-same
       go false = tracks-grown (entry (tree-of list o ks) r)
   tracks-item (step n ks) e =
-      let p = step-passed work space list answered r n ks e in
+      let p = step-passed limits work space list answered r n ks e in
       let a = answer-to n (p .rule) (map (tree-at list) ks) in
       subst (λ (new : List Answer). Tracks at′ os (marks ++ map (λ (a : Answer). (at, leaves ks a)) new) (earlier ++ map (leaves ks) new) list)
       (sym (step-answer space list answered n ks p)) (tracks-left (leaves ks a) (λ x. left-below (length list) ks a x (p .below)))
   tracks-item (chain n ps k) e =
-      let p = chain-passed work space list answered r n ps k e in
+      let p = chain-passed limits work space list answered r n ps k e in
       let a = judged n (joined (p .rule) (premises-at earlier list ps) (tree-at list k)) (tree-at list k) in
       subst (λ (new : List Answer). Tracks at′ os (marks ++ map (λ (a : Answer). (at, leaves (k ∷ []) a)) new) (earlier ++ map (leaves (k ∷ [])) new) list)
       (sym (chain-answer earlier space list answered n k ps p))
@@ -210,8 +211,8 @@ module _ (work space answered at at′ : ℕ) (r : Bytes) (os : List ℕ) (marks
   tracks-item misfit e = tracks-same
 
 -- one record that no code stops, at `at`, with the next one at `at′`
-pub tracks-next : (work space answered at at′ : ℕ) (r : Bytes) (os : List ℕ) (marks : List Mark) (earlier : Earlier) (list : Plain) → Tracks at os marks earlier list → at < at′
-    → fault work space list answered r ≡ 0
+pub tracks-next : (limits : Limits) (work space answered at at′ : ℕ) (r : Bytes) (os : List ℕ) (marks : List Mark) (earlier : Earlier) (list : Plain) → Tracks at os marks earlier list → at < at′
+    → fault limits work space list answered r ≡ 0
     → Tracks at′ (origins-item os list at r (read r)) (marks-item marks at (read r) (answers-to earlier list r)) (recall earlier list r) (feed list r)
 unfolding fault recall answers-to feed
-tracks-next work space answered at at′ r os marks earlier list t on e = tracks-item work space answered at at′ r os marks earlier list t on (read r) e
+tracks-next limits work space answered at at′ r os marks earlier list t on e = tracks-item limits work space answered at at′ r os marks earlier list t on (read r) e

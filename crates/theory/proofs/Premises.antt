@@ -8,6 +8,7 @@ use native.Mathlib.Omega.{arith}
 use lib.Dec.{T, ltb, eqb, ltb→lt, eqb→eq}
 use lib.Ieee.Fits.{and-l}
 use lib.ListN.{length, take, getElem?}
+use Rattle.theory.specs.Limit.{Limits}
 use Rattle.theory.specs.Kind.{Equals}
 use Rattle.theory.specs.Term.{Term, two}
 use Rattle.theory.specs.Optional.{either}
@@ -175,39 +176,39 @@ module _ (earlier : Earlier) (list : Plain) (g : AllGood list) (v : Valid earlie
           let h : Held list ks = subst (Held list) s (b .2 (z .0)) in
           subst (Held list) (first h (z .1)) h
 
-  valid-item : (work space answered : ℕ) (r : Bytes) (i : Item) → first-fault (tests work space list answered r i) ≡ 0
+  valid-item : (limits : Limits) (work space answered : ℕ) (r : Bytes) (i : Item) → first-fault (tests limits work space list answered r i) ≡ 0
       → Valid (recall-item earlier i (item-answers earlier list i)) (feed-item list r i)
-  valid-item work space answered r (term o ks) e =
-      subst (λ (q : Option Term). Valid earlier (put list r q)) (sym (term-of-is list o ks (term-passed work space list answered r o ks e .below)))
+  valid-item limits work space answered r (term o ks) e =
+      subst (λ (q : Option Term). Valid earlier (put list r q)) (sym (term-of-is list o ks (term-passed limits work space list answered r o ks e .below)))
       (put-cases (Valid earlier) list r (tree-of list o ks) v (λ n. valid-grown (entry (tree-of list o ks) r)))
-  valid-item work space answered r (step n ks) e =
-      let p = step-passed work space list answered r n ks e in
+  valid-item limits work space answered r (step n ks) e =
+      let p = step-passed limits work space list answered r n ks e in
       let a = answer-to n (p .rule) (map (tree-at list) ks) in
       subst (λ (new : List Answer). Valid (earlier ++ map (leaves ks) new) list) (sym (step-answer space list answered n ks p))
       (valid-more (step n ks) ks a (to-step n (p .rule) ks (p .rule-is) (p .below)) (ap (λ (m : ℕ). some (m, ks)) (sym (answer-rule n (p .rule) (map (tree-at list) ks)))))
-  valid-item work space answered r (chain n ps k) e =
-      let p = chain-passed work space list answered r n ps k e in
+  valid-item limits work space answered r (chain n ps k) e =
+      let p = chain-passed limits work space list answered r n ps k e in
       let a = judged n (joined (p .rule) (premises-at earlier list ps) (tree-at list k)) (tree-at list k) in
       subst (λ (new : List Answer). Valid (earlier ++ map (leaves (k ∷ [])) new) list) (sym (chain-answer earlier space list answered n k ps p))
       (valid-more (chain n ps k) (k ∷ []) a (to-chain n (p .rule) ps k (p .rule-is) (p .below)) refl)
-  valid-item work space answered r (back n) e = valid-cut n
-  valid-item work space answered r unknown e = v
-  valid-item work space answered r misfit e = v
+  valid-item limits work space answered r (back n) e = valid-cut n
+  valid-item limits work space answered r unknown e = v
+  valid-item limits work space answered r misfit e = v
 
-valid-next : (work space : ℕ) (earlier : Earlier) (list : Plain) (answered : ℕ) (r : Bytes) → fault work space list answered r ≡ 0 → AllGood list → Valid earlier list
+valid-next : (limits : Limits) (work space : ℕ) (earlier : Earlier) (list : Plain) (answered : ℕ) (r : Bytes) → fault limits work space list answered r ≡ 0 → AllGood list → Valid earlier list
     → Valid (recall earlier list r) (feed list r)
 unfolding fault recall answers-to feed
-valid-next work space earlier list answered r e g v = valid-item earlier list g v work space answered r (read r) e
+valid-next limits work space earlier list answered r e g v = valid-item earlier list g v limits work space answered r (read r) e
 
 -- all through a run
-module _ (job : Bytes) (work space : ℕ) where
-  pub premises-valid : (m : ℕ) → m ≤ run job work space .records → AllGood (plain-after m job) × Valid (earlier-after m job) (plain-after m job)
+module _ (limits : Limits) (job : Bytes) (work space : ℕ) where
+  pub premises-valid : (m : ℕ) → m ≤ run limits job work space .records → AllGood (plain-after m job) × Valid (earlier-after m job) (plain-after m job)
   premises-valid =
-      plain-ind job work space (λ m. AllGood (plain-after m job) × Valid (earlier-after m job) (plain-after m job)) (start-good, λ k p f. absurd (none-some (some p) f))
+      plain-ind limits job work space (λ m. AllGood (plain-after m job) × Valid (earlier-after m job) (plain-after m job)) (start-good, λ k p f. absurd (none-some (some p) f))
       (λ m r l e p w.
       let k = step-count (take m (records-of job)) in
       let list = plain-after m job in
-      let n = plain-next job work space m r e in (
-        subst AllGood (sym n) (feed-good work space list k r p (w .0)),
-        subst₂ Valid (sym (earlier-next job work space m r e)) (sym n) (valid-next work space (earlier-after m job) list k r p (w .0) (w .1)),
+      let n = plain-next limits job work space m r e in (
+        subst AllGood (sym n) (feed-good limits work space list k r p (w .0)),
+        subst₂ Valid (sym (earlier-next limits job work space m r e)) (sym n) (valid-next limits work space (earlier-after m job) list k r p (w .0) (w .1)),
       ))

@@ -10,7 +10,7 @@ use lib.Dec.{T, eqb, leb, ltb, leb→le}
 use lib.Ieee.Fits.{and-l, and-r}
 use lib.ListN.{length, take, getElem?, length-append, length-take, length-drop}
 use borrow.Author.Tests.{le-leb, lt-leb}
-use Rattle.theory.specs.Limit.{max-job}
+use Rattle.theory.specs.Limit.{Limits, max-job}
 use Rattle.theory.specs.Kind.{Op, kind, arity, takes}
 use Rattle.theory.specs.Term.{Term}
 use Rattle.theory.specs.Record.{Bytes, records-of, total-length, kind-of, body-of, fits, Shape, plain, indexed, twice-indexed, valued, front, make, shapes, find-shape, shape-of, Item, term, step, chain, back, unknown, misfit, read}
@@ -33,10 +33,10 @@ longer : (m n : ℕ) → m < n → _≡_ {A = ℕ} (cond (ltb m n) 1 0) 1
 longer m n h = ap (λ (b : Bool). cond b 1 0) (le-leb (suc m) n h)
 
 -- a record without a fault: a term is a repeat or puts an entry, and no other record does either
-pub one-of : (work space : ℕ) (list : Plain) (answered : ℕ) (r : Bytes) → fault work space list answered r ≡ 0
+pub one-of : (limits : Limits) (work space : ℕ) (list : Plain) (answered : ℕ) (r : Bytes) → fault limits work space list answered r ≡ 0
     → repeat-of list r + cond (ltb (length list) (length (feed list r))) 1 0 ≡ cond (is-term (read r)) 1 0
 unfolding repeat-of feed fault
-one-of work space list answered r e = go (read r) e
+one-of limits work space list answered r e = go (read r) e
   where
     by-has : (t : Term) (b : Bool) → cond b 1 0 + cond (ltb (length list) (length (cond b list (list ++ (entry t r ∷ []))))) 1 0 ≡ 1
     by-has t true = ap (λ (k : ℕ). 1 + k) (not-longer (length list) (length list) (omega arith))
@@ -45,11 +45,11 @@ one-of work space list answered r e = go (read r) e
     same : _≡_ {A = ℕ} (0 + cond (ltb (length list) (length list)) 1 0) 0
     same = ap (λ (k : ℕ). 0 + k) (not-longer (length list) (length list) (omega arith))
 
-    go : (i : Item) → first-fault (tests work space list answered r i) ≡ 0
+    go : (i : Item) → first-fault (tests limits work space list answered r i) ≡ 0
         → repeat-item list r i + cond (ltb (length list) (length (feed-item list r i))) 1 0 ≡ cond (is-term i) 1 0
     go (term o ks) f =
         subst (λ (q : Option Term). cond (has list r) 1 0 + cond (ltb (length list) (length (put list r q))) 1 0 ≡ 1)
-        (sym (term-of-is list o ks (term-passed work space list answered r o ks f .below))) (by-has (tree-of list o ks) (has list r))
+        (sym (term-of-is list o ks (term-passed limits work space list answered r o ks f .below))) (by-has (tree-of list o ks) (has list r))
     go (step n ks) f = same
     go (chain n ps k) f = same
     go (back n) f = let l = length-take n list in ap (λ (k : ℕ). 0 + k) (not-longer (length list) (length (take n list)) (omega arith))
@@ -66,31 +66,31 @@ terms-snoc : (rs : List Bytes) (r : Bytes) → term-count (rs ++ (r ∷ [])) ≡
 terms-snoc [] r = omega arith
 terms-snoc (s ∷ rs) r = let e = terms-snoc rs r in omega arith
 
-module _ (job : Bytes) (work space : ℕ) where
+module _ (limits : Limits) (job : Bytes) (work space : ℕ) where
   -- of the first m records
   abbrev Summed : List Bytes → Type 0
   Summed rs = repeats-from start rs + news-from start rs ≡ term-count rs
 
-  summed : (m : ℕ) → m ≤ run job work space .records → Summed (take m (records-of job))
-  summed = plain-ind job work space (λ m. Summed (take m (records-of job))) refl next
+  summed : (m : ℕ) → m ≤ run limits job work space .records → Summed (take m (records-of job))
+  summed = plain-ind limits job work space (λ m. Summed (take m (records-of job))) refl next
     where
-      next : (m : ℕ) (r : Bytes) → m < run job work space .records → getElem? (records-of job) m ≡ some r → Passes job work space m r
+      next : (m : ℕ) (r : Bytes) → m < run limits job work space .records → getElem? (records-of job) m ≡ some r → Passes limits job work space m r
           → Summed (take m (records-of job)) → Summed (take (suc m) (records-of job))
       next m r l e p h =
           let rs = take m (records-of job) in
           let a = repeats-snoc start rs r in
           let b = news-snoc start rs r in
           let c = terms-snoc rs r in
-          let o = one-of work space (plain-after m job) _ r p in
+          let o = one-of limits work space (plain-after m job) _ r p in
           let z : Summed (rs ++ (r ∷ [])) = omega arith in
-          subst Summed (sym (take-next job work space m r e)) z
+          subst Summed (sym (take-next limits job work space m r e)) z
 
 -- the claim
 pub repeats-hold : Repeats
-repeats-hold job work space =
-    let w = ran job work space .repeats-are in
-    let s = summed job work space (run job work space .records) (omega arith) in
-    ap (λ (k : ℕ). k + news-from start (take (run job work space .records) (records-of job))) w ∙ s
+repeats-hold limits job work space =
+    let w = ran limits job work space .repeats-are in
+    let s = summed limits job work space (run limits job work space .records) (omega arith) in
+    ap (λ (k : ℕ). k + news-from start (take (run limits job work space .records) (records-of job))) w ∙ s
 
 -- ---- how many there can be
 -- a shape without numbers of its own has an argument
@@ -164,10 +164,10 @@ total-take (suc m) [] = omega arith
 total-take (suc m) (r ∷ rs) = let h = total-take m rs in omega arith
 
 pub few-repeats : FewRepeats
-few-repeats job work space = go (run job work space .records) (ran job work space .repeats-are) (ran job work space .short)
+few-repeats limits job work space = go (run limits job work space .records) (ran limits job work space .repeats-are) (ran limits job work space .short)
   where
-    go : (done : ℕ) → run job work space .repeats ≡ repeats-from start (take done (records-of job)) → ((m : ℕ) → m < done → length job ≤ max-job)
-        → run job work space .repeats ≤ 2796202
+    go : (done : ℕ) → run limits job work space .repeats ≡ repeats-from start (take done (records-of job)) → ((m : ℕ) → m < done → length job ≤ max-job)
+        → run limits job work space .repeats ≤ 2796202
     go zero e s = omega arith
     go (suc m) e s =
         let a = repeats-long start (take (suc m) (records-of job)) in

@@ -13,10 +13,10 @@ use lib.Dec.{T, leb, ltb, leb→le, le→leb, ltb→lt}
 use lib.Ieee.Fits.{and-l, and-r}
 use lib.ListN.{length, take, getD, getElem?, length-append}
 use lib.Seq.{take-append-seam, take-suc}
-use Rattle.theory.specs.Limit.{max-job, first-terms, answer-bytes}
+use Rattle.theory.specs.Limit.{Limits, capped, max-job, first-terms, answer-bytes}
 use Rattle.theory.specs.Kind.{Op}
 use Rattle.theory.specs.Term.{Term, fold}
-use Rattle.theory.specs.Sort.{guard, good, sort-of}
+use Rattle.theory.specs.Sort.{guard, good, sort-width, sort-of}
 use Rattle.theory.specs.Optional.{is-some}
 use Rattle.theory.specs.RuleTable.{Rule, rule-at, ChainRule, chain-rule-at}
 use Rattle.theory.specs.Record.{Bytes, records-of, ending, Item, term, step, chain, back, unknown, misfit, read, is-step, step-count}
@@ -66,21 +66,24 @@ start-good = (tt, (tt, tt))
 
 -- ---- a record with no fault
 -- what its tests say
-pub record TermPassed (work : ℕ) (list : Plain) (r : Bytes) (o : Op) (ks : List ℕ) : Type 0 where
+pub record TermPassed (limits : Limits) (work : ℕ) (list : Plain) (r : Bytes) (o : Op) (ks : List ℕ) : Type 0 where
   pub below : T (all-below (length list) ks)
   pub sorted : T (good (sort-of (tree-of list o ks)))
-  pub roomy : T (has list r || room work list)
+  pub narrow : T (leb (sort-width (sort-of (tree-of list o ks))) (capped limits .width))
+  pub roomy : T (has list r || room (capped limits) work list)
 
-pub term-passed : (work space : ℕ) (list : Plain) (answered : ℕ) (r : Bytes) (o : Op) (ks : List ℕ)
-    → first-fault (tests work space list answered r (term o ks)) ≡ 0 → TermPassed work list r o ks
-term-passed work space list answered r o ks e =
-    let w = well-sorted (term-of list o ks) in
-    let m = has list r || room work list in
+pub term-passed : (limits : Limits) (work space : ℕ) (list : Plain) (answered : ℕ) (r : Bytes) (o : Op) (ks : List ℕ)
+    → first-fault (tests limits work space list answered r (term o ks)) ≡ 0 → TermPassed limits work list r o ks
+term-passed limits work space list answered r o ks e =
+    let w = well-sorted (capped limits) (term-of list o ks) in
+    let m = has list r || room (capped limits) work list in
     let a = taken (all-below (length list) ks) 5 (cond w (cond m 0 8) 7) e in
     let b = taken w 6 (cond m 0 8) (a .1) in
+    let fits = subst (λ (q : Option Term). T (well-sorted (capped limits) q)) (term-of-is list o ks (a .0)) (b .0) in
     record {
       below = a .0;
-      sorted = subst (λ (q : Option Term). T (well-sorted q)) (term-of-is list o ks (a .0)) (b .0);
+      sorted = and-l (good (sort-of (tree-of list o ks))) _ fits;
+      narrow = and-r (good (sort-of (tree-of list o ks))) _ fits;
       roomy = taken m 7 0 (b .1) .0;
     }
 
@@ -94,9 +97,9 @@ there : {A : Type 0} (q : Option A) → T (is-some q) → (a : A) × (q ≡ some
 there none h = absurd h
 there (some a) h = (a, refl)
 
-pub step-passed : (work space : ℕ) (list : Plain) (answered : ℕ) (r : Bytes) (n : ℕ) (ks : List ℕ)
-    → first-fault (tests work space list answered r (step n ks)) ≡ 0 → StepPassed space list answered n ks
-step-passed work space list answered r n ks e =
+pub step-passed : (limits : Limits) (work space : ℕ) (list : Plain) (answered : ℕ) (r : Bytes) (n : ℕ) (ks : List ℕ)
+    → first-fault (tests limits work space list answered r (step n ks)) ≡ 0 → StepPassed space list answered n ks
+step-passed limits work space list answered r n ks e =
     let m = leb (answer-bytes * suc answered) space in
     let a = taken (all-below (length list) ks) 5 (cond (is-some (rule-at n)) (cond m 0 19) 9) e in
     let b = taken (is-some (rule-at n)) 8 (cond m 0 19) (a .1) in
@@ -109,9 +112,9 @@ pub record ChainPassed (space : ℕ) (list : Plain) (answered n k : ℕ) : Type 
   pub rule-is : chain-rule-at n ≡ some rule
   pub roomy : answer-bytes * suc answered ≤ space
 
-pub chain-passed : (work space : ℕ) (list : Plain) (answered : ℕ) (r : Bytes) (n : ℕ) (ps : List ℕ) (k : ℕ)
-    → first-fault (tests work space list answered r (chain n ps k)) ≡ 0 → ChainPassed space list answered n k
-chain-passed work space list answered r n ps k e =
+pub chain-passed : (limits : Limits) (work space : ℕ) (list : Plain) (answered : ℕ) (r : Bytes) (n : ℕ) (ps : List ℕ) (k : ℕ)
+    → first-fault (tests limits work space list answered r (chain n ps k)) ≡ 0 → ChainPassed space list answered n k
+chain-passed limits work space list answered r n ps k e =
     let m = leb (answer-bytes * suc answered) space in
     let a = taken (all-below (length list) (k ∷ [])) 5 (cond (is-some (chain-rule-at n)) (cond m 0 19) 9) e in
     let b = taken (is-some (chain-rule-at n)) 8 (cond m 0 19) (a .1) in
@@ -155,15 +158,15 @@ put-cases P list r t old new = go (has list r) new
     go false f = f (λ z. z)
 
 -- what a record without a fault makes of the list: a property that a new term and a shorter list keep
-pub fed : (P : Plain → Type 0) (work space : ℕ) (list : Plain) (answered : ℕ) (r : Bytes) → fault work space list answered r ≡ 0 → P list
-    → ((o : Op) (ks : List ℕ) → read r ≡ term o ks → TermPassed work list r o ks → (T (has list r) → ⊥) → P (list ++ (entry (tree-of list o ks) r ∷ [])))
+pub fed : (P : Plain → Type 0) (limits : Limits) (work space : ℕ) (list : Plain) (answered : ℕ) (r : Bytes) → fault limits work space list answered r ≡ 0 → P list
+    → ((o : Op) (ks : List ℕ) → read r ≡ term o ks → TermPassed limits work list r o ks → (T (has list r) → ⊥) → P (list ++ (entry (tree-of list o ks) r ∷ [])))
     → ((n : ℕ) → first-terms ≤ n → n ≤ length list → P (take n list)) → P (feed list r)
 unfolding feed fault
-fed P work space list answered r e old new shorter = go (read r) e refl
+fed P limits work space list answered r e old new shorter = go (read r) e refl
   where
-    go : (i : Item) → first-fault (tests work space list answered r i) ≡ 0 → read r ≡ i → P (feed-item list r i)
+    go : (i : Item) → first-fault (tests limits work space list answered r i) ≡ 0 → read r ≡ i → P (feed-item list r i)
     go (term o ks) f d =
-        let p = term-passed work space list answered r o ks f in
+        let p = term-passed limits work space list answered r o ks f in
         subst (λ (q : Option Term). P (put list r q)) (sym (term-of-is list o ks (p .below)))
         (put-cases P list r (tree-of list o ks) old (new o ks d p))
     go (step n ks) f d = old
@@ -174,26 +177,26 @@ fed P work space list answered r e old new shorter = go (read r) e refl
     go unknown f d = old
     go misfit f d = old
 
-pub feed-good : (work space : ℕ) (list : Plain) (answered : ℕ) (r : Bytes) → fault work space list answered r ≡ 0 → AllGood list → AllGood (feed list r)
-feed-good work space list answered r e h =
-    fed AllGood work space list answered r e h
+pub feed-good : (limits : Limits) (work space : ℕ) (list : Plain) (answered : ℕ) (r : Bytes) → fault limits work space list answered r ≡ 0 → AllGood list → AllGood (feed list r)
+feed-good limits work space list answered r e h =
+    fed AllGood limits work space list answered r e h
     (λ o ks d p n. good-snoc list (entry (tree-of list o ks) r) h (p .sorted)) (λ n a b. good-take n list h)
 
 -- the answers to a record without a fault: one to a step, none to any other
-pub answers-cases : (P : List Answer → Type 0) (work space : ℕ) (earlier : Earlier) (list : Plain) (answered : ℕ) (r : Bytes) → fault work space list answered r ≡ 0
+pub answers-cases : (P : List Answer → Type 0) (limits : Limits) (work space : ℕ) (earlier : Earlier) (list : Plain) (answered : ℕ) (r : Bytes) → fault limits work space list answered r ≡ 0
     → ((a : Answer) → AnswerOf earlier list (read r) a → P (a ∷ []))
     → (is-step (read r) ≡ false → P []) → P (answers-to earlier list r)
 unfolding answers-to fault
-answers-cases P work space earlier list answered r e one other = go (read r) e refl
+answers-cases P limits work space earlier list answered r e one other = go (read r) e refl
   where
-    go : (i : Item) → first-fault (tests work space list answered r i) ≡ 0 → read r ≡ i → P (item-answers earlier list i)
+    go : (i : Item) → first-fault (tests limits work space list answered r i) ≡ 0 → read r ≡ i → P (item-answers earlier list i)
     go (step n ks) f d =
-        let p = step-passed work space list answered r n ks f in
+        let p = step-passed limits work space list answered r n ks f in
         let a = answer-to n (p .rule) (map (tree-at list) ks) in
         subst P (sym (step-answer space list answered n ks p))
         (one a (subst (λ (i : Item). AnswerOf earlier list i a) (sym d) (to-step n (p .rule) ks (p .rule-is) (p .below))))
     go (chain n ps k) f d =
-        let p = chain-passed work space list answered r n ps k f in
+        let p = chain-passed limits work space list answered r n ps k f in
         let a = judged n (joined (p .rule) (premises-at earlier list ps) (tree-at list k)) (tree-at list k) in
         subst P (sym (chain-answer earlier space list answered n k ps p))
         (one a (subst (λ (i : Item). AnswerOf earlier list i a) (sym d) (to-chain n (p .rule) ps k (p .rule-is) (p .below))))
@@ -213,7 +216,7 @@ pub repeats-snoc : (list : Plain) (rs : List Bytes) (r : Bytes) → repeats-from
 repeats-snoc list [] r = omega arith
 repeats-snoc list (s ∷ rs) r = let e = repeats-snoc (feed list s) rs r in omega arith
 
-module _ (job : Bytes) (work space : ℕ) where
+module _ (limits : Limits) (job : Bytes) (work space : ℕ) where
   -- answer k of the first `done` records is the answer to step k, from the plain list and the earlier steps just then
   pub record Answered (done k : ℕ) (a : Answer) : Type 0 where
     pub m : ℕ
@@ -226,7 +229,7 @@ module _ (job : Bytes) (work space : ℕ) where
 
   -- record m, which is r, has no fault
   abbrev pub Passes : ℕ → Bytes → Type 0
-  Passes m r = fault work space (plain-after m job) (step-count (take m (records-of job))) r ≡ 0
+  Passes m r = fault limits work space (plain-after m job) (step-count (take m (records-of job))) r ≡ 0
 
   -- after the records `pre`
   pub record Good (pre : List Bytes) (earlier : Earlier) (list : Plain) (answers : List Answer) : Type 0 where
@@ -251,7 +254,7 @@ module _ (job : Bytes) (work space : ℕ) where
       }
 
   module _ (pre : List Bytes) (earlier : Earlier) (list : Plain) (answers : List Answer) (r : Bytes) (rs : List Bytes)
-      (all : records-of job ≡ pre ++ (r ∷ rs)) (before : Good pre earlier list answers) (e : fault work space list (length answers) r ≡ 0) where
+      (all : records-of job ≡ pre ++ (r ∷ rs)) (before : Good pre earlier list answers) (e : fault limits work space list (length answers) r ≡ 0) where
     so-far : take (length pre) (records-of job) ≡ pre
     so-far = ap (take (length pre)) all ∙ take-append-seam pre (r ∷ rs)
 
@@ -268,7 +271,7 @@ module _ (job : Bytes) (work space : ℕ) where
     count-now = ap step-count so-far ∙ sym (before .counted)
 
     passes-now : Passes (length pre) r
-    passes-now = subst₂ (λ (l : Plain) (k : ℕ). fault work space l k r ≡ 0) plain-now (sym count-now) e
+    passes-now = subst₂ (λ (l : Plain) (k : ℕ). fault limits work space l k r ≡ 0) plain-now (sym count-now) e
 
     -- the step that comes now
     new-answer : (a : Answer) → AnswerOf earlier list (read r) a → Answered (suc (length pre)) (length answers) a
@@ -284,7 +287,7 @@ module _ (job : Bytes) (work space : ℕ) where
 
     after-exact : (k : ℕ) (a : Answer) → getElem? (answers ++ answers-to earlier list r) k ≡ some a → Answered (suc (length pre)) k a
     after-exact k a =
-        answers-cases (λ (new : List Answer). getElem? (answers ++ new) k ≡ some a → Answered (suc (length pre)) k a) work space earlier list (length answers) r e
+        answers-cases (λ (new : List Answer). getElem? (answers ++ new) k ≡ some a → Answered (suc (length pre)) k a) limits work space earlier list (length answers) r e
         (λ b p g. snoc-elim answers b k a g
         (λ h. later (length pre) (suc (length pre)) k a (omega arith) (before .exact k a h))
         (λ i j. subst₂ (Answered (suc (length pre))) (sym i) j (new-answer b p)))
@@ -293,7 +296,7 @@ module _ (job : Bytes) (work space : ℕ) where
 
     after-counted : length (answers ++ answers-to earlier list r) ≡ step-count (pre ++ (r ∷ []))
     after-counted =
-        answers-cases (λ (new : List Answer). length (answers ++ new) ≡ step-count (pre ++ (r ∷ []))) work space earlier list (length answers) r e
+        answers-cases (λ (new : List Answer). length (answers ++ new) ≡ step-count (pre ++ (r ∷ []))) limits work space earlier list (length answers) r e
         (λ b p. length-append answers (b ∷ []) ∙ ap₂ _+_ (before .counted) (ap (λ (x : Bool). cond x 1 0) (sym (answered-step p))) ∙ sym (step-count-append pre r))
         (λ d. length-append answers [] ∙ ap₂ _+_ (before .counted) (ap (λ (b : Bool). cond b 1 0) (sym d)) ∙ sym (step-count-append pre r))
 
@@ -310,7 +313,7 @@ module _ (job : Bytes) (work space : ℕ) where
         record {
           plain = ap (λ (p : Plain). feed p r) (before .plain) ∙ sym (foldl-append feed start pre (r ∷ []));
           recalled = ap₂ (λ (x : Earlier) (l : Plain). recall x l r) (before .recalled) (before .plain) ∙ sym (earlier-snoc [] start pre r);
-          sorted = feed-good work space list (length answers) r e (before .sorted);
+          sorted = feed-good limits work space list (length answers) r e (before .sorted);
           counted = after-counted;
           exact = λ k a f. subst (λ (n : ℕ). Answered n k a) (sym l) (after-exact k a f);
           passed = λ m s h f. after-passed m s (subst (λ (n : ℕ). m < n) l h) f;
@@ -327,10 +330,10 @@ module _ (job : Bytes) (work space : ℕ) where
     pub answers-are : length (o .answers) ≡ step-count (take (o .records) (records-of job))
     pub all-passed : (m : ℕ) (r : Bytes) → m < o .records → getElem? (records-of job) m ≡ some r → Passes m r
     pub exact-answers : (k : ℕ) (a : Answer) → getElem? (o .answers) k ≡ some a → Answered (o .records) k a
-    pub why : Stops job work space (o .stop) (o .records)
+    pub why : Stops limits job work space (o .stop) (o .records)
 
   stopped : (stop repeats : ℕ) (pre rs : List Bytes) → repeats ≡ repeats-from start pre → (earlier : Earlier) (list : Plain) (answers : List Answer) → records-of job ≡ pre ++ rs → Good pre earlier list answers
-      → ((m : ℕ) → m < length pre → length job ≤ max-job) → Stop stop → Stops job work space stop (length pre) → Ran (outcome stop (length pre) repeats answers list)
+      → ((m : ℕ) → m < length pre → length job ≤ max-job) → Stop stop → Stops limits job work space stop (length pre) → Ran (outcome stop (length pre) repeats answers list)
   stopped stop repeats pre rs n earlier list answers all g short code why =
       let t : take (length pre) (records-of job) ≡ pre = ap (take (length pre)) all ∙ take-append-seam pre rs in
       let p : list ≡ plain-after (length pre) job = g .plain ∙ ap (foldl feed start) (sym t) in
@@ -355,34 +358,34 @@ module _ (job : Bytes) (work space : ℕ) where
 
   -- why it stops at record r, or where none is left
   why-fault : (pre : List Bytes) (earlier : Earlier) (list : Plain) (answers : List Answer) (r : Bytes) (rs : List Bytes) → length job ≤ max-job → records-of job ≡ pre ++ (r ∷ rs)
-      → Good pre earlier list answers → (c : ℕ) → fault work space list (length answers) r ≡ suc c → Stops job work space (suc c) (length pre)
+      → Good pre earlier list answers → (c : ℕ) → fault limits work space list (length answers) r ≡ suc c → Stops limits job work space (suc c) (length pre)
   why-fault pre earlier list answers r rs short all g c e =
       let t : take (length pre) (records-of job) ≡ pre = ap (take (length pre)) all ∙ take-append-seam pre (r ∷ rs) in
       at-record short (ap (λ (l : List Bytes). getElem? l (length pre)) all ∙ getElem-seam pre r rs)
-      (subst₂ (λ (l : Plain) (k : ℕ). fault work space l k r ≡ suc c) (g .plain ∙ ap (foldl feed start) (sym t)) (g .counted ∙ ap step-count (sym t)) e)
+      (subst₂ (λ (l : Plain) (k : ℕ). fault limits work space l k r ≡ suc c) (g .plain ∙ ap (foldl feed start) (sym t)) (g .counted ∙ ap step-count (sym t)) e)
       (g .passed)
 
   why-end : (pre : List Bytes) (earlier : Earlier) (list : Plain) (answers : List Answer) → length job ≤ max-job → records-of job ≡ pre ++ [] → Good pre earlier list answers
-      → Stops job work space (ending job) (length pre)
+      → Stops limits job work space (ending job) (length pre)
   why-end pre earlier list answers short all g = at-end short (ap length (all ∙ append-nil pre)) (g .passed)
 
   module _ (short : length job ≤ max-job) where
     runs : (rs pre : List Bytes) (earlier : Earlier) (list : Plain) (answers : List Answer) (done repeats : ℕ) → done ≡ length pre → repeats ≡ repeats-from start pre → records-of job ≡ pre ++ rs → Good pre earlier list answers
-        → Ran (run-from work space (ending job) done repeats earlier list answers rs)
+        → Ran (run-from limits work space (ending job) done repeats earlier list answers rs)
     unfolding run-from
     runs [] pre earlier list answers done repeats d n all g =
         subst (λ (m : ℕ). Ran (outcome (ending job) m repeats answers list)) (sym d)
         (stopped (ending job) repeats pre [] n earlier list answers all g (λ m l. short) (ending-code job) (why-end pre earlier list answers short all g))
     runs (r ∷ rs) pre earlier list answers done repeats d n all g =
-        by-fault (fault work space list (length answers) r)
-        (run-from work space (ending job) (suc done) (repeats + repeat-of list r) (recall earlier list r) (feed list r) (answers ++ answers-to earlier list r) rs) (λ c. outcome (suc c) done repeats answers list)
+        by-fault (fault limits work space list (length answers) r)
+        (run-from limits work space (ending job) (suc done) (repeats + repeat-of list r) (recall earlier list r) (feed list r) (answers ++ answers-to earlier list r) rs) (λ c. outcome (suc c) done repeats answers list)
         (λ e. runs rs (pre ++ (r ∷ [])) (recall earlier list r) (feed list r) (answers ++ answers-to earlier list r) (suc done) (repeats + repeat-of list r)
         (ap suc d ∙ sym (length-append pre (r ∷ []) ∙ add-one (length pre)))
         (ap₂ (λ (k : ℕ) (l : Plain). k + repeat-of l r) n (g .plain) ∙ sym (repeats-snoc start pre r))
         (all ∙ sym (append-assoc pre (r ∷ []) rs))
         (next pre earlier list answers r rs all g e))
         (λ c e. subst (λ (m : ℕ). Ran (outcome (suc c) m repeats answers list)) (sym d)
-        (stopped (suc c) repeats pre (r ∷ rs) n earlier list answers all g (λ m l. short) (subst Stop e (fault-code work space list (length answers) r))
+        (stopped (suc c) repeats pre (r ∷ rs) n earlier list answers all g (λ m l. short) (subst Stop e (fault-code limits work space list (length answers) r))
         (why-fault pre earlier list answers r rs short all g c e)))
 
   good-start : Good [] [] start []
@@ -397,10 +400,10 @@ module _ (job : Bytes) (work space : ℕ) where
       longer (yes h) = h
       longer (no h) = absurd (subst T e (le→leb (length job) max-job (omega arith)))
 
-  pub ran : Ran (run job work space)
+  pub ran : Ran (run limits job work space)
   unfolding run
   ran =
-      by-length (leb (length job) max-job) refl (run-from work space (ending job) 0 0 [] start [] (records-of job)) (outcome 2 0 0 [] start)
+      by-length (leb (length job) max-job) refl (run-from limits work space (ending job) 0 0 [] start [] (records-of job)) (outcome 2 0 0 [] start)
       (λ s. runs s (records-of job) [] [] start [] 0 0 refl refl refl good-start)
       (λ h. stopped 2 0 [] (records-of job) refl [] start [] refl good-start (λ m l. absurd (omega arith)) tt (too-long h))
 
@@ -423,8 +426,8 @@ module _ (job : Bytes) (work space : ℕ) where
 
   -- a property that holds at the start and that every record without a fault keeps holds all through the run
   pub plain-ind : (P : ℕ → Type 0) → P 0
-      → ((m : ℕ) (r : Bytes) → m < run job work space .records → getElem? (records-of job) m ≡ some r → Passes m r → P m → P (suc m))
-      → (m : ℕ) → m ≤ run job work space .records → P m
+      → ((m : ℕ) (r : Bytes) → m < run limits job work space .records → getElem? (records-of job) m ≡ some r → Passes m r → P m → P (suc m))
+      → (m : ℕ) → m ≤ run limits job work space .records → P m
   plain-ind P base next zero l = base
   plain-ind P base next (suc m) l =
       let w = ran .within in
@@ -433,7 +436,7 @@ module _ (job : Bytes) (work space : ℕ) where
       next m r (omega arith) e (ran .all-passed m r (omega arith) e) (plain-ind P base next m (omega arith))
 
   -- so every term on the list has a sort
-  pub sorted-after : (m : ℕ) → m ≤ run job work space .records → AllGood (plain-after m job)
+  pub sorted-after : (m : ℕ) → m ≤ run limits job work space .records → AllGood (plain-after m job)
   sorted-after =
       plain-ind (λ m. AllGood (plain-after m job)) start-good
-      (λ m r l e p h. subst AllGood (sym (plain-next m r e)) (feed-good work space (plain-after m job) (step-count (take m (records-of job))) r p h))
+      (λ m r l e p h. subst AllGood (sym (plain-next m r e)) (feed-good limits work space (plain-after m job) (step-count (take m (records-of job))) r p h))

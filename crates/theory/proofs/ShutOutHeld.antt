@@ -7,6 +7,7 @@ use mathlib.Core.Option.{Option, none, some}
 use Prim.Native.Nat.{ℕ, zero, suc, _<_}
 use native.Mathlib.Omega.{arith}
 use lib.ListN.{getElem?}
+use Rattle.theory.specs.Limit.{rack}
 use Rattle.theory.specs.Kind.{True, False, Equals}
 use Rattle.theory.specs.Term.{Term, node, nil, two, fold}
 use Rattle.theory.specs.Value.{Assign, Val, truth, value, meaning}
@@ -56,7 +57,7 @@ at-step (suc zero) bytes n ks l s r h =
     not-held (subst (Held (plain-after 1 job)) (sym (literals-are n ks (ap (λ (b : Bytes). claim-of (read b)) (some-inj _ _ s) ∙ r))) h)
 at-step (suc (suc m)) bytes n ks l s r h = absurd (omega arith)
 
-pub shut-out-held : (a : Answer) → a .code ≡ 0 → Demand3 job 64 64 2 (a ∷ []) → ⊥
+pub shut-out-held : (a : Answer) → a .code ≡ 0 → Demand3 rack job 64 64 2 (a ∷ []) → ⊥
 shut-out-held a c d =
     let k = d .each 0 a refl in
     at-step (k .m) (k .bytes) (a .rule) (k .literals) (k .m-done) (k .reached .stands) (k .is-step) (k .held c)

@@ -8,6 +8,7 @@ use native.Mathlib.Omega.{arith}
 use native.Mathlib.Decide.{ℕ-discrete}
 use lib.ListN.{length, take, getElem?, length-append, length-map}
 use borrow.Author.Tests.{lt-ltb, eq-eqb}
+use Rattle.theory.specs.Limit.{Limits}
 use Rattle.theory.specs.Record.{Bytes, records-of, Item, term, step, chain, back, unknown, misfit, read, is-step, claim-of, step-count}
 use Rattle.theory.specs.Plain.{plain-after}
 use Rattle.theory.specs.Codes.{fault}
@@ -77,14 +78,14 @@ map-at f (x ∷ xs) (suc k) a e = map-at f xs k a e
 not-claimed : {c : ℕ × List ℕ} → none ≡ some c → ⊥
 not-claimed {c} e = none-some c e
 
-module _ (job : Bytes) (work space m : ℕ) (r : Bytes) (e : getElem? (records-of job) m ≡ some r) (t : Tells job m (earlier-after m job)) where
+module _ (limits : Limits) (job : Bytes) (work space m : ℕ) (r : Bytes) (e : getElem? (records-of job) m ≡ some r) (t : Tells job m (earlier-after m job)) where
   abbrev E : Earlier
   E = earlier-after m job
 
   -- no step and no back
   same-told : is-step (read r) ≡ false → claim-of (read r) ≡ none → ((n : ℕ) → read r ≡ back n → ⊥) → Tells job (suc m) E
   same-told a b c = record {
-    counted = t .counted ∙ sym (count-next job work space m r e ∙ ap (λ (x : Bool). step-count (take m (records-of job)) + cond x 1 0) a ∙ omega arith);
+    counted = t .counted ∙ sym (count-next limits job work space m r e ∙ ap (λ (x : Bool). step-count (take m (records-of job)) + cond x 1 0) a ∙ omega arith);
     only = λ k p f. more job m r e k p (λ n d. absurd (c n d)) (t .only k p f);
     all = λ k p h. t .all k p (less job m r e k p h (λ x. not-claimed (sym b ∙ ap (λ (s : Bytes). claim-of (read s)) (sym (same-bytes job m r e k p h x)) ∙ h .claims)));
   }
@@ -92,7 +93,7 @@ module _ (job : Bytes) (work space m : ℕ) (r : Bytes) (e : getElem? (records-o
   -- a back
   back-told : (n : ℕ) → read r ≡ back n → Tells job (suc m) (map (unless-dropped n) E)
   back-told n d = record {
-    counted = length-map E (unless-dropped n) ∙ t .counted ∙ sym (count-next job work space m r e ∙ ap (λ (i : Item). step-count (take m (records-of job)) + cond (is-step i) 1 0) d ∙ omega arith);
+    counted = length-map E (unless-dropped n) ∙ t .counted ∙ sym (count-next limits job work space m r e ∙ ap (λ (i : Item). step-count (take m (records-of job)) + cond (is-step i) 1 0) d ∙ omega arith);
     only = λ k p f.
         let q = getElem-map (unless-dropped n) E k (some p) f in
         let b = dropped-not n (q .0) p (q .2) in
@@ -115,7 +116,7 @@ module _ (job : Bytes) (work space m : ℕ) (r : Bytes) (e : getElem? (records-o
       → Tells job (suc m) (E ++ (leaves ks a ∷ []))
   step-told n ks c s a w = record {
     counted = length-append E (leaves ks a ∷ []) ∙ ap (λ (x : ℕ). x + 1) (t .counted)
-        ∙ sym (count-next job work space m r e ∙ ap (λ (x : Bool). step-count (take m (records-of job)) + cond x 1 0) s);
+        ∙ sym (count-next limits job work space m r e ∙ ap (λ (x : Bool). step-count (take m (records-of job)) + cond x 1 0) s);
     only = λ k p f. snoc-elim E (leaves ks a) k (some p) f
         (λ g. more job m r e k p (λ x d. absurd (not-claimed (sym (ap claim-of d) ∙ c))) (t .only k p g)) (λ x y. itself k p x y);
     all = λ k p h. go k p h (ℕ-discrete (h .i) m);
@@ -157,12 +158,12 @@ module _ (job : Bytes) (work space m : ℕ) (r : Bytes) (e : getElem? (records-o
           ap (getElem? (E ++ (leaves ks a ∷ []))) i ∙ getElem-seam E (leaves ks a) []
           ∙ ap some (ap (λ (v : Bool). cond v (getElem? ks 0) none) (eq-eqb (a .code) 0 z) ∙ ap (λ (js : List ℕ). getElem? js 0) (sym l) ∙ h .first)
 
-  one-new : fault work space (plain-after m job) (step-count (take m (records-of job))) r ≡ 0 → is-step (read r) ≡ true → (a : Answer) × (answers-to E (plain-after m job) r ≡ a ∷ [])
+  one-new : fault limits work space (plain-after m job) (step-count (take m (records-of job))) r ≡ 0 → is-step (read r) ≡ true → (a : Answer) × (answers-to E (plain-after m job) r ≡ a ∷ [])
   one-new p =
-      answers-cases (λ (new : List Answer). is-step (read r) ≡ true → (a : Answer) × (new ≡ a ∷ [])) work space E (plain-after m job) (step-count (take m (records-of job))) r p
+      answers-cases (λ (new : List Answer). is-step (read r) ≡ true → (a : Answer) × (new ≡ a ∷ [])) limits work space E (plain-after m job) (step-count (take m (records-of job))) r p
       (λ a h s. (a, refl)) (λ f s. absurd (let q : false ≡ true = sym f ∙ s in let z : _≡_ {A = ℕ} 0 1 = cc in omega arith))
 
-  next-told : fault work space (plain-after m job) (step-count (take m (records-of job))) r ≡ 0 → Tells job (suc m) (recall E (plain-after m job) r)
+  next-told : fault limits work space (plain-after m job) (step-count (take m (records-of job))) r ≡ 0 → Tells job (suc m) (recall E (plain-after m job) r)
   unfolding recall
   next-told p = go (read r) refl
     where
@@ -180,7 +181,7 @@ module _ (job : Bytes) (work space m : ℕ) (r : Bytes) (e : getElem? (records-o
 
 -- all through a run
 pub earlier-tells : PremisesTold
-earlier-tells job work space =
-    plain-ind job work space (λ m. Tells job m (earlier-after m job))
+earlier-tells limits job work space =
+    plain-ind limits job work space (λ m. Tells job m (earlier-after m job))
     (record { counted = refl; only = λ k p f. absurd (none-some (some p) f); all = λ k p h. let l = h .earlier in absurd (omega arith) })
-    (λ m r l e p t. subst (Tells job (suc m)) (sym (earlier-next job work space m r e)) (next-told job work space m r e t p))
+    (λ m r l e p t. subst (Tells job (suc m)) (sym (earlier-next limits job work space m r e)) (next-told limits job work space m r e t p))

@@ -4,6 +4,7 @@ use mathlib.Core.List.{List, [], _∷_}
 use Prim.Native.Nat.{ℕ}
 use lib.Dec.{T, eqb}
 use lib.ListN.{length}
+use Rattle.theory.specs.Limit.{Limits}
 use Rattle.theory.specs.Record.{Bytes, records-of, total-length, ending, Item, term, step, chain, back, unknown, misfit, read}
 use Rattle.theory.specs.Plain.{Plain}
 use Rattle.theory.specs.Codes.{first-fault, tests, fault}
@@ -24,17 +25,17 @@ first-stop (t ∷ ts) h = go (t .0) (h .0) (first-stop ts (h .1))
     go true p q = q
     go false p q = p
 
-tests-stop : (work space : ℕ) (list : Plain) (answered : ℕ) (r : Bytes) (i : Item) → AllStops (tests work space list answered r i)
-tests-stop work space list answered r unknown = (tt, tt)
-tests-stop work space list answered r misfit = (tt, tt)
-tests-stop work space list answered r (term o ks) = (tt, (tt, (tt, tt)))
-tests-stop work space list answered r (step n ks) = (tt, (tt, (tt, tt)))
-tests-stop work space list answered r (chain n ps k) = (tt, (tt, (tt, tt)))
-tests-stop work space list answered r (back n) = (tt, tt)
+tests-stop : (limits : Limits) (work space : ℕ) (list : Plain) (answered : ℕ) (r : Bytes) (i : Item) → AllStops (tests limits work space list answered r i)
+tests-stop limits work space list answered r unknown = (tt, tt)
+tests-stop limits work space list answered r misfit = (tt, tt)
+tests-stop limits work space list answered r (term o ks) = (tt, (tt, (tt, tt)))
+tests-stop limits work space list answered r (step n ks) = (tt, (tt, (tt, tt)))
+tests-stop limits work space list answered r (chain n ps k) = (tt, (tt, (tt, tt)))
+tests-stop limits work space list answered r (back n) = (tt, tt)
 
-pub fault-code : (work space : ℕ) (list : Plain) (answered : ℕ) (r : Bytes) → Stop (fault work space list answered r)
+pub fault-code : (limits : Limits) (work space : ℕ) (list : Plain) (answered : ℕ) (r : Bytes) → Stop (fault limits work space list answered r)
 unfolding fault
-fault-code work space list answered r = first-stop (tests work space list answered r (read r)) (tests-stop work space list answered r (read r))
+fault-code limits work space list answered r = first-stop (tests limits work space list answered r (read r)) (tests-stop limits work space list answered r (read r))
 
 pub ending-code : (job : Bytes) → Stop (ending job)
 ending-code job = go (eqb (total-length (records-of job)) (length job))

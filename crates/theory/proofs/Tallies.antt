@@ -65,7 +65,7 @@ decoded-length (suc k) bs = ap suc (decoded-length k (drop answer-bytes bs))
 total-written : (jobs : List Lent) → total (map left-by jobs) ≡ written jobs
 total-written [] = refl
 total-written (l ∷ rest) =
-    let c = call (l .job) (l .work) (l .answers) in
+    let c = call (l .limits) (l .job) (l .work) (l .answers) in
     ap₂ (λ (m n : ℕ). m + n) (decoded-length (c .result .answers) (c .answer-memory)) (total-written rest)
 
 pub tally-sum : TallySum

@@ -9,7 +9,7 @@ use lib.Dec.{T, eqb, leb, ltb, ltb→lt, eqb→eq}
 use lib.Ieee.Fits.{and-l, and-r}
 use lib.ListN.{length, drop, getElem?, length-append, length-drop}
 use lib.Seq.{drop-at}
-use Rattle.theory.specs.Limit.{answer-bytes, max-terms}
+use Rattle.theory.specs.Limit.{Limits, answer-bytes, max-terms}
 use Rattle.theory.specs.Term.{Term}
 use Rattle.theory.specs.Depth.{depth}
 use Rattle.theory.specs.Optional.{either}
@@ -133,53 +133,53 @@ one-small list w n {a = a} h =
     record { rule-small = d .0; code-small = element-below 65536 answer-codes tt (a .code) (code-known h); depth-small = omega (arith, d .1) }
 
 -- those of the answers to a record that no code stops
-pub new-small : (work space : ℕ) (earlier : Earlier) (list : Plain) (answered : ℕ) (r : Bytes) → fault work space list answered r ≡ 0 → WellKept list → length list ≤ max-terms
+pub new-small : (limits : Limits) (work space : ℕ) (earlier : Earlier) (list : Plain) (answered : ℕ) (r : Bytes) → fault limits work space list answered r ≡ 0 → WellKept list → length list ≤ max-terms
     → AllSmall (answers-to earlier list r)
-new-small work space earlier list answered r e w n =
-    answers-cases AllSmall work space earlier list answered r e
+new-small limits work space earlier list answered r e w n =
+    answers-cases AllSmall limits work space earlier list answered r e
     (λ a h k b f. only k f (one-small list w n h)) (λ d k b f. absurd (none-some b f))
   where
     only : {a b : Answer} (k : ℕ) → getElem? (a ∷ []) k ≡ some b → Small a → Small b
     only {a} {b} zero f s = subst Small (some-inj a b f) s
     only {a} {b} (suc k) f s = absurd (none-some b f)
 
-module _ (job : Bytes) (bytes : AllBytes job) (work space : ℕ) where
-  pub answers-small : AllSmall (run job work space .answers)
+module _ (limits : Limits) (job : Bytes) (bytes : AllBytes job) (work space : ℕ) where
+  pub answers-small : AllSmall (run limits job work space .answers)
   answers-small k a e =
-      let h = ran job work space .exact-answers k a e in
+      let h = ran limits job work space .exact-answers k a e in
       let list = plain-after (h .m) job in
       let l = h .m-done in
-      let w = plain-well job bytes work space (h .m) (omega arith) in
-      let n = terms-fit job work space (h .m) (omega arith) .numbers-fit in
+      let w = plain-well limits job bytes work space (h .m) (omega arith) in
+      let n = terms-fit limits job work space (h .m) (omega arith) .numbers-fit in
       one-small list w (omega arith) (h .is)
 
   -- the answers' memory reads back as the answers
-  pub answers-read : (old : Bytes) → let o = run job work space in decode-answers (length (o .answers)) (answers-after (o .answers) old) ≡ o .answers
+  pub answers-read : (old : Bytes) → let o = run limits job work space in decode-answers (length (o .answers)) (answers-after (o .answers) old) ≡ o .answers
   answers-read old =
-      let o = run job work space in
+      let o = run limits job work space in
       decode-encode (o .answers) (drop (length (encode-answers (o .answers))) old) answers-small
 
 -- demand 2 of a call: the job's bytes, and the answers' memory after it
-pub demand-2-call : (job work old : Bytes) → AllBytes job → let c = call job work old in
-    Demand2 job (length work) (length old) (decode-answers (c .result .answers) (c .answer-memory))
-demand-2-call job work old b =
-    subst (Demand2 job (length work) (length old)) (sym (answers-read job b (length work) (length old) old)) (demand-2 job (length work) (length old))
+pub demand-2-call : (limits : Limits) (job work old : Bytes) → AllBytes job → let c = call limits job work old in
+    Demand2 limits job (length work) (length old) (decode-answers (c .result .answers) (c .answer-memory))
+demand-2-call limits job work old b =
+    subst (Demand2 limits job (length work) (length old)) (sym (answers-read limits job b (length work) (length old) old)) (demand-2 limits job (length work) (length old))
 
 -- demand 3 of a call: the job's bytes, what the call returns, and the answers' memory after it
-pub demand-3-call : (job work old : Bytes) → AllBytes job → let c = call job work old in
-    Demand3 job (length work) (length old) (c .result .records) (decode-answers (c .result .answers) (c .answer-memory))
-demand-3-call job work old b =
-    let o = run job (length work) (length old) in
-    subst (Demand3 job (length work) (length old) (o .records)) (sym (answers-read job b (length work) (length old) old)) (demand-3 job (length work) (length old))
+pub demand-3-call : (limits : Limits) (job work old : Bytes) → AllBytes job → let c = call limits job work old in
+    Demand3 limits job (length work) (length old) (c .result .records) (decode-answers (c .result .answers) (c .answer-memory))
+demand-3-call limits job work old b =
+    let o = run limits job (length work) (length old) in
+    subst (Demand3 limits job (length work) (length old) (o .records)) (sym (answers-read limits job b (length work) (length old) old)) (demand-3 limits job (length work) (length old))
 
 -- the memory of the answers keeps its length, and past the last answer its bytes
-pub answers-kept : (job work old : Bytes) → let c = call job work old in let n = answer-bytes * c .result .answers in
+pub answers-kept : (limits : Limits) (job work old : Bytes) → let c = call limits job work old in let n = answer-bytes * c .result .answers in
     (length (c .answer-memory) ≡ length old) × (drop n (c .answer-memory) ≡ drop n old)
-answers-kept job work old =
-    let o = run job (length work) (length old) in
+answers-kept limits job work old =
+    let o = run limits job (length work) (length old) in
     let bs = encode-answers (o .answers) in
     let l : length bs ≡ answer-bytes * length (o .answers) = bytes-length (o .answers) in
-    let f : answer-bytes * length (o .answers) ≤ length old = run-fits job (length work) (length old) .answers-fit in
+    let f : answer-bytes * length (o .answers) ≤ length old = run-fits limits job (length work) (length old) .answers-fit in
     let d : length (drop (length bs) old) ≡ length old - length bs = length-drop (length bs) old in (
       length-append bs (drop (length bs) old) ∙ omega arith,
       drop-at bs (drop (length bs) old) (answer-bytes * length (o .answers)) l ∙ ap (λ (k : ℕ). drop k old) l,

@@ -4,13 +4,13 @@ use mathlib.Core.Path.{_≡_}
 use mathlib.Core.Bool.{Bool, true, false, _||_, cond}
 use mathlib.Core.List.{List, [], _∷_, map}
 use mathlib.Core.Option.{some}
-use Prim.Native.Nat.{ℕ, _+_, _-_, _*_, _%_, _^_, _<_, _≤_}
+use Prim.Native.Nat.{ℕ, _+_, _-_, _*_, _%_, _^_, _<_, _≤_, max}
 use lib.Dec.{T, eqb, ltb}
 use lib.ListN.{length, take, drop, getElem?}
-use Rattle.theory.specs.Limit.{max-terms, first-terms, term-bytes, answer-bytes}
+use Rattle.theory.specs.Limit.{Limits, capped, first-terms, term-bytes, answer-bytes}
 use Rattle.theory.specs.Kind.{Op, Equals, BvBbTerm, BvNeg, BvAdd, BvMul, BvULt, BvSLt}
 use Rattle.theory.specs.Term.{Term, Terms, node, nil, cons, two}
-use Rattle.theory.specs.Sort.{bv, sort-of}
+use Rattle.theory.specs.Sort.{bv, sort-width, sort-of}
 use Rattle.theory.specs.Value.{Assign, Val, number-of, value, bit-at, rotate-left-n, rotate-right-n}
 use Rattle.theory.specs.RuleTable.{Rule, by-ult, by-slt, by-add, by-mult, by-neg, rule-at}
 use Rattle.theory.specs.Record.{Bytes, AllBytes, records-of, step, read, step-count, Item, term, chain, back, unknown, misfit}
@@ -36,35 +36,49 @@ answer-codes = 0 ∷ 1 ∷ 10 ∷ 11 ∷ 12 ∷ 13 ∷ 14 ∷ 15 ∷ 16 ∷ 17 �
 
 -- every job stops with one of these
 abbrev pub StopCodes : Type 0
-StopCodes = (job : Bytes) (work space : ℕ) → T (element (run job work space .stop) stop-codes)
+StopCodes = (limits : Limits) (job : Bytes) (work space : ℕ) → T (element (run limits job work space .stop) stop-codes)
 
 -- every answer of every job has one of those
 abbrev pub AnswerCodes : Type 0
-AnswerCodes = (job : Bytes) (work space k : ℕ) (a : Answer) → getElem? (run job work space .answers) k ≡ some a → T (element (a .code) answer-codes)
+AnswerCodes =
+    (limits : Limits) (job : Bytes) (work space k : ℕ) (a : Answer)
+    → getElem? (run limits job work space .answers) k ≡ some a → T (element (a .code) answer-codes)
 
 -- ---- "equal structure, one number"
 -- no term is at two places of the list, after any number of the records done
 abbrev pub OneNumber : Type 0
-OneNumber = (job : Bytes) → AllBytes job → (work space m i j : ℕ) (t : Term) → m ≤ run job work space .records
+OneNumber = (limits : Limits) (job : Bytes) → AllBytes job → (work space m i j : ℕ) (t : Term) → m ≤ run limits job work space .records
     → at-place (plain-after m job) i ≡ some t → at-place (plain-after m job) j ≡ some t → i ≡ j
 
 -- ---- what is lent is enough
--- the answers fit into their memory, the kept terms into the work memory, and their numbers into 65,535
-pub record Fits (work space : ℕ) (o : Outcome) : Type 0 where
+-- the answers fit into their memory, the kept terms into the work memory, and they are no more than the limit, but for `true` and `false`
+pub record Fits (limits : Limits) (work space : ℕ) (o : Outcome) : Type 0 where
   pub answers-fit : answer-bytes * length (o .answers) ≤ space
   pub terms-fit : term-bytes * (o .terms - first-terms) ≤ work
-  pub numbers-fit : o .terms ≤ max-terms
+  pub numbers-fit : o .terms ≤ max first-terms (capped limits .terms)
 
 -- of every job
 abbrev pub LentEnough : Type 0
-LentEnough = (job : Bytes) (work space : ℕ) → Fits work space (run job work space)
+LentEnough = (limits : Limits) (job : Bytes) (work space : ℕ) → Fits limits work space (run limits job work space)
+
+-- ---- document 02, P8: "A width above its limit is 7 .. A job that gets neither under the bench limits gives, with the same lent memory, the same
+-- result and answers under the rack's"
+-- after any number of the records done, no bit-vector on the list is wider than the limit; how many terms there are, `Fits` says
+abbrev pub NoWider : Type 0
+NoWider = (limits : Limits) (job : Bytes) (work space m i : ℕ) (t : Term) → m ≤ run limits job work space .records
+    → at-place (plain-after m job) i ≡ some t → sort-width (sort-of t) ≤ capped limits .width
+
+-- a job that stops with neither 7 nor 8 comes to the same under any larger limits: what is returned, and both memories
+abbrev pub LimitsOnly : Type 0
+LimitsOnly = (small large : Limits) → small .width ≤ large .width → small .terms ≤ large .terms → (job work old : Bytes)
+    → (let c = call small job work old in (c .result .stop ≡ 7 → ⊥) → (c .result .stop ≡ 8 → ⊥) → c ≡ call large job work old)
 
 -- ---- "After every call": nothing of one job reaches the next
 -- a call depends on the job's bytes, the lengths of the two memories, and the bytes past the last answer
 abbrev pub NothingKept : Type 0
-NothingKept = (job work work₂ old old₂ : Bytes) → length work ≡ length work₂ → length old ≡ length old₂
-    → (let n = answer-bytes * call job work old .result .answers in drop n old ≡ drop n old₂)
-    → call job work old ≡ call job work₂ old₂
+NothingKept = (limits : Limits) (job work work₂ old old₂ : Bytes) → length work ≡ length work₂ → length old ≡ length old₂
+    → (let n = answer-bytes * call limits job work old .result .answers in drop n old ≡ drop n old₂)
+    → call limits job work old ≡ call limits job work₂ old₂
 
 -- ---- "Adding a term must say whether it was new or found .. A job also returns the number of repeats, a back record not lowering it"
 -- the repeats among records, from a list on
@@ -94,12 +108,13 @@ term-count (r ∷ rs) = cond (is-term (read r)) 1 0 + term-count rs
 -- of every job: each term record done was a repeat or put an entry, whatever was dropped later
 abbrev pub Repeats : Type 0
 Repeats =
-    (job : Bytes) (work space : ℕ)
-    → let o = run job work space in let done = take (o .records) (records-of job) in o .repeats + news-from start done ≡ term-count done
+    (limits : Limits) (job : Bytes) (work space : ℕ)
+    → let o = run limits job work space in let done = take (o .records) (records-of job) in
+    o .repeats + news-from start done ≡ term-count done
 
 -- a record that says a term has six bytes or more, so a job of at most 16,777,216 bytes has no more repeats than these
 abbrev pub FewRepeats : Type 0
-FewRepeats = (job : Bytes) (work space : ℕ) → run job work space .repeats ≤ 2796202
+FewRepeats = (limits : Limits) (job : Bytes) (work space : ℕ) → run limits job work space .repeats ≤ 2796202
 
 -- ---- "With arguments that aren't BvBbTerm, an accepted ult, slt or two-argument add has depth exactly 2 × n, and neg exactly 2 × n + 1"
 -- an argument of width n that is no BvBbTerm
@@ -158,9 +173,9 @@ pub record LowHeld (o : Op) (list : Plain) (places : List ℕ) : Type 0 where
 -- of every job: each step of these rules that it reaches and answers with code 0
 abbrev pub LowBitsHeld : Type 0
 LowBitsHeld =
-    (job : Bytes) (work space m : ℕ) (r : Bytes) (number : ℕ) (places : List ℕ) (rule : Rule) (o : Op) (a : Answer)
-    → Reached job work space m r → read r ≡ step number places → rule-at number ≡ some rule → Counts rule o
-    → getElem? (run job work space .answers) (step-count (take m (records-of job))) ≡ some a → a .code ≡ 0
+    (limits : Limits) (job : Bytes) (work space m : ℕ) (r : Bytes) (number : ℕ) (places : List ℕ) (rule : Rule) (o : Op) (a : Answer)
+    → Reached limits job work space m r → read r ≡ step number places → rule-at number ≡ some rule → Counts rule o
+    → getElem? (run limits job work space .answers) (step-count (take m (records-of job))) ≡ some a → a .code ≡ 0
     → LowHeld o (plain-after m job) places
 
 -- ---- "rotate left brings bit i to place i + k and rotate right to i − k, both modulo the width"
@@ -181,20 +196,21 @@ pub record Free (t : Tally) : Type 0 where
 abbrev pub sum : Tally → ℕ
 sum t = t .held + t .form-only + t .refused
 
--- a job, and the two memories lent for it
+-- a job, its limits, and the two memories lent for it
 pub record Lent : Type 0 where
+  pub limits : Limits
   pub job : Bytes
   pub work : Bytes
   pub answers : Bytes
 
 -- the answers that it wrote: as many as it returns, read from their memory when it has ended
 abbrev pub left-by : Lent → List Answer
-left-by l = let c = call (l .job) (l .work) (l .answers) in decode-answers (c .result .answers) (c .answer-memory)
+left-by l = let c = call (l .limits) (l .job) (l .work) (l .answers) in decode-answers (c .result .answers) (c .answer-memory)
 
 -- how many the jobs wrote in all, by what they return
 abbrev pub written : List Lent → ℕ
 written [] = 0
-written (l ∷ rest) = call (l .job) (l .work) (l .answers) .result .answers + written rest
+written (l ∷ rest) = call (l .limits) (l .job) (l .work) (l .answers) .result .answers + written rest
 
 -- since the tally was zero
 abbrev pub TallySum : Type 0

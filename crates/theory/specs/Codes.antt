@@ -1,13 +1,14 @@
 -- Document 01, "Codes": what stops the job at a whole record. Codes 4 to 9, 18 and 19, in their order; code 3 is in Record (`ending`), code 2 in Job.
+-- Codes 7 and 8 are under limits that the caller states (document 02, P8).
 use mathlib.Core.Bool.{Bool, true, false, _&&_, _||_, cond}
 use mathlib.Core.List.{List, [], _∷_}
 use mathlib.Core.Option.{Option}
 use Prim.Native.Nat.{ℕ, suc, _-_, _*_}
 use lib.Dec.{leb, ltb}
 use lib.ListN.{length}
-use Rattle.theory.specs.Limit.{max-terms, first-terms, term-bytes, answer-bytes}
+use Rattle.theory.specs.Limit.{Limits, capped, first-terms, term-bytes, answer-bytes}
 use Rattle.theory.specs.Term.{Term}
-use Rattle.theory.specs.Sort.{good, sort-of}
+use Rattle.theory.specs.Sort.{good, sort-width, sort-of}
 use Rattle.theory.specs.Optional.{is-some, either}
 use Rattle.theory.specs.RuleTable.{rule-at, chain-rule-at}
 use Rattle.theory.specs.Record.{Bytes, Item, term, step, chain, back, unknown, misfit, read}
@@ -23,13 +24,13 @@ abbrev pub all-below : ℕ → List ℕ → Bool
 all-below n [] = true
 all-below n (k ∷ ks) = ltb k n && all-below n ks
 
--- sorts, widths, indices and values fit
-abbrev pub well-sorted : Option Term → Bool
-well-sorted = either false (λ t. good (sort-of t))
+-- sorts, widths, indices and values fit, and a bit-vector's width its limit
+abbrev pub well-sorted : Limits → Option Term → Bool
+well-sorted limits = either false (λ t. good (sort-of t) && leb (sort-width (sort-of t)) (limits .width))
 
 -- one more term has 8 bytes of work memory and a number; `true` and `false` are free
-abbrev pub room : ℕ → Plain → Bool
-room work list = leb (term-bytes * (suc (length list) - first-terms)) work && ltb (length list) max-terms
+abbrev pub room : Limits → ℕ → Plain → Bool
+room limits work list = leb (term-bytes * (suc (length list) - first-terms)) work && ltb (length list) (limits .terms)
 
 -- the tests of a step of either kind, where that many terms are kept; `known` says that it has such a rule, `space` is the bytes lent for
 -- answers, `answered` the answers written so far
@@ -37,16 +38,17 @@ abbrev pub step-tests : ℕ → ℕ → ℕ → Bool → List ℕ → List (Bool
 step-tests terms space answered known ks =
     (all-below terms ks, 6) ∷ (known, 9) ∷ (leb (answer-bytes * suc answered) space, 19) ∷ []
 
--- the tests of a record; `work` is the bytes lent for terms
-abbrev pub tests : ℕ → ℕ → Plain → ℕ → Bytes → Item → List (Bool × ℕ)
-tests work space list answered r unknown = (false, 4) ∷ []
-tests work space list answered r misfit = (false, 5) ∷ []
-tests work space list answered r (term o ks) =
-    (all-below (length list) ks, 6) ∷ (well-sorted (term-of list o ks), 7) ∷ (has list r || room work list, 8) ∷ []
-tests work space list answered r (step n ks) = step-tests (length list) space answered (is-some (rule-at n)) ks
-tests work space list answered r (chain n ps k) = step-tests (length list) space answered (is-some (chain-rule-at n)) (k ∷ [])
-tests work space list answered r (back n) = (leb first-terms n && leb n (length list), 18) ∷ []
+-- the tests of a record; `limits` are as the caller states them, `work` is the bytes lent for terms
+abbrev pub tests : Limits → ℕ → ℕ → Plain → ℕ → Bytes → Item → List (Bool × ℕ)
+tests limits work space list answered r unknown = (false, 4) ∷ []
+tests limits work space list answered r misfit = (false, 5) ∷ []
+tests limits work space list answered r (term o ks) =
+    (all-below (length list) ks, 6) ∷ (well-sorted (capped limits) (term-of list o ks), 7)
+    ∷ (has list r || room (capped limits) work list, 8) ∷ []
+tests limits work space list answered r (step n ks) = step-tests (length list) space answered (is-some (rule-at n)) ks
+tests limits work space list answered r (chain n ps k) = step-tests (length list) space answered (is-some (chain-rule-at n)) (k ∷ [])
+tests limits work space list answered r (back n) = (leb first-terms n && leb n (length list), 18) ∷ []
 
 -- the code that stops the job at record r, or 0
-unfoldable pub fault : ℕ → ℕ → Plain → ℕ → Bytes → ℕ
-fault work space list answered r = first-fault (tests work space list answered r (read r))
+unfoldable pub fault : Limits → ℕ → ℕ → Plain → ℕ → Bytes → ℕ
+fault limits work space list answered r = first-fault (tests limits work space list answered r (read r))

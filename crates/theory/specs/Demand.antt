@@ -5,7 +5,7 @@ use mathlib.Core.List.{List, [], _∷_}
 use mathlib.Core.Option.{some}
 use Prim.Native.Nat.{ℕ, _<_, _≤_}
 use lib.ListN.{length, take, getElem?}
-use Rattle.theory.specs.Limit.{max-job}
+use Rattle.theory.specs.Limit.{Limits, max-job}
 use Rattle.theory.specs.Kind.{Equals}
 use Rattle.theory.specs.Term.{Term, two}
 use Rattle.theory.specs.Value.{Assign, value}
@@ -15,11 +15,11 @@ use Rattle.theory.specs.Codes.{fault}
 use Rattle.theory.specs.Answer.{Answer}
 
 -- record m, counted from 0, is r, and no code stops the job before it or at it
-pub record Reached (job : Bytes) (work space m : ℕ) (r : Bytes) : Type 0 where
+pub record Reached (limits : Limits) (job : Bytes) (work space m : ℕ) (r : Bytes) : Type 0 where
   pub short : length job ≤ max-job
   pub stands : getElem? (records-of job) m ≡ some r
   pub passes : (i : ℕ) (s : Bytes) → i ≤ m → getElem? (records-of job) i ≡ some s
-      → fault work space (plain-after i job) (step-count (take i (records-of job))) s ≡ 0
+      → fault limits work space (plain-after i job) (step-count (take i (records-of job))) s ≡ 0
 
 -- the literals at these places are one, an equality whose two sides have the same value under every assignment
 pub record Held (list : Plain) (places : List ℕ) : Type 0 where
@@ -31,17 +31,17 @@ pub record Held (list : Plain) (places : List ℕ) : Type 0 where
   pub equal : (ρ : Assign) → value ρ left ≡ value ρ right
 
 -- answer k, counted from 0, belongs to the step, of either kind, before which k steps stand; it carries its rule, and with code 0 the step holds
-pub record Answers (job : Bytes) (work space done k : ℕ) (a : Answer) : Type 0 where
+pub record Answers (limits : Limits) (job : Bytes) (work space done k : ℕ) (a : Answer) : Type 0 where
   pub m : ℕ
   pub bytes : Bytes
   pub literals : List ℕ
   pub m-done : m < done
-  pub reached : Reached job work space m bytes
+  pub reached : Reached limits job work space m bytes
   pub kth : step-count (take m (records-of job)) ≡ k
   pub is-step : claim-of (read bytes) ≡ some (a .rule, literals)
   pub held : a .code ≡ 0 → Held (plain-after m job) literals
 
--- of a job's bytes, the lent lengths, the records done and the answers written
-pub record Demand3 (job : Bytes) (work space done : ℕ) (answers : List Answer) : Type 0 where
+-- of stated limits, a job's bytes, the lent lengths, the records done and the answers written
+pub record Demand3 (limits : Limits) (job : Bytes) (work space done : ℕ) (answers : List Answer) : Type 0 where
   pub counted : length answers ≡ step-count (take done (records-of job))
-  pub each : (k : ℕ) (a : Answer) → getElem? answers k ≡ some a → Answers job work space done k a
+  pub each : (k : ℕ) (a : Answer) → getElem? answers k ≡ some a → Answers limits job work space done k a

@@ -4,7 +4,7 @@ use mathlib.Core.List.{List, [], _∷_}
 use mathlib.Core.Option.{some}
 use Prim.Native.Nat.{ℕ, suc, _<_, _≤_}
 use lib.ListN.{length, take, getElem?}
-use Rattle.theory.specs.Limit.{max-job}
+use Rattle.theory.specs.Limit.{Limits, max-job}
 use Rattle.theory.specs.Term.{Term}
 use Rattle.theory.specs.RuleTable.{Rule, rule-at, ChainRule, chain-rule-at}
 use Rattle.theory.specs.Record.{Bytes, records-of, ending, step, chain, back, read, claim-of, step-count}
@@ -16,17 +16,20 @@ use Rattle.theory.specs.Job.{judged, answer-to, answers-to, recall, run}
 use Rattle.theory.specs.Demand.{Reached}
 
 -- the code that stops the job at record m, which is r, from the plain list just then; 0 where none does
-abbrev pub fault-at : Bytes → ℕ → ℕ → ℕ → Bytes → ℕ
-fault-at job work space m r = fault work space (plain-after m job) (step-count (take m (records-of job))) r
+abbrev pub fault-at : Limits → Bytes → ℕ → ℕ → ℕ → Bytes → ℕ
+fault-at limits job work space m r = fault limits work space (plain-after m job) (step-count (take m (records-of job))) r
 
 -- the job stops with this code after so many records: it is too long; or the record after them has that code, and none before has one; or no
 -- whole record is left, and bytes are or not
-pub data Stops (job : Bytes) (work space : ℕ) : ℕ → ℕ → Type 0 where
-  too-long : max-job < length job → Stops job work space 2 0
-  at-record : {m code : ℕ} {r : Bytes} → length job ≤ max-job → getElem? (records-of job) m ≡ some r → fault-at job work space m r ≡ suc code
-      → ((i : ℕ) (s : Bytes) → i < m → getElem? (records-of job) i ≡ some s → fault-at job work space i s ≡ 0) → Stops job work space (suc code) m
+pub data Stops (limits : Limits) (job : Bytes) (work space : ℕ) : ℕ → ℕ → Type 0 where
+  too-long : max-job < length job → Stops limits job work space 2 0
+  at-record : {m code : ℕ} {r : Bytes} → length job ≤ max-job → getElem? (records-of job) m ≡ some r
+      → fault-at limits job work space m r ≡ suc code
+      → ((i : ℕ) (s : Bytes) → i < m → getElem? (records-of job) i ≡ some s → fault-at limits job work space i s ≡ 0)
+      → Stops limits job work space (suc code) m
   at-end : {m : ℕ} → length job ≤ max-job → length (records-of job) ≡ m
-      → ((i : ℕ) (s : Bytes) → i < m → getElem? (records-of job) i ≡ some s → fault-at job work space i s ≡ 0) → Stops job work space (ending job) m
+      → ((i : ℕ) (s : Bytes) → i < m → getElem? (records-of job) i ≡ some s → fault-at limits job work space i s ≡ 0)
+      → Stops limits job work space (ending job) m
 
 -- record m is a step of rule n on the terms at places ks, and answer k, k being the steps before it, is the rule's on these terms
 pub record StepAnswer (job : Bytes) (m n : ℕ) (ks : List ℕ) (answers : List Answer) : Type 0 where
@@ -56,9 +59,11 @@ pub record ChainAnswer (job : Bytes) (m n : ℕ) (premises : List ℕ) (p : ℕ)
       ≡ some (judged n (joined rule (premises-at (earlier-after m job) (plain-after m job) premises) claim) claim)
 
 -- every step that the job reaches is answered so
-pub record Demand2 (job : Bytes) (work space : ℕ) (answers : List Answer) : Type 0 where
-  pub steps : (m : ℕ) (r : Bytes) (n : ℕ) (ks : List ℕ) → Reached job work space m r → read r ≡ step n ks → StepAnswer job m n ks answers
-  pub chains : (m : ℕ) (r : Bytes) (n : ℕ) (ps : List ℕ) (p : ℕ) → Reached job work space m r → read r ≡ chain n ps p → ChainAnswer job m n ps p answers
+pub record Demand2 (limits : Limits) (job : Bytes) (work space : ℕ) (answers : List Answer) : Type 0 where
+  pub steps : (m : ℕ) (r : Bytes) (n : ℕ) (ks : List ℕ) → Reached limits job work space m r
+      → read r ≡ step n ks → StepAnswer job m n ks answers
+  pub chains : (m : ℕ) (r : Bytes) (n : ℕ) (ps : List ℕ) (p : ℕ) → Reached limits job work space m r
+      → read r ≡ chain n ps p → ChainAnswer job m n ps p answers
 
 -- ---- document 02, P12: a premise is an earlier step that is held, whose literal no back has dropped since
 -- record i, before record m, is the step with k steps before it; it claims p and is held; and each back since has a count above p
@@ -85,4 +90,5 @@ pub record Tells (job : Bytes) (m : ℕ) (earlier : Earlier) : Type 0 where
 
 -- all through a run `Earlier` says just that
 abbrev pub PremisesTold : Type 0
-PremisesTold = (job : Bytes) (work space m : ℕ) → m ≤ run job work space .records → Tells job m (earlier-after m job)
+PremisesTold = (limits : Limits) (job : Bytes) (work space m : ℕ)
+    → m ≤ run limits job work space .records → Tells job m (earlier-after m job)

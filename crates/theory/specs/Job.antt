@@ -5,7 +5,7 @@ use mathlib.Core.Option.{Option, none, some}
 use Prim.Native.Nat.{ℕ, zero, suc, _+_}
 use lib.Dec.{leb}
 use lib.ListN.{length, drop, getElem?, replicate}
-use Rattle.theory.specs.Limit.{max-job}
+use Rattle.theory.specs.Limit.{Limits, max-job}
 use Rattle.theory.specs.Term.{Term, node, to-list}
 use Rattle.theory.specs.Depth.{depth}
 use Rattle.theory.specs.Optional.{either}
@@ -80,19 +80,19 @@ abbrev pub outcome : ℕ → ℕ → ℕ → List Answer → Plain → Outcome
 outcome stop done repeats answers list = record { stop = stop; records = done; answers = answers; terms = length list; repeats = repeats }
 
 -- from `done` records and `repeats` repeats on; `end` is the code where no record is left
-unfoldable pub run-from : ℕ → ℕ → ℕ → ℕ → ℕ → Earlier → Plain → List Answer → List Bytes → Outcome
-run-from work space end done repeats earlier list answers [] = outcome end done repeats answers list
-run-from work space end done repeats earlier list answers (r ∷ rs) =
-    elim (fault work space list (length answers) r) [
-      | zero ↦ run-from work space end (suc done) (repeats + repeat-of list r) (recall earlier list r) (feed list r) (answers ++ answers-to earlier list r) rs
+unfoldable pub run-from : Limits → ℕ → ℕ → ℕ → ℕ → ℕ → Earlier → Plain → List Answer → List Bytes → Outcome
+run-from limits work space end done repeats earlier list answers [] = outcome end done repeats answers list
+run-from limits work space end done repeats earlier list answers (r ∷ rs) =
+    elim (fault limits work space list (length answers) r) [
+      | zero ↦ run-from limits work space end (suc done) (repeats + repeat-of list r) (recall earlier list r) (feed list r) (answers ++ answers-to earlier list r) rs
       | suc code ↦ outcome (suc code) done repeats answers list
     ]
 
--- of work memory and answers a run takes their lengths alone
-unfoldable pub run : Bytes → ℕ → ℕ → Outcome
-run job work space =
+-- under limits that a caller states; of work memory and answers a run takes their lengths alone
+unfoldable pub run : Limits → Bytes → ℕ → ℕ → Outcome
+run limits job work space =
     elim (leb (length job) max-job) [
-      | true ↦ run-from work space (ending job) 0 0 [] start [] (records-of job)
+      | true ↦ run-from limits work space (ending job) 0 0 [] start [] (records-of job)
       | false ↦ outcome 2 0 0 [] start
     ]
 
@@ -124,8 +124,8 @@ pub record Call : Type 0 where
   pub work-memory : Bytes
   pub answer-memory : Bytes
 
--- all that a call does with a job, a work memory and an answers' memory
-abbrev pub call : Bytes → Bytes → Bytes → Call
-call job work answers =
-    let o = run job (length work) (length answers) in
+-- all that a call does with stated limits, a job, a work memory and an answers' memory
+abbrev pub call : Limits → Bytes → Bytes → Bytes → Call
+call limits job work answers =
+    let o = run limits job (length work) (length answers) in
     record { result = returned o; work-memory = work-after work; answer-memory = answers-after (o .answers) answers }

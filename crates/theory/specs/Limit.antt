@@ -1,5 +1,5 @@
--- The limits of document 01, each named once.
-use Prim.Native.Nat.{ℕ}
+-- The limits of document 01, each named once, and those that a caller states (document 02, P8).
+use Prim.Native.Nat.{ℕ, min}
 
 -- the greatest width
 abbrev pub max-width : ℕ
@@ -36,3 +36,21 @@ term-bytes = 8
 -- the bytes of an answer
 abbrev pub answer-bytes : ℕ
 answer-bytes = 10
+
+-- ---- stated by a caller
+-- a width limit, and a limit of the number of terms, `true` and `false` counted
+pub record Limits : Type 0 where
+  pub width : ℕ
+  pub terms : ℕ
+
+-- the two by their numbers
+abbrev pub stated : ℕ → ℕ → Limits
+stated width terms = record { width = width; terms = terms }
+
+-- the rack's
+abbrev pub rack : Limits
+rack = stated max-width max-terms
+
+-- a limit above the rack's is the rack's
+abbrev pub capped : Limits → Limits
+capped limits = stated (min (limits .width) (rack .width)) (min (limits .terms) (rack .terms))

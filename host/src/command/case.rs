@@ -1,20 +1,26 @@
-//! A case of the oracle: a job, the memory lent, what is expected of it, and questions about its final store.
-use bitblast_host::{ANSWER_BYTES, Answers, Outcome, count_job, known_job, lent::Lent, run_job, sweep_job};
+//! A case of the oracle: a job, the memory lent, what is expected of it, and questions about its final store or about the job under limits.
+use bitblast_host::{
+    ANSWER_BYTES, Answers, Limits, Outcome, count_job, known_job, lent::Lent, run_job, run_job_within, sweep_job,
+};
 
 /// What is expected of a job.
 pub struct Expected {
     work: usize,
     room: usize,
-    /// The outcome's numbers.
+    job: Came,
+    pub questions: Vec<Question>,
+}
+
+/// What a job comes to: the outcome's numbers, and the answers.
+pub struct Came {
     outcome: [u32; 5],
     answers: Vec<u8>,
-    pub questions: Vec<Question>,
 }
 
 /// The lines about the job itself.
 const JOB_LINES: usize = 8;
 
-/// A question about a job's final store, with the answer.
+/// A question about a job's final store, or about the job under limits, with the answer.
 pub enum Question {
     /// The number, the bytes of value buffer, and then the code and both counts.
     Sweep { number: u32, values: usize, swept: [u32; 3] },
@@ -22,6 +28,8 @@ pub enum Question {
     Count { number: u32, values: usize, run: usize, code: u32, counts: Vec<u32> },
     /// The number, the bytes of value buffer, the length of the output, the inputs, and then the code and the bytes written.
     Derive { number: u32, values: usize, room: usize, inputs: Vec<u8>, code: u32, bits: Vec<u8> },
+    /// The limits, and what the job comes to under them.
+    Within { limits: Limits, came: Came },
 }
 
 /// Bytes from a word, `-` where there are none.
@@ -48,8 +56,16 @@ impl Expected {
         Some(Expected {
             work: number("work")? as usize,
             room: number("room")? as usize,
-            outcome: [number("stop")?, number("records")?, number("answers")?, number("terms")?, number("repeats")?],
-            answers: from_hex(field("bytes")?.trim())?,
+            job: Came {
+                outcome: [
+                    number("stop")?,
+                    number("records")?,
+                    number("answers")?,
+                    number("terms")?,
+                    number("repeats")?,
+                ],
+                answers: from_hex(field("bytes")?.trim())?,
+            },
             questions: lines.chunks(2).map(Question::parse).collect::<Option<_>>()?,
         })
     }
@@ -80,6 +96,13 @@ impl Question {
                 code: code.parse().ok()?,
                 bits: from_word(bits)?,
             }),
+            ["within", width, terms, "came", numbers @ .., answers] => Some(Question::Within {
+                limits: Limits { width: width.parse().ok()?, terms: terms.parse().ok()? },
+                came: Came {
+                    outcome: numbers.iter().map(|n| n.parse().ok()).collect::<Option<Vec<_>>>()?.try_into().ok()?,
+                    answers: from_hex(answers)?,
+                },
+            }),
             _ => None,
         }
     }
@@ -90,6 +113,7 @@ impl Question {
             Question::Sweep { number, .. } => format!("sweep of term {number}"),
             Question::Count { number, .. } => format!("count of term {number}"),
             Question::Derive { number, .. } => format!("bits of term {number}"),
+            Question::Within { limits, .. } => format!("{limits:?}"),
         }
     }
 }
@@ -117,7 +141,19 @@ impl<'a> Call<'a> {
             self.answers.ready(self.expected.room, answers),
         );
         look(outcome, self.answers.bytes());
-        self.job_difference(outcome)
+        self.job_difference(outcome, &self.expected.job)
+    }
+
+    /// Runs the job under limits; the first difference, if there is one.
+    fn within(&mut self, limits: Limits, came: &Came) -> Option<String> {
+        let (work, answers) = self.lend();
+        let outcome = run_job_within(
+            self.job,
+            self.work.ready(self.expected.work, work),
+            self.answers.ready(self.expected.room, answers),
+            limits,
+        );
+        self.job_difference(outcome, came)
     }
 
     /// Asks a question; the first difference, if there is one.
@@ -130,6 +166,7 @@ impl<'a> Call<'a> {
             Question::Derive { number, values, room, inputs, code, bits } => {
                 self.derive(*number, [*values, *room], inputs, (*code, bits))
             }
+            Question::Within { limits, came } => self.within(*limits, came),
         };
         difference.map(|difference| format!("{}: {difference}", question.name()))
     }
@@ -147,7 +184,7 @@ impl<'a> Call<'a> {
         if numbers != expected {
             return Some(format!("expected {expected:?}, found {numbers:?}"));
         }
-        self.job_difference(found.outcome).or_else(|| values_difference(&values, found.code))
+        self.job_difference(found.outcome, &self.expected.job).or_else(|| values_difference(&values, found.code))
     }
 
     fn count(&mut self, number: u32, size: usize, run: usize, expected: (u32, &[u32])) -> Option<String> {
@@ -167,7 +204,7 @@ impl<'a> Call<'a> {
         if !counts.untouched_from(expected.1.len()) || !counts.fences_stand() {
             return Some("numbers past the last count are not as they were".to_owned());
         }
-        self.job_difference(found.outcome).or_else(|| values_difference(&values, found.code))
+        self.job_difference(found.outcome, &self.expected.job).or_else(|| values_difference(&values, found.code))
     }
 
     fn derive(
@@ -194,7 +231,7 @@ impl<'a> Call<'a> {
         if !outputs.untouched_from(expected.1.len()) || !outputs.fences_stand() {
             return Some("bytes past the last bit are not as they were".to_owned());
         }
-        self.job_difference(found.outcome).or_else(|| values_difference(&values, found.code))
+        self.job_difference(found.outcome, &self.expected.job).or_else(|| values_difference(&values, found.code))
     }
 
     /// Seeds of garbage for the work memory and the answers.
@@ -204,8 +241,8 @@ impl<'a> Call<'a> {
     }
 
     /// Where the outcome, the answers or the memories are not as expected.
-    fn job_difference(&self, outcome: Outcome) -> Option<String> {
-        let Call { expected, work, answers, .. } = self;
+    fn job_difference(&self, outcome: Outcome, expected: &Came) -> Option<String> {
+        let Call { work, answers, .. } = self;
         let written = ANSWER_BYTES * outcome.answers as usize;
         if outcome.numbers() != expected.outcome {
             Some(format!("expected {:?}, found {outcome:?}", expected.outcome))

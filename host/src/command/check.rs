@@ -1,13 +1,13 @@
 //! `bbhost check`: the jobs in some files.
 use super::{
     Checked, Failure, Status, about,
-    checker::{Checker, Trouble},
+    checker::{Checker, Lent, Trouble},
     grouped, job_bytes, json, no_file, number,
     progress::{Progress, during},
     shown, table, unknown, value,
 };
 use bitblast_host::{
-    Report, Tally,
+    Limits, Report, Tally,
     service::{MAX_ANSWER_BYTES, MAX_WORK_BYTES},
 };
 use std::{
@@ -22,7 +22,7 @@ use std::{
 
 /// How the command is used.
 pub const USAGE: &str = "  bbhost check [--explain | --json | --jsonl | -q] [--steps N] [--timeout S] [--work BYTES] [--answers BYTES]
-               [--files-from LIST] FILE..
+               [--width W] [--terms T] [--files-from LIST] FILE..
       Checks the job in each file (- is the standard input; up to 16 MiB each) and prints a table of its steps.
       A repeat is a record of a term that was there already.
       --explain  prints below each refused step what is claimed, what is expected, and where they first differ
@@ -33,6 +33,8 @@ pub const USAGE: &str = "  bbhost check [--explain | --json | --jsonl | -q] [--s
       --timeout S  checks each job in a process of its own, which is ended where it takes longer than S seconds
       --work, --answers   lend that much memory only (a kept term takes 8 bytes, an answer 10)
       --files-from LIST  also checks the files that LIST names, one a line: `find DIR -type f | bbhost check --files-from -`
+      --width W  stops a job at a bit-vector wider than W (code 7), --terms T at a new term beyond T, true and false
+                 counted (code 8); above 64 and 65,535 they are these
       Exit status 0: every job ran to its end, has a step (or the demanded number), and every step is held. 1: not so; a job
       without a step was not checked. 2: usage, or a file that cannot be read. 3: a job took longer than --timeout allows.";
 
@@ -49,17 +51,26 @@ struct Options {
     explain: bool,
     work: usize,
     answers: usize,
+    limits: Limits,
     /// The number of answers that each job must have.
     steps: Option<u32>,
     /// The time that each job may take.
-    limit: Option<Duration>,
+    time: Option<Duration>,
     files: Vec<OsString>,
 }
 
 fn options(words: &[OsString]) -> Result<Options, Failure> {
     let (work, answers) = (MAX_WORK_BYTES, MAX_ANSWER_BYTES);
-    let mut options =
-        Options { form: Form::Table, explain: false, work, answers, steps: None, limit: None, files: Vec::new() };
+    let mut options = Options {
+        form: Form::Table,
+        explain: false,
+        work,
+        answers,
+        limits: Limits::RACK,
+        steps: None,
+        time: None,
+        files: Vec::new(),
+    };
     let mut rest = words.iter();
     while let Some(word) = rest.next() {
         match word.to_str() {
@@ -69,8 +80,10 @@ fn options(words: &[OsString]) -> Result<Options, Failure> {
             Some("--explain") => options.explain = true,
             Some("--work") => options.work = lent("--work", MAX_WORK_BYTES, &mut rest)?,
             Some("--answers") => options.answers = lent("--answers", MAX_ANSWER_BYTES, &mut rest)?,
+            Some("--width") => options.limits.width = number("--width", &mut rest)?,
+            Some("--terms") => options.limits.terms = number("--terms", &mut rest)?,
             Some("--steps") => options.steps = Some(number::<NonZero<u32>>("--steps", &mut rest)?.get()),
-            Some("--timeout") => options.limit = Some(seconds(number("--timeout", &mut rest)?)?),
+            Some("--timeout") => options.time = Some(seconds(number("--timeout", &mut rest)?)?),
             Some("--files-from") => options.files.extend(listed(value("--files-from", &mut rest)?)?),
             Some("--") => options.files.extend(rest.by_ref().cloned()),
             Some(text) if text.starts_with('-') && text != "-" => return Err(unknown(word)),
@@ -127,7 +140,8 @@ fn seconds(number: f64) -> Result<Duration, Failure> {
 
 pub fn run(words: &[OsString], out: &mut impl Write) -> Result<Status, Failure> {
     let options = options(words)?;
-    let mut checker = Checker::new(options.work, options.answers, options.limit);
+    let lent = Lent { work: options.work, room: options.answers, limits: options.limits };
+    let mut checker = Checker::new(lent, options.time);
     let mut progress = Progress::new();
     let mut status = Status::Fine;
     if options.form == Form::Json {

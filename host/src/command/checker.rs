@@ -1,6 +1,6 @@
 //! Who checks the jobs of `bbhost check`: this process, or a child of it for each job, which is ended where it takes too long.
 use super::{Failure, Status, number, unknown};
-use bitblast_host::{Outcome, Report, Service, Tally, run_job, tally_answers};
+use bitblast_host::{Limits, Outcome, Report, Service, Tally, run_job_within, tally_answers};
 use std::{
     env,
     ffi::OsString,
@@ -51,25 +51,34 @@ impl Trouble {
     }
 }
 
+/// What a job is given: bytes of work memory and of answers, and limits.
+#[derive(Clone, Copy)]
+pub struct Lent {
+    pub work: usize,
+    pub room: usize,
+    pub limits: Limits,
+}
+
 /// Checks jobs, and counts what they came to.
 pub enum Checker {
     Here(Box<Service>),
-    Child { limit: Duration, work: usize, room: usize, answers: Vec<u8>, tally: Tally },
+    Child { time: Duration, lent: Lent, answers: Vec<u8>, tally: Tally },
 }
 
 impl Checker {
-    pub fn new(work: usize, room: usize, limit: Option<Duration>) -> Self {
-        match limit {
-            None => Checker::Here(Box::new(Service::new(work, room))),
-            Some(limit) => Checker::Child { limit, work, room, answers: Vec::new(), tally: Tally::default() },
+    /// Jobs are checked in a process of their own where each may take only so much time.
+    pub fn new(lent: Lent, time: Option<Duration>) -> Self {
+        match time {
+            None => Checker::Here(Box::new(Service::new(lent.work, lent.room).with_limits(lent.limits))),
+            Some(time) => Checker::Child { time, lent, answers: Vec::new(), tally: Tally::default() },
         }
     }
 
     pub fn check(&mut self, job: &[u8]) -> Result<Report<'_>, Trouble> {
         match self {
             Checker::Here(service) => Ok(service.check(job)),
-            Checker::Child { limit, work, room, answers, tally } => {
-                let mut bytes = ask(job, *work, *room, *limit)?;
+            Checker::Child { time, lent, answers, tally } => {
+                let mut bytes = ask(job, *lent, *time)?;
                 let outcome = take_outcome(&mut bytes).map_err(Trouble::Failed)?;
                 *answers = bytes;
                 tally_answers(tally, answers, outcome.answers);
@@ -88,8 +97,8 @@ impl Checker {
 }
 
 /// What a child writes about a job, unless it takes too long.
-fn ask(job: &[u8], work: usize, room: usize, limit: Duration) -> Result<Vec<u8>, Trouble> {
-    let mut child = start(work, room).map_err(Trouble::Failed)?;
+fn ask(job: &[u8], lent: Lent, limit: Duration) -> Result<Vec<u8>, Trouble> {
+    let mut child = start(lent).map_err(Trouble::Failed)?;
     let (sender, receiver) = mpsc::channel();
     let mut output = child.stdout.take().expect("the output is piped");
     thread::spawn(move || {
@@ -111,9 +120,12 @@ fn ask(job: &[u8], work: usize, room: usize, limit: Duration) -> Result<Vec<u8>,
     }
 }
 
-fn start(work: usize, room: usize) -> io::Result<Child> {
+fn start(lent: Lent) -> io::Result<Child> {
+    let (memory, limits) = ([lent.work, lent.room], [lent.limits.width, lent.limits.terms]);
     Command::new(env::current_exe()?)
-        .args([WORKER, &work.to_string(), &room.to_string()])
+        .arg(WORKER)
+        .args(memory.map(|number| number.to_string()))
+        .args(limits.map(|number| number.to_string()))
         .stdin(Stdio::piped())
         .stdout(Stdio::piped())
         .spawn()
@@ -132,16 +144,17 @@ fn take_outcome(bytes: &mut Vec<u8>) -> io::Result<Outcome> {
     Ok(Outcome::from_numbers(numbers))
 }
 
-/// The child: checks the job on the standard input, with so much memory, and writes the outcome and the answers.
+/// The child: checks the job on the standard input, with so much memory and under these limits, and writes the outcome and the answers.
 pub fn work(words: &[OsString], out: &mut impl Write) -> Result<Status, Failure> {
     let mut rest = words.iter();
     let (work, room) = (number::<usize>(WORKER, &mut rest)?, number::<usize>(WORKER, &mut rest)?);
+    let limits = Limits { width: number(WORKER, &mut rest)?, terms: number(WORKER, &mut rest)? };
     if let Some(word) = rest.next() {
         return Err(unknown(word));
     }
     let (mut job, mut work, mut answers) = (Vec::new(), vec![0; work], vec![0; room]);
     io::stdin().lock().read_to_end(&mut job)?;
-    let outcome = run_job(&job, &mut work, &mut answers);
+    let outcome = run_job_within(&job, &mut work, &mut answers, limits);
     outcome.numbers().iter().try_for_each(|number| out.write_all(&number.to_le_bytes()))?;
     out.write_all(&answers[..bitblast_host::ANSWER_BYTES * outcome.answers as usize])?;
     Ok(Status::Fine)

@@ -1,7 +1,7 @@
 //! `bbhost compare`: jobs with what the original answers, against the library.
 use super::{
     Failure, Status, about,
-    case::{Call, Expected},
+    case::{Call, Expected, Question},
     grouped,
     progress::Progress,
     unknown, value,
@@ -18,7 +18,7 @@ use std::{
 /// How the command is used.
 pub const USAGE: &str = "  bbhost compare DIR [--counts FILE]
       Runs each NNNNN.job of a folder against its NNNNN.expect (both from the oracle), asks the questions about the job's final
-      store that stand there, and prints which answers of which rule were reached. --counts adds the counts in a file to the
+      store, and about the job under limits, that stand there, and prints which answers of which rule were reached. --counts adds the counts in a file to the
       table, and keeps the sums there. Exit status 1 on any difference.";
 
 /// The differences that are printed one by one.
@@ -90,7 +90,10 @@ fn compare(path: &Path, seed: u64, counts: &mut Counts) -> Result<Option<String>
     let mut call = Call::new(&job, &expected, seed);
     let mut difference = call.job(|outcome, answers| counts.add(outcome, answers));
     for question in &expected.questions {
-        counts.questions += 1;
+        match question {
+            Question::Within { .. } => counts.limits += 1,
+            Question::Sweep { .. } | Question::Count { .. } | Question::Derive { .. } => counts.questions += 1,
+        }
         difference = difference.or_else(|| call.ask(question));
     }
     Ok(difference)
@@ -101,6 +104,8 @@ fn compare(path: &Path, seed: u64, counts: &mut Counts) -> Result<Option<String>
 struct Counts {
     jobs: u64,
     questions: u64,
+    /// Runs under stated limits.
+    limits: u64,
     differences: u64,
     answers: BTreeMap<(u16, u16), u64>,
     stops: BTreeMap<u32, u64>,
@@ -116,7 +121,8 @@ impl Counts {
     }
 
     fn text(&self) -> String {
-        let mut text = format!("jobs {}\ndifferences {}\nquestions {}\n", self.jobs, self.differences, self.questions);
+        let Counts { jobs, differences, questions, limits, .. } = self;
+        let mut text = format!("jobs {jobs}\ndifferences {differences}\nquestions {questions}\nlimits {limits}\n");
         for (stop, n) in &self.stops {
             text.push_str(&format!("stop {stop} {n}\n"));
         }
@@ -133,6 +139,7 @@ impl Counts {
                 ["jobs", n] => counts.jobs = n.parse().ok()?,
                 ["differences", n] => counts.differences = n.parse().ok()?,
                 ["questions", n] => counts.questions = n.parse().ok()?,
+                ["limits", n] => counts.limits = n.parse().ok()?,
                 ["stop", stop, n] => drop(counts.stops.insert(stop.parse().ok()?, n.parse().ok()?)),
                 ["answer", rule, code, n] => {
                     counts.answers.insert((rule.parse().ok()?, code.parse().ok()?), n.parse().ok()?);
@@ -171,6 +178,9 @@ impl Counts {
         }
         if self.questions > 0 {
             write!(out, "{} questions about final stores; ", grouped(self.questions))?;
+        }
+        if self.limits > 0 {
+            write!(out, "{} runs under stated limits; ", grouped(self.limits))?;
         }
         writeln!(out, "in all {} jobs, {} differences", grouped(self.jobs), self.differences)
     }

@@ -2,7 +2,7 @@
 //! and the claims that the generator knows to be right or wrong are answered so.
 use crate::chain::CONG;
 use crate::generate::Case;
-use crate::job::{Step, run};
+use crate::job::{RACK, Step, run};
 use crate::kind::{BOOL, VARIABLE, shape, terms};
 use crate::pool::{Id, Pool};
 use crate::rng::Rng;
@@ -17,6 +17,19 @@ const STOPS: [u16; 11] = [0, 2, 3, 4, 5, 6, 7, 8, 9, 18, 19];
 /// Up to so many bits of variables every assignment is tried.
 const FEW_BITS: usize = 10;
 
+/// What jobs come to under limits, beside the rack's.
+#[derive(Default)]
+struct Limited {
+    /// The same, with fewer terms than the limit, and with just as many.
+    same: usize,
+    full: usize,
+    /// Code 7, and code 8, where the rack has none or another.
+    wide: usize,
+    many: usize,
+    /// Code 8 behind a repeat.
+    repeated: usize,
+}
+
 #[derive(Default)]
 pub struct Summary {
     answers: BTreeMap<(u16, u16), usize>,
@@ -27,6 +40,7 @@ pub struct Summary {
     exhaustive: usize,
     right: usize,
     wrong: usize,
+    limits: Limited,
     pub faults: Vec<String>,
 }
 
@@ -41,6 +55,24 @@ impl Summary {
             place += 1;
         });
         *self.stops.entry(out.stop).or_default() += 1;
+        self.limits(name, case);
+    }
+
+    /// A job that stops with neither 7 nor 8 under some limits is as under the rack's.
+    fn limits(&mut self, name: usize, case: &Case) {
+        let rack = case.limited(RACK);
+        for &limits in &case.under {
+            let found = case.limited(limits);
+            let seen = &mut self.limits;
+            match found.outcome.stop {
+                _ if found == rack && found.outcome.terms == limits.terms as usize => seen.full += 1,
+                _ if found == rack => seen.same += 1,
+                7 => seen.wide += 1,
+                8 if found.outcome.repeats > 0 => seen.repeated += 1,
+                8 => seen.many += 1,
+                stop => self.faults.push(format!("case {name} {limits:?}: stop {stop}, but not as under the rack's")),
+            }
+        }
     }
 
     fn fault(&mut self, step: &Step, claim: Option<bool>, name: usize) -> Option<&'static str> {
@@ -95,6 +127,10 @@ impl Summary {
         missing.extend(stops.map(|stop| format!("stop {stop}")));
         let kinds = terms().filter(|&kind| shape(kind).is_some_and(|s| s.least > 0) && !self.joined.contains(&kind));
         missing.extend(kinds.map(|kind| format!("cong over kind {kind}")));
+        let Limited { same, full, wide, many, repeated } = self.limits;
+        let limits =
+            [(same, "the same"), (full, "as many terms"), (wide, "7"), (many, "8"), (repeated, "8 after a repeat")];
+        missing.extend(limits.iter().filter(|(n, _)| *n == 0).map(|(_, what)| format!("limits with {what}")));
         missing
     }
 
@@ -113,6 +149,11 @@ impl Summary {
         let stops: Vec<String> = self.stops.iter().map(|(stop, count)| format!("{stop}: {count}")).collect();
         let _ = writeln!(out, "\njobs by stop code: {}", stops.join(", "));
         let _ = writeln!(out, "claims known to be right: {}, to be wrong: {}", self.right, self.wrong);
+        let Limited { same, full, wide, many, repeated } = self.limits;
+        let _ = writeln!(
+            out,
+            "under limits as under the rack's: {same}, with as many terms: {full}; 7: {wide}, 8: {many}, after a repeat: {repeated}"
+        );
         let (tried, every) = (self.assignments, self.exhaustive);
         let _ = writeln!(out, "assignments tried on held steps: {tried}, on {every} steps all there are");
         let _ = writeln!(

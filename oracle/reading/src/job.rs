@@ -1,6 +1,7 @@
 //! A job: records in their order, the plain list of terms, the codes, the answers.
 use crate::chain::{CONG, SYMM, joins};
 use crate::kind::{BACK, CHAIN, CONSTANT, STEP, shape};
+use crate::limited::Limited;
 use crate::pool::{Id, NO, Pool, YES};
 use crate::rule::{STEP_RULES, verdict};
 use std::collections::HashSet;
@@ -9,6 +10,16 @@ pub const LONGEST: usize = 16_777_216;
 pub const MOST_TERMS: usize = 65_535;
 pub const ROW: usize = 8;
 pub const ANSWER: usize = 10;
+
+/// The greatest width, and the most terms with `true` and `false`, as a caller states them; above the rack's they are the rack's.
+#[derive(Debug, Clone, Copy, PartialEq, Eq)]
+pub struct Limits {
+    pub width: u32,
+    pub terms: u32,
+}
+
+/// The rack's.
+pub const RACK: Limits = Limits { width: 64, terms: MOST_TERMS as u32 };
 
 /// The bytes of work memory and of answers that are lent.
 #[derive(Debug, Clone, Copy)]
@@ -59,6 +70,7 @@ struct Run<'a> {
     steps: Vec<Answered>,
     repeats: usize,
     lent: Lent,
+    limits: Limits,
 }
 
 /// The list as a job left it: a term's place is its number.
@@ -73,10 +85,15 @@ pub fn run(job: &[u8], lent: Lent, seen: impl FnMut(Step)) -> Outcome {
 }
 
 /// The same with the list at the end.
-pub fn run_whole(job: &[u8], lent: Lent, mut seen: impl FnMut(Step)) -> (Outcome, Final) {
+pub fn run_whole(job: &[u8], lent: Lent, seen: impl FnMut(Step)) -> (Outcome, Final) {
+    run_within(job, lent, RACK, seen)
+}
+
+/// The same under limits.
+pub fn run_within(job: &[u8], lent: Lent, limits: Limits, mut seen: impl FnMut(Step)) -> (Outcome, Final) {
     let mut outcome = Outcome { stop: 0, records: 0, answers: 0, terms: 2, repeats: 0 };
     let (records, kept, steps) = Default::default();
-    let mut run = Run { pool: Pool::default(), list: vec![YES, NO], records, kept, steps, repeats: 0, lent };
+    let mut run = Run { pool: Pool::default(), list: vec![YES, NO], records, kept, steps, repeats: 0, lent, limits };
     let mut rest = job;
     if job.len() > LONGEST {
         outcome.stop = 2;
@@ -135,12 +152,18 @@ impl<'a> Run<'a> {
         let (own, args) = body.split_at(shape.own);
         let args = self.named(&words(args))?;
         let id = self.pool.try_add(kind, &own_numbers(kind, own), &args).ok_or(7u16)?;
+        // Whatever made it: a variable, a constant, bits, an operation. A Bool has no width.
+        if self.pool.width(id) > self.limits.width as usize {
+            return Err(7);
+        }
         if self.kept.contains(record) {
             self.repeats += 1;
             return Ok(());
         }
         // `true` and `false` are on the list, but need no memory.
-        if self.list.len() == MOST_TERMS || (self.records.len() + 1) * ROW > self.lent.work {
+        if self.list.len() >= MOST_TERMS.min(self.limits.terms as usize)
+            || (self.records.len() + 1) * ROW > self.lent.work
+        {
             return Err(8);
         }
         self.list.push(id);
@@ -243,14 +266,8 @@ fn own_numbers(kind: u16, own: &[u8]) -> Vec<u64> {
 
 /// The text of an .expect file, as far as it is about the job.
 pub fn expect_text(job: &[u8], lent: Lent) -> String {
-    let mut bytes = String::new();
-    let out = run(job, lent, |step| {
-        let Answer { rule, code, depth } = step.answer;
-        for number in [8, 200, u64::from(rule), u64::from(code), depth] {
-            bytes += &format!("{:02x}{:02x}", number & 255, number >> 8);
-        }
-    });
-    let Outcome { stop, records, answers, terms, repeats } = out;
+    let Limited { outcome, bytes } = Limited::of(job, lent, RACK);
+    let Outcome { stop, records, answers, terms, repeats } = outcome;
     let Lent { work, room } = lent;
     format!(
         "work {work}\nroom {room}\nstop {stop}\nrecords {records}\nanswers {answers}\nterms {terms}\nrepeats {repeats}\nbytes {bytes}\n"

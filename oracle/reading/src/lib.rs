@@ -7,6 +7,7 @@ pub mod divide;
 pub mod generate;
 pub mod job;
 pub mod kind;
+pub mod limited;
 pub mod partial;
 pub mod pool;
 pub mod question;

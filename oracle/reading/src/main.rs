@@ -1,12 +1,14 @@
 //! The command line `reading`.
 use reading::generate::{write_all, write_asked};
-use reading::job::{self, Lent};
+use reading::job::{self, Lent, Limits};
+use reading::limited::{self, Limited};
 use reading::question::Question;
 use std::{error::Error, fs, io::Read, path::Path, process::exit};
 
 const USAGE: &str = "usage:
   reading run < FILE.job          prints what bbcheck prints
-  reading case FILE WORK ROOM     prints the .expect text for that much work memory and answer room
+  reading case FILE WORK ROOM [WIDTH TERMS]
+                                  prints the .expect text for that much work memory and answer room, or the outcome under limits
   reading gen SEED COUNT DIR      writes COUNT cases and a summary; status 1 where the cases show a fault
   reading ask SEED COUNT DIR      the same with questions about the jobs' final lists
   reading verify DIR              reads the cases of a folder against their .expect files; status 1 where one differs";
@@ -33,6 +35,14 @@ fn commands() -> Result<i32, Box<dyn Error>> {
         }
         ["case", file, work, room] => {
             print!("{}", job::expect_text(&fs::read(file)?, Lent { work: work.parse()?, room: room.parse()? }));
+            Ok(0)
+        }
+        ["case", file, work, room, width, terms] => {
+            let lent = Lent { work: work.parse()?, room: room.parse()? };
+            let limits = Limits { width: width.parse()?, terms: terms.parse()? };
+            let Limited { outcome, bytes } = Limited::of(&fs::read(file)?, lent, limits);
+            let job::Outcome { stop, records, terms, repeats, .. } = outcome;
+            println!("stop {stop}\nrecords {records}\nterms {terms}\nrepeats {repeats}\nbytes {bytes}");
             Ok(0)
         }
         ["gen", seed, count, folder] => {
@@ -68,7 +78,9 @@ fn verify(folder: &Path) -> Result<i32, Box<dyn Error>> {
         let (outcome, store) = job::run_whole(&job, lent, |_| {});
         let questions = expected.lines().filter_map(Question::parse);
         let asked = questions.map(|question| question.text() + &question.answer(outcome.stop, &store).text());
-        if job::expect_text(&job, lent) + &asked.collect::<String>() != expected {
+        let under = expected.lines().filter_map(limited::parse);
+        let under = under.map(|limits| Limited::of(&job, lent, limits).text(limits));
+        if job::expect_text(&job, lent) + &asked.chain(under).collect::<String>() != expected {
             differing += 1;
             println!("DIFFERS {}", path.display());
         }

@@ -5,7 +5,7 @@ use Rattle.bitblast.proofs.check_job.Statement.{statement}
 use Rattle.bitblast.proofs.check_job.Tie as tie
 
 returns : tie.Need-returns
-returns c = let f = c .before .before .before .before .before .run-job .ensures in (c .outcome-of .ensures ∙ f .result-is, (f .answers-are, f .memory-is))
+returns c = let f = c .before .before .before .before .before .run-within .ensures in (c .outcome-of .ensures ∙ f .result-is, (f .answers-are, f .memory-is))
 
 pub check-job-spec : {M : Type 1} → statement M
 check-job-spec = tie.close (tie.spec (λ c κs. search needs) (λ c κs. search needs) (λ c. search needs) (λ c. search needs) returns)

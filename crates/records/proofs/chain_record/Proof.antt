@@ -1,6 +1,7 @@
 -- `chain_record`: a chain that passes has a rule and a literal, so its answer is theory's.
 use borrow.Author.Needs.{needs}
 use denote.Ref.{now}
+use Rattle.theory.specs.Limit.{rack}
 use Rattle.records.proofs.Turns.{chain-stopped, chain-right, chain-claimed, chain-turned}
 use Rattle.records.proofs.chain_record.Statement.{statement}
 use Rattle.records.proofs.chain_record.Tie as tie
@@ -9,28 +10,28 @@ returns : tie.Need-returns
 returns c =
     let f = c .before in
     let s = f .before .before .before .before in
-    chain-stopped (s .pre .0) (now (s .args .answers)) (s .args .answered) (f .chain-fault .ensures) (c .if1 .taken)
+    λ limits. chain-stopped limits (s .pre .0) (now (s .args .answers)) (s .args .answered) (f .chain-fault .ensures) (c .if1 .taken)
 
 chain-verdict-requires : tie.Need-chain-verdict-requires
 chain-verdict-requires c κs =
     let e = c .before in
     let f = e .before in
     let s = f .before .before .before .before in
-    chain-claimed (s .pre .0) (now (s .args .answers)) (s .args .answered) (f .chain-fault .ensures) (e .if1 .left) (s .pre .1)
+    chain-claimed rack (s .pre .0) (now (s .args .answers)) (s .args .answered) (f .chain-fault .ensures) (e .if1 .left) (s .pre .1)
 
 judge-requires : tie.Need-judge-requires
 judge-requires c κs =
     let e = c .before .before in
     let f = e .before in
     let s = f .before .before .before .before in
-    (s .pre .0 .store, chain-claimed (s .pre .0) (now (s .args .answers)) (s .args .answered) (f .chain-fault .ensures) (e .if1 .left) (s .pre .1) .below)
+    (s .pre .0 .store, chain-claimed rack (s .pre .0) (now (s .args .answers)) (s .args .answered) (f .chain-fault .ensures) (e .if1 .left) (s .pre .1) .below)
 
 answered-turn-requires : tie.Need-answered-turn-requires
 answered-turn-requires c κs =
     let e = c .before .before .before .before in
     let f = e .before in
     let s = f .before .before .before .before in
-    chain-right (s .pre .0) (now (s .args .answers)) (s .args .answered) (f .chain-fault .ensures) (e .if1 .left) .roomy
+    chain-right rack (s .pre .0) (now (s .args .answers)) (s .args .answered) (f .chain-fault .ensures) (e .if1 .left) .roomy
 
 returns-2 : tie.Need-returns-2
 returns-2 c =
@@ -40,7 +41,7 @@ returns-2 c =
     let e = v .before .before in
     let f = e .before in
     let s = f .before .before .before .before in
-    chain-turned (s .pre .0) (now (s .args .answers)) (s .args .answered) (f .chain-fault .ensures) (e .if1 .left) (v .chain-verdict .ensures) (j .judge .ensures)
+    λ limits. chain-turned limits (s .pre .0) (now (s .args .answers)) (s .args .answered) (f .chain-fault .ensures) (e .if1 .left) (v .chain-verdict .ensures) (j .judge .ensures)
     (t .answered-turn .ensures .0) (t .answered-turn .ensures .1)
 
 pub chain-record-spec : {M : Type 1} → statement M

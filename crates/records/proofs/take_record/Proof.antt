@@ -4,6 +4,7 @@ use mathlib.Core.Path.{refl}
 use native.Mathlib.Omega.{arith}
 use denote.Ref.{now}
 use Rattle.terms.specs.declared.Item.the-variants as I
+use Rattle.intern.specs.Interning.{limits-of}
 use Rattle.records.specs.Turning.{Reading}
 use Rattle.records.proofs.Turns.{reading, stopped}
 use Rattle.records.proofs.take_record.Statement.{statement}
@@ -40,22 +41,30 @@ back-record-requires c κs =
 returns : tie.Need-returns
 returns c = c .before .before .term-record .ensures (now (c .before .before .before .before .before .before .before .before .before .before .before .args .answers))
 
+returns-2 : tie.Need-returns-2
+returns-2 c = let t = c .before .before in t .step-record .ensures (limits-of (t .before .before .before .before .before .before .before .before .before .before .args .limits))
+
+returns-3 : tie.Need-returns-3
+returns-3 c = let t = c .before .before in t .chain-record .ensures (limits-of (t .before .before .before .before .before .before .before .before .before .before .args .limits))
+
 returns-4 : tie.Need-returns-4
-returns-4 c = c .before .before .back-record .ensures (now (c .before .before .before .before .before .before .before .before .before .before .before .args .answers))
+returns-4 c =
+    let s = c .before .before .before .before .before .before .before .before .before .before .before in
+    c .before .before .back-record .ensures (limits-of (s .args .limits)) (now (s .args .answers))
 
 returns-5 : tie.Need-returns-5
 returns-5 c =
     let r = c .before .before in
     let s = r .before .before .before .before in
     let g : Reading (now (s .args .job)) (now (s .args .work)) (s .args .rows) (s .args .at) I.Unknown = reading (s .pre .0 .store) (s .pre .1) (r .read .ensures .0) (r .read .ensures .1) (c .enum-told .given .1) in
-    stopped g (now (s .args .answers)) (s .args .answered) 4 (λ z. omega arith) refl
+    stopped (limits-of (s .args .limits)) g (now (s .args .answers)) (s .args .answered) 4 (λ z. omega arith) refl
 
 returns-6 : tie.Need-returns-6
 returns-6 c =
     let r = c .before .before in
     let s = r .before .before .before .before in
     let g : Reading (now (s .args .job)) (now (s .args .work)) (s .args .rows) (s .args .at) I.Misfit = reading (s .pre .0 .store) (s .pre .1) (r .read .ensures .0) (r .read .ensures .1) (c .enum-told2 .given .1) in
-    stopped g (now (s .args .answers)) (s .args .answered) 5 (λ z. omega arith) refl
+    stopped (limits-of (s .args .limits)) g (now (s .args .answers)) (s .args .answered) 5 (λ z. omega arith) refl
 
 pub take-record-spec : {M : Type 1} → statement M
 take-record-spec =
@@ -76,10 +85,10 @@ take-record-spec =
     returns
     (λ c. search needs)
     (λ c. search needs)
+    returns-2
     (λ c. search needs)
     (λ c. search needs)
-    (λ c. search needs)
-    (λ c. search needs)
+    returns-3
     (λ c. search needs)
     returns-4
     returns-5

@@ -2,6 +2,7 @@
 use borrow.Author.Needs.{needs}
 use mathlib.Core.Path.{sym, _∙_}
 use borrow.Author.Tests.{not-true, not-false}
+use Rattle.intern.specs.Interning.{limits-of}
 use Rattle.records.proofs.Turns.{offered, not-below, term-turned}
 use Rattle.records.proofs.term_record.Statement.{statement}
 use Rattle.records.proofs.term_record.Tie as tie
@@ -9,7 +10,7 @@ use Rattle.records.proofs.term_record.Tie as tie
 returns : tie.Need-returns
 returns c =
     let s = c .before .before .before .before in
-    λ answers. not-below (s .pre) answers (s .args .answered) (sym (c .before .below .ensures) ∙ not-true _ (c .if1 .taken))
+    λ answers. not-below (limits-of (s .args .limits)) (s .pre) answers (s .args .answered) (sym (c .before .below .ensures) ∙ not-true _ (c .if1 .taken))
 
 intern-requires : tie.Need-intern-requires
 intern-requires c κs =
@@ -21,7 +22,7 @@ returns-2 c =
     let i = c .before .before .before in
     let b = i .before .before .before in
     let s = b .before .before .before in
-    λ answers. term-turned (s .pre) answers (s .args .answered) (sym (b .below .ensures) ∙ not-false _ (i .before .before .if1 .left)) (i .intern .ensures) (c .kept-turn .ensures)
+    λ answers. term-turned (limits-of (s .args .limits)) (s .pre) answers (s .args .answered) (sym (b .below .ensures) ∙ not-false _ (i .before .before .if1 .left)) (i .intern .ensures) (c .kept-turn .ensures)
 
 pub term-record-spec : {M : Type 1} → statement M
 term-record-spec =

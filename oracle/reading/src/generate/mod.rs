@@ -6,6 +6,7 @@ mod claims;
 mod derived;
 mod equalities;
 mod large;
+mod limits;
 mod maker;
 mod over;
 mod records;
@@ -17,7 +18,8 @@ pub use asked::{Asked, asked_case};
 pub use maker::Maker;
 
 use crate::check::Summary;
-use crate::job::{ANSWER, Lent, ROW, expect_text};
+use crate::job::{ANSWER, Lent, Limits, ROW, expect_text};
+use crate::limited::Limited;
 use crate::rule::STEP_RULES;
 use crate::survey::Survey;
 use std::fs::{self, File};
@@ -31,6 +33,8 @@ pub struct Case {
     pub claims: Vec<Option<bool>>,
     /// What is asked of the final list.
     pub asked: Vec<Asked>,
+    /// Limits under which the job is to be run too.
+    pub under: Vec<Limits>,
 }
 
 impl Case {
@@ -38,13 +42,19 @@ impl Case {
     fn of(maker: &mut Maker) -> Self {
         let lent = Lent { work: ROW * (maker.peak - 2), room: ANSWER * maker.claims.len() };
         let (job, claims) = (std::mem::take(&mut maker.bytes), std::mem::take(&mut maker.claims));
-        Case { job, lent, claims, asked: Vec::new() }
+        Case { job, lent, claims, asked: Vec::new(), under: Vec::new() }
     }
 
     /// The text of the .expect file.
     pub fn text(&self) -> String {
         let asked = self.asked.iter().map(|asked| asked.question.text() + &asked.answer.text());
-        expect_text(&self.job, self.lent) + &asked.collect::<String>()
+        let under = self.under.iter().map(|&limits| self.limited(limits).text(limits));
+        expect_text(&self.job, self.lent) + &asked.chain(under).collect::<String>()
+    }
+
+    /// What the job comes to under limits.
+    pub fn limited(&self, limits: Limits) -> Limited {
+        Limited::of(&self.job, self.lent, limits)
     }
 }
 
@@ -72,6 +82,7 @@ pub fn case(seed: u64, i: usize) -> Case {
     if maker.rng.chance(8) {
         damage(&mut maker, &mut case);
     }
+    case.under = maker.limits(&case);
     case
 }
 

@@ -4,6 +4,7 @@ use denote.Ref.{now}
 use lib.ListN.{length}
 use lib.Seq.{length-take-le}
 use native.Mathlib.Omega.{arith}
+use Rattle.theory.specs.Limit.{rack}
 use Rattle.theory.specs.Job.{Outcome, returned, answers-after}
 use Rattle.bitblast.proofs.Enough.{run-enough}
 use Rattle.bitblast.proofs.Calls.{zeros}
@@ -39,7 +40,7 @@ returns : tie.Need-returns
 returns c =
     let a = c .before .before .before .before .before .before .before .before .before .before .before .before .before .before .before .before .before .before .before .args in
     let r = c .before .before .before .before .before .before .before .before .before .before .sweep-job .ensures in
-    let e = run-enough (now (a .job)) (now (a .work)) (c .before .before .before .before .before .before .before .before .before .before .before .before .before .before .used .result) (length (now (a .answers))) (c .before .before .before .before .before .before .before .before .before .before .before .before .before .before .used .ensures) in (
+    let e = run-enough rack (now (a .job)) (now (a .work)) (c .before .before .before .before .before .before .before .before .before .before .before .before .before .before .used .result) (length (now (a .answers))) (c .before .before .before .before .before .before .before .before .before .before .before .before .before .before .used .ensures) in (
       r .0 ∙ ap returned e,
       (
         r .1 .0 ∙ ap (λ (o : Outcome). answers-after (o .answers) (now (a .answers))) e,

@@ -34,24 +34,24 @@ returns-2 c =
     taken (whole-learnt bs (sym (k .size .given .1) ∙ f .frame .ensures) .0) (t .take-record .result) (t .take-record .ensures)
     (moved-not (extent bs) (s .args .s) (t .take-record .result) (c .if1 .taken))
 
-add-t14 : tie.Need-add-t14
-add-t14 c =
+add-t15 : tie.Need-add-t15
+add-t15 c =
     let k = c .before .before .before .before .before .before .before .before .before .before in
     let f = k .before .before in
     let s = f .before .before .before .before in
     let e = whole-learnt (drop (s .args .s .at) (now (s .args .job))) (sym (k .size .given .1) ∙ f .frame .ensures) in
     omega (arith, e .1, stands (now (s .args .job)) (s .args .s .at) (e .0) .end, s .good)
 
-add-t15 : tie.Need-add-t15
-add-t15 c =
+add-t16 : tie.Need-add-t16
+add-t16 c =
     let k = c .before .before .before .before .before .before .before .before .before .before .before in
     let f = k .before .before in
     let s = f .before .before .before .before in
     let e = whole-learnt (drop (s .args .s .at) (now (s .args .job))) (sym (k .size .given .1) ∙ f .frame .ensures) in
     omega (arith, s .pre .counted, stands (now (s .args .job)) (s .args .s .at) (e .0) .end, s .good)
 
-add-t16 : tie.Need-add-t16
-add-t16 c =
+add-t17 : tie.Need-add-t17
+add-t17 c =
     let t = c .before .before .before .before .before .before .before .before .before in
     let k = t .before .before .before .before in
     let f = k .before .before in
@@ -81,9 +81,9 @@ next-spec =
     (λ c. search needs)
     (λ c. search needs)
     returns-2
-    add-t14
     add-t15
     add-t16
+    add-t17
     (λ c. search needs)
     (λ c. search needs)
     returns-3)

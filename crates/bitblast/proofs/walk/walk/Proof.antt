@@ -5,18 +5,19 @@ use Prim.Native.Nat.{_-_}
 use native.Mathlib.Omega.{arith}
 use lib.ListN.{length}
 use denote.Ref.{now}
+use Rattle.intern.specs.Interning.{limits-of}
 use Rattle.bitblast.proofs.Walks.{Between, begins, standing, goes, stops, ends, walked}
 use Rattle.bitblast.proofs.walk.walk.Statement.{statement}
 use Rattle.bitblast.proofs.walk.walk.Tie as tie
 
 abbrev Inv-loop : tie.InvT-loop
-Inv-loop job work₀ answers₀ s₀ work answers s = (s .stop ≡ 0) × Between job (length work₀) answers₀ work answers s
+Inv-loop job work₀ answers₀ limits s₀ work answers s = (s .stop ≡ 0) × Between (limits-of limits) job (length work₀) answers₀ work answers s
 
 abbrev μ-loop : tie.MeasureT-loop
-μ-loop job work₀ answers₀ s₀ work answers s = length job - s .at
+μ-loop job work₀ answers₀ limits s₀ work answers s = length job - s .at
 
 loop-holds : tie.Need-loop-holds Inv-loop μ-loop
-loop-holds c = let s = c .before .before .before .before .before .before .before in (refl, begins (now (s .args .answers)) (s .pre) (c .before .before .start .ensures))
+loop-holds c = let s = c .before .before .before .before .before .before .before in (refl, begins (limits-of (s .args .limits)) (now (s .args .answers)) (s .pre) (c .before .before .start .ensures))
 
 next-requires : tie.Need-next-requires Inv-loop μ-loop
 next-requires c κs = standing (c .before .before .before .before .loop .inv .1)

@@ -1,4 +1,4 @@
--- `bb_job`: the job is given as much work memory as it can need, all of it is wiped at the end, and the demands follow from what is
+-- `bb_job_within`: the job is given as much work memory as it can need, all of it is wiped at the end, and the demands follow from what is
 -- returned and written.
 use borrow.Author.Needs.{needs}
 use mathlib.Core.Path.{_≡_, sym, ap, _∙_}
@@ -7,11 +7,12 @@ use lib.ListN.{length}
 use lib.Seq.{length-take-le}
 use denote.Ref.{now}
 use Rattle.terms.proofs.Numbers.{all-bytes}
+use Rattle.theory.specs.Limit.{stated}
 use Rattle.theory.specs.Job.{Outcome, returned, answers-after}
 use Rattle.bitblast.proofs.Calls.{zeros, called}
 use Rattle.bitblast.proofs.Enough.{run-enough}
-use Rattle.bitblast.proofs.bb_job.Statement.{statement}
-use Rattle.bitblast.proofs.bb_job.Tie as tie
+use Rattle.bitblast.proofs.bb_job_within.Statement.{statement}
+use Rattle.bitblast.proofs.bb_job_within.Tie as tie
 
 slice-aggregate-check-job : tie.Need-slice-aggregate-check-job
 slice-aggregate-check-job c = sym (length-take-le _ _ (omega arith))
@@ -21,13 +22,13 @@ returns c =
     let j = c .before .before .before .before .before .before .before .before in
     let s = j .before .before .before .before .before .before in
     let a = s .before .args in
-    let e = run-enough (now (a .job)) (now (a .work)) (j .before .before .before .used .result) (length (now (a .answers))) (j .before .before .before .used .ensures) in
-    called (now (a .job)) (now (a .work)) (now (a .answers)) (all-bytes (now (a .job)) (λ i. s .shared-slice-known .given i)) (j .check-job .result)
+    let e = run-enough (stated (a .width-limit) (a .term-limit)) (now (a .job)) (now (a .work)) (j .before .before .before .used .result) (length (now (a .answers))) (j .before .before .before .used .ensures) in
+    called (stated (a .width-limit) (a .term-limit)) (now (a .job)) (now (a .work)) (now (a .answers)) (all-bytes (now (a .job)) (λ i. s .shared-slice-known .given i)) (j .check-job .result)
     (j .check-job .ensures .0 ∙ ap returned e) (j .check-job .ensures .1 .0 ∙ ap (λ (o : Outcome). answers-after (o .answers) (now (a .answers))) e)
     (zeros (now (a .work)) (c .before .before .wipe .ensures) (let l : length (c .before .before .wipe .last .0) ≡ length (now (a .work)) = search needs in l))
 
-pub bb-job-spec : {M : Type 1} → statement M
-bb-job-spec =
+pub bb-job-within-spec : {M : Type 1} → statement M
+bb-job-within-spec =
     tie.close
     (tie.spec
     (λ c κs. search needs)
