@@ -5,8 +5,8 @@
  * Pointers are not NULL, also where their length is 0, and the lent memories do not overlap. The library has no memory of its
  * own: calls on different memories may run at the same time.
  *
- * Stack: BB_STACK_BYTES are enough for any job. The job decides how much is used: most of it in a division of width 64, which a
- * default thread of some C libraries has no room for.
+ * Stack: BB_STACK_BYTES are enough for any job and any text. The job decides how much is used: most of it in a division of width 64, which a
+ * default thread of some C libraries has no room for. A text whose terms are nested 200 deep takes some 152 KiB.
  *
  * Time: every call ends, but nothing interrupts it. A job may repeat its longest step, a division of width 64, in eight bytes for
  * each answer that has room. Where the work memory is twice what the terms need, such a step took less than ten milliseconds
@@ -26,7 +26,7 @@ extern "C" {
 
 /* The number of the interface that is declared here. It grows with each change of a function or struct below: a program that is
  * compiled with this header must be linked with a library whose bb_version() gives the same number. */
-#define BB_VERSION 6
+#define BB_VERSION 7
 
 /* The longest job, in bytes. */
 #define BB_MAX_JOB 16777216
@@ -40,6 +40,9 @@ extern "C" {
 
 /* The bytes of work memory that a kept term costs; no job keeps more than BB_MAX_TERMS terms, two of them free. */
 #define BB_TERM_BYTES 8
+
+/* The work memory beyond which the lookups of bb_text become no faster. */
+#define BB_LOOKUP_BYTES 1048576
 
 /* The bytes of a value buffer that a kept term needs, `true` and `false` too. */
 #define BB_VALUE_BYTES 8
@@ -184,6 +187,13 @@ typedef struct BbKnown {
     BbOutcome outcome; /* what the job came to */
 } BbKnown;
 
+/* What a text came to. */
+typedef struct BbConverted {
+    uint32_t code;   /* 0 where the job was written, 25 where a line is refused */
+    uint64_t line;   /* the place of the first line that is refused, from 1; 0 where none is */
+    uint64_t length; /* the bytes of the job; 0 where a line is refused */
+} BbConverted;
+
 /* What the jobs of a service came to. Each number saturates. */
 typedef struct BbTally {
     uint64_t jobs;
@@ -245,6 +255,15 @@ BbKnown bb_known(const uint8_t *job, size_t job_len,
                  uint32_t number,
                  const uint8_t *inputs, size_t inputs_len,
                  uint8_t *outputs, size_t outputs_len);
+
+/* Reads a text of declarations and Alethe steps, and writes a job with a step for each step line; docs/FORMAT.md has the form of a line. The job
+ * stands at the start of `job`, and the bytes past it are as they were; where a line is refused, all of `job` is zero. A job is at most five times
+ * as long as its text. `work` may be of any length and content: it makes lookups faster, never changes the result, and is all zero afterwards. With
+ * none a term is looked for among all records written, so that the time grows with the square of the text; BB_LOOKUP_BYTES are enough for any. Names
+ * are looked for among the declarations, whatever is lent. */
+BbConverted bb_text(const uint8_t *text, size_t text_len,
+                    uint8_t *work, size_t work_len,
+                    uint8_t *job, size_t job_len);
 
 /* Adds one job and its first `count` answers to a tally; where `answers` is shorter, those that it has whole. */
 void bb_tally(BbTally *tally, const uint8_t *answers, size_t answers_len, uint32_t count);

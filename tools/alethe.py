@@ -305,7 +305,7 @@ def main():
     with tempfile.TemporaryDirectory() as scratch:
         folder = keep or scratch
         os.makedirs(folder, exist_ok=True)
-        with open(os.path.join(folder, "proof.alethe"), "w") as f:
+        with open(os.path.join(folder, "proof.txt"), "w") as f:
             f.write(printed)
         converted = Converted(widths, printed)
         held = report(converted, converted.verdicts(folder))

@@ -1,5 +1,5 @@
 //! The functions of the static library, declared by hand: nothing checks these declarations against the Rattle source
-//! (`bb_job`, `bb_job_within`, `bb_sweep`, `bb_count`, `bb_known`, `bb_version` and what they return in crates/bitblast, `Tally` in crates/tally). tests/ffi.rs does what can be done: it
+//! (`bb_job`, `bb_job_within`, `bb_sweep`, `bb_count`, `bb_known`, `bb_text`, `bb_version` and what they return in crates/bitblast and crates/convert, `Tally` in crates/tally). tests/ffi.rs does what can be done: it
 //! compares the text of both, the interface's number, and sizes, offsets and the bytes around each lent slice.
 use crate::{MAX_TERMS, MAX_WIDTH};
 
@@ -92,6 +92,19 @@ impl Default for Limits {
     }
 }
 
+/// What a text came to. Later interfaces may add numbers.
+#[repr(C)]
+#[non_exhaustive]
+#[derive(Clone, Copy, Debug, Default, PartialEq, Eq)]
+pub struct Converted {
+    /// 0 where the job was written, 25 where a line is refused.
+    pub code: u32,
+    /// The place of the first line that is refused, from 1; 0 where none is.
+    pub line: u64,
+    /// The bytes of the job; 0 where a line is refused.
+    pub length: u64,
+}
+
 unsafe extern "C" {
     fn bb_job(
         job: *const u8,
@@ -154,6 +167,14 @@ unsafe extern "C" {
         outputs: *mut u8,
         outputs_len: usize,
     ) -> Known;
+    fn bb_text(
+        text: *const u8,
+        text_len: usize,
+        work: *mut u8,
+        work_len: usize,
+        job: *mut u8,
+        job_len: usize,
+    ) -> Converted;
 
     fn bb_tally(tally: *mut Tally, answers: *const u8, answers_len: usize, count: u32);
 
@@ -304,6 +325,14 @@ pub fn known_job(
             outputs.len(),
         )
     }
+}
+
+/// Reads a text of declarations and steps, and writes a job with a step for each step line; docs/FORMAT.md has the form of a line. The job stands
+/// at the start of `job`, and the bytes past it are as they were; where a line is refused, all of `job` is zero. `work` may be of any length and
+/// content: it makes lookups faster, never changes the result, and is all zero afterwards.
+pub fn convert_text(text: &[u8], work: &mut [u8], job: &mut [u8]) -> Converted {
+    // SAFETY: each pointer is valid for its length, and the borrows keep the three apart.
+    unsafe { bb_text(text.as_ptr(), text.len(), work.as_mut_ptr(), work.len(), job.as_mut_ptr(), job.len()) }
 }
 
 /// Adds one job and its first `count` answers to a tally; where `answers` is shorter, those that it has whole.

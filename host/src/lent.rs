@@ -56,6 +56,11 @@ impl<T: Unit> Lent<T> {
         &mut self.units[FENCE..FENCE + self.size]
     }
 
+    /// What was made ready, to lend it.
+    pub fn lent(&mut self) -> &mut [T] {
+        &mut self.units[FENCE..FENCE + self.size]
+    }
+
     /// What was lent.
     pub fn units(&self) -> &[T] {
         &self.units[FENCE..FENCE + self.size]

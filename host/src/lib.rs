@@ -24,6 +24,7 @@
 //! and are not shown here: they take widths, counts and terms as they come, so that what is out of range panics or makes another job
 //! than was meant, and they may change at any time.
 
+pub mod alethe;
 #[doc(hidden)]
 pub mod circuits;
 pub mod ffi;
@@ -38,15 +39,16 @@ pub mod rng;
 pub mod service;
 pub mod words;
 
+pub use alethe::{Refused, convert};
 pub use ffi::{
-    Counted, Known, Limits, Outcome, Swept, Tally, count_job, interface, known_job, run_job, run_job_within, sweep_job,
-    tally_answers,
+    Converted, Counted, Known, Limits, Outcome, Swept, Tally, convert_text, count_job, interface, known_job, run_job,
+    run_job_within, sweep_job, tally_answers,
 };
 pub use service::{Answer, Answers, Count, KnownBits, Memory, Report, Service, Sweep, Verdict};
 pub use words::{AnswerCode, Kind, Rule, StopCode};
 
 /// The number of the library's interface that this crate is written for.
-pub const INTERFACE: u32 = 6;
+pub const INTERFACE: u32 = 7;
 
 /// The longest job, in bytes; a longer one is answered with stop code 2.
 pub const MAX_JOB_BYTES: usize = 16_777_216;
@@ -72,7 +74,8 @@ pub const MAX_VALUES: usize = 256;
 /// The bytes of an answer.
 pub const ANSWER_BYTES: usize = 10;
 
-/// The stack, in bytes, that is enough for a call with any job. Most of it is used by divisions of width 64.
+/// The stack, in bytes, that is enough for a call with any job or text. Most of it is used by divisions of width 64, and by terms that are
+/// nested 200 deep.
 pub const STACK_BYTES: usize = 262_144;
 
 /// The bytes of the shortest record of a step, and of a term.

@@ -2,7 +2,7 @@
 mod command;
 
 use bitblast_host::{interface, words::RULES};
-use command::{Failure, Status, bench, check, checker, compare, count, known, manual, show, soak, sweep};
+use command::{Failure, Status, bench, check, checker, compare, convert, count, known, manual, show, soak, sweep};
 use std::{
     env,
     ffi::OsString,
@@ -41,9 +41,10 @@ struct Command {
 }
 
 /// The commands, in the order of the help.
-const COMMANDS: [Command; 10] = [
+const COMMANDS: [Command; 11] = [
     Command { name: "check", usage: check::USAGE, run: check::run },
     Command { name: "show", usage: show::USAGE, run: show::run },
+    Command { name: "convert", usage: convert::USAGE, run: convert::run },
     Command { name: "sweep", usage: sweep::USAGE, run: sweep::run },
     Command { name: "count", usage: count::USAGE, run: count::run },
     Command { name: "known", usage: known::USAGE, run: known::run },

@@ -26,8 +26,8 @@ fn checked(name: &str, proof: &str) -> (Option<i32>, String) {
 
 #[test]
 fn steps_of_a_solver() {
-    let proof = fs::read_to_string(root().join("examples/problem.alethe")).unwrap();
-    let (status, text) = checked("right.alethe", &proof);
+    let proof = fs::read_to_string(root().join("examples/problem.proof")).unwrap();
+    let (status, text) = checked("right.proof", &proof);
     assert_eq!(status, Some(0), "{text}");
     assert!(text.contains("  9 bit-blasting steps: 8 held, 1 held with nested operations as one\n"), "{text}");
     assert!(text.contains(" other steps, which are not looked at: ") && text.ends_with("\ns HELD\n"), "{text}");
@@ -35,16 +35,16 @@ fn steps_of_a_solver() {
     // Another circuit of bvult, a rule that no job has, and a proof without such a step.
     let bvult = proof.lines().find(|line| line.contains("bv_bitblast_step_bvult")).unwrap();
     let wrong = proof.replace(bvult, &bvult.replacen("(and (not ", "(or (not ", 1));
-    let (status, text) = checked("wrong.alethe", &wrong);
+    let (status, text) = checked("wrong.proof", &wrong);
     assert!(
         status == Some(1) && text.contains("bv_bitblast_step_bvult: refused: ") && text.ends_with("\ns NOT HELD\n"),
         "{text}"
     );
-    let (status, text) = checked("unknown.alethe", &proof.replace("step_bvult", "step_bvusubo"));
+    let (status, text) = checked("unknown.proof", &proof.replace("step_bvult", "step_bvusubo"));
     assert!(
         status == Some(1) && text.contains("not checked, since no job can hold it: bv_bitblast_step_bvusubo"),
         "{text}"
     );
-    let (status, text) = checked("none.alethe", "(error \"unordered_map::at\")\n");
+    let (status, text) = checked("none.proof", "(error \"unordered_map::at\")\n");
     assert!(status == Some(1) && text.contains("  0 bit-blasting steps: none in a job\n"), "{text}");
 }

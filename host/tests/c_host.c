@@ -226,6 +226,38 @@ static void bits(void) {
     }
 }
 
+/* A variable and two steps on one term, in every room around the 26 bytes that the job takes, and with a line that is refused. */
+static void text(void) {
+    static const char good[] = "(declare-const a Bool)\n(step s (cl (not a)) :rule not)\n(step s (cl (not a)) :rule var)";
+    static const char bad[] = "(declare-const a Bool)\n(step s (cl (not b)) :rule not)\n";
+    static const uint8_t expected[] = {4, 0, 10, 0, 0, 0, 4, 0, 20, 0, 2, 0, 6, 0, 100, 0, 7, 0, 3, 0, 6, 0, 100, 0, 2, 0, 3, 0};
+    for (size_t k = 0; k < 2 * 3 * 40; k++) {
+        size_t room = k % 40, size = k / 40 % 3 * 8;
+        const char *given = k < 120 ? good : bad;
+        uint8_t work[FENCE + 16 + FENCE], job[FENCE + 40 + FENCE];
+        memset(work, POST, sizeof work);
+        memset(work + FENCE, OLD, size);
+        memset(job, POST, sizeof job);
+        memset(job + FENCE, OLD, room);
+        struct {
+            uint64_t before;
+            BbConverted converted;
+            uint64_t behind[4];
+        } c;
+        memset(&c, POST, sizeof c);
+        c.converted = bb_text((const uint8_t *)given, strlen(given), work + FENCE, size, job + FENCE, room);
+        uint64_t line = given == good ? (room < 6 ? 1 : room < 20 ? 2 : room < 28 ? 3 : 0) : (room < 6 ? 1 : 2);
+        size_t written = line == 0 ? sizeof expected : 0;
+        expect(c.converted.code == (line == 0 ? 0 : 25) && c.converted.line == line && c.converted.length == written, "a text");
+        expect(all((const uint8_t *)&c.before, 0, sizeof c.before, POST) && all((const uint8_t *)c.behind, 0, sizeof c.behind, POST), "fences of a converted");
+        expect(all(work, FENCE, FENCE + size, 0), "work memory of a text is zero");
+        expect(memcmp(job + FENCE, expected, written) == 0, "the job of a text");
+        expect(all(job, FENCE + written, FENCE + room, line == 0 ? OLD : 0), "the memory past the job of a text");
+        expect(all(work, 0, FENCE, POST) && all(work, FENCE + size, sizeof work, POST), "fences of a text's work memory");
+        expect(all(job, 0, FENCE, POST) && all(job, FENCE + room, sizeof job, POST), "fences of a text's job");
+    }
+}
+
 static void tally(void) {
     struct {
         uint64_t before;
@@ -255,6 +287,7 @@ int main(void) {
     expect(sizeof(BbSwept) == 32 && offsetof(BbSwept, assignments) == 4 && offsetof(BbSwept, differing) == 8 &&
                offsetof(BbSwept, outcome) == 12,
            "layout of BbSwept");
+    expect(sizeof(BbConverted) == 24 && offsetof(BbConverted, line) == 8 && offsetof(BbConverted, length) == 16, "layout of BbConverted");
     expect(sizeof(BbCounted) == 24 && offsetof(BbCounted, outcome) == 4, "layout of BbCounted");
     expect(sizeof(BbKnown) == 24 && offsetof(BbKnown, outcome) == 4, "layout of BbKnown");
     every_length();
@@ -265,6 +298,7 @@ int main(void) {
     sweep_that_differs();
     counts();
     bits();
+    text();
     tally();
     if (failures == 0) {
         printf("ok\n");

@@ -223,8 +223,8 @@ fn long_jobs() {
     assert!(text(&output.stdout).contains("\"bytes\":null,\"stop\":2,"));
 }
 
-const COMMANDS: [&str; 10] =
-    ["check", "show", "sweep", "count", "known", "soak", "bench", "compare", "man", "completion"];
+const COMMANDS: [&str; 11] =
+    ["check", "show", "convert", "sweep", "count", "known", "soak", "bench", "compare", "man", "completion"];
 
 #[test]
 fn usage() {

@@ -1,7 +1,7 @@
 //! What can be tested of declarations that nothing checks: the text of the Rattle source, the layout of the structs, and the
 //! bytes around each lent slice.
 use bitblast_host::{
-    Counted, INTERFACE, Known, Outcome, Swept, Tally, count_job, interface,
+    Converted, Counted, INTERFACE, Known, Outcome, Swept, Tally, count_job, interface,
     jobs::{self, SPECIMEN_ANSWER},
     known_job,
     lent::Lent,
@@ -40,6 +40,8 @@ fn layout() {
     assert_eq!([offset_of!(Counted, code), offset_of!(Counted, outcome)], [0, 4]);
     assert_eq!((size_of::<Known>(), align_of::<Known>()), (24, 4));
     assert_eq!([offset_of!(Known, code), offset_of!(Known, outcome)], [0, 4]);
+    assert_eq!((size_of::<Converted>(), align_of::<Converted>()), (24, 8));
+    assert_eq!([offset_of!(Converted, code), offset_of!(Converted, line), offset_of!(Converted, length)], [0, 8, 16]);
     assert_eq!((size_of::<Tally>(), align_of::<Tally>()), (32, 8));
     assert_eq!(
         [offset_of!(Tally, jobs), offset_of!(Tally, held), offset_of!(Tally, form_only), offset_of!(Tally, refused)],
@@ -71,17 +73,19 @@ fn the_source_says_the_same() {
         "#[no_mangle] pub extern \"C\" fn bb_sweep( job: &[u8], work: &mut [u8], answers: &mut [u8], values: &mut [u8], number: u32, ) -> Swept ",
         "#[no_mangle] pub extern \"C\" fn bb_count( job: &[u8], work: &mut [u8], answers: &mut [u8], values: &mut [u8], number: u32, counts: &mut [u32], ) -> Counted ",
         "#[no_mangle] pub extern \"C\" fn bb_known( job: &[u8], work: &mut [u8], answers: &mut [u8], values: &mut [u8], number: u32, inputs: &[u8], outputs: &mut [u8], ) -> Known ",
+        "#[no_mangle] pub extern \"C\" fn bb_text(text: &[u8], work: &mut [u8], job: &mut [u8]) -> Converted ",
         "#[no_mangle] pub extern \"C\" fn bb_version() -> u32 ",
         "#[no_mangle] pub extern \"C\" fn bb_tally(tally: &mut Tally, answers: &[u8], count: u32) ",
         "#[repr(C)] pub struct Outcome { pub stop: u32, pub records: u32, pub answers: u32, pub terms: u32, pub repeats: u32, }",
         "#[repr(C)] pub struct Swept { pub code: u32, pub assignments: u32, pub differing: u32, pub outcome: Outcome, }",
         "#[repr(C)] pub struct Counted { pub code: u32, pub outcome: Outcome, }",
         "#[repr(C)] pub struct Known { pub code: u32, pub outcome: Outcome, }",
+        "#[repr(C)] pub struct Converted { pub code: u32, pub line: u64, pub length: u64, }",
         "#[repr(C)] pub struct Tally { pub jobs: u64, pub held: u64, pub form_only: u64, pub refused: u64, }",
     ] {
         assert!(text.contains(declared), "crates/ has no `{declared}`: does src/ffi.rs still fit?");
     }
-    assert_eq!(text.matches("pub extern \"C\" fn").count(), 7, "src/ffi.rs declares seven functions");
+    assert_eq!(text.matches("pub extern \"C\" fn").count(), 8, "src/ffi.rs declares eight functions");
 }
 
 /// Declarations here, the header and the linked library are of one interface.

@@ -1,6 +1,6 @@
 //! The stack that a call needs.
 use bitblast_host::{
-    STACK_BYTES,
+    STACK_BYTES, convert_text,
     jobs::{self, JobWriter, Kind},
     known_job, run_job, sweep_job,
 };
@@ -52,6 +52,19 @@ fn the_deepest_sweep() {
     });
     assert_eq!((swept.code, swept.assignments, swept.differing), (0, 2, 0));
     assert_eq!(known, [(0, [1]), (0, [1]), (0, [2])]);
+}
+
+/// A term that is nested as deep as is allowed, each level an And of 64 arguments, the deepest the last.
+#[test]
+fn the_deepest_text() {
+    for (depth, code) in [(200, 0), (201, 25)] {
+        let arguments = format!("(and{} ", " x".repeat(63));
+        let term = format!("{}(not x){}", arguments.repeat(depth - 1), ")".repeat(depth - 1));
+        let text = format!("(declare-const x Bool)\n(step s (cl {term}) :rule and)");
+        let (mut work, mut job) = (vec![0; 1 << 20], vec![0; 1 << 20]);
+        let converted = on_little_stack(move || convert_text(text.as_bytes(), &mut work, &mut job));
+        assert_eq!((converted.code, converted.line), (code, if code == 0 { 0 } else { 2 }), "{depth} deep");
+    }
 }
 
 #[test]

@@ -1,7 +1,7 @@
 -- A call as theory has it, by what is returned and what both memories hold; the three demands follow from these.
-use mathlib.Core.Path.{_≡_, sym, subst, ap, _∙_}
+use mathlib.Core.Path.{_≡_, sym, subst}
 use Prim.Native.Nat.{ℕ}
-use lib.ListN.{length, replicate, length-replicate}
+use lib.ListN.{length}
 use Rattle.theory.specs.Limit.{Limits}
 use Rattle.theory.specs.Record.{Bytes, AllBytes}
 use Rattle.theory.specs.Answer.{decode-answers}
@@ -10,13 +10,8 @@ use Rattle.theory.specs.Demand.{Demand3}
 use Rattle.theory.specs.Demands.{Stops, Demand2}
 use Rattle.theory.proofs.Demands.{demand-1}
 use Rattle.theory.proofs.Written.{demand-2-call, demand-3-call}
-use Rattle.table.specs.Promise.{Wiped}
 use Rattle.bitblast.specs.declared.Outcome.{Outcome as Told}
 use Rattle.bitblast.specs.Walking.{told}
-
--- a memory that is all zero, by its length before
-pub zeros : (old : Bytes) {mid after : Bytes} → Wiped mid after → length after ≡ length old → after ≡ replicate (length old) 0
-zeros old {mid} w l = w .all-zero ∙ ap (λ (n : ℕ). replicate n 0) (sym (length-replicate {A = ℕ} (length mid) 0) ∙ sym (ap length (w .all-zero)) ∙ l)
 
 -- the three demands, of stated limits, a job, the lengths lent, what is returned and the answers' memory
 abbrev Demanded : Limits → Bytes → ℕ → ℕ → Returned → Bytes → Type 0

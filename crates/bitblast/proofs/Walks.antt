@@ -33,7 +33,7 @@ use Rattle.records.specs.Turning.{passed, memory-at, Turned}
 use Rattle.bitblast.specs.Walking.{state, moved, Standing, Next, broken, taken, memory-run, memory-left, Walked}
 use Rattle.steps.proofs.Writing.{Note, written-fits, one-answer}
 use Rattle.bitblast.proofs.Notes.{answers-of, at-record, notes-after, answers-more, notes-more, notes-sealed, marks-more, places-more}
-use Rattle.bitblast.proofs.Positions.{records-whole, records-broken, none-left, ends-whole, ends-broken}
+use Rattle.theory.proofs.Positions.{records-whole, records-broken, none-left, ends-whole, ends-broken}
 
 -- ---- a record is one repeat or none
 one-item : (list : Plain) (r : Bytes) (i : Item) → repeat-item list r i ≤ 1

@@ -1,4 +1,5 @@
 // The checker of a job: its records one after the other, the terms kept in work memory, and an answer for each step.
+pub mod alethe;
 pub mod count;
 mod finished;
 pub mod known;
@@ -24,7 +25,7 @@ use terms::Term;
 pub const MAX_JOB: usize = 16777216;
 
 // The number of the interface. It grows with each change of an exported function, or of a struct that one takes or returns.
-pub const VERSION: u32 = 6;
+pub const VERSION: u32 = 7;
 
 // What a job comes to: the code that stopped it or 0, the records done, the answers written, the terms kept at the end, and the repeats: the term
 // records done whose term was there already.
@@ -108,7 +109,7 @@ pub extern "C" fn bb_job(job: &[u8], work: &mut [u8], answers: &mut [u8]) -> Out
 // The number of the interface, for a host to compare with the one that it was written for.
 #[no_mangle]
 pub extern "C" fn bb_version() -> u32
-    ensures { λ r. ⌜ r ≡ 6 ⌝ }
+    ensures { λ r. ⌜ r ≡ 7 ⌝ }
 {
     VERSION
 }

@@ -1,17 +1,18 @@
 -- What callers cite: how the promised lists, single rows and places hang together.
-use mathlib.Core.Path.{_≡_, refl, sym, _∙_}
+use mathlib.Core.Path.{_≡_, refl, sym, ap, _∙_}
 use mathlib.Core.Bool.{Bool, true, false, true≢false, cond}
 use mathlib.Core.List.{List, [], _∷_}
 use Prim.Native.Nat.{ℕ, zero, suc, _+_, _≤_, _<_}
 use native.Mathlib.Nat.{not-suc-le-zero, le-of-suc-le-suc}
 use native.Mathlib.Omega.{arith}
-use lib.ListN.{getD, length}
+use lib.ListN.{getD, length, replicate, length-replicate}
 use Rattle.theory.specs.Limit.{first-terms}
 use Rattle.theory.specs.Record.{Bytes}
 use Rattle.terms.specs.Framing.{record-at}
 use Rattle.rows.specs.Layout.{depth-at, max-rows, missing, offset-at, width-at}
 use Rattle.rows.specs.Rows.{depths, kept, place-from, place-of, widths}
 use Rattle.rows.proofs.RowLaws.{getD-column, getD-kept, same-refl, same-sound}
+use Rattle.table.specs.Promise.{Wiped}
 use Rattle.theory.specs.Term.{same-numbers}
 
 -- ---- the entries of the lists
@@ -72,3 +73,8 @@ absent-from first x (y ∷ ys) few e k h q = go (same-numbers x y) refl (absent-
 pub place-absent : (x : Bytes) (rows : List Bytes) → length rows ≤ max-rows → place-of x rows ≡ missing
     → (k : ℕ) → k < length rows → getD rows k [] ≡ x → ⊥
 place-absent x rows few e k h q = absent-from first-terms x rows (omega arith) e k h q
+
+-- ---- wiping
+-- a memory that is all zero, by its length before
+pub zeros : (old : Bytes) {mid after : Bytes} → Wiped mid after → length after ≡ length old → after ≡ replicate (length old) 0
+zeros old {mid} w l = w .all-zero ∙ ap (λ (n : ℕ). replicate n 0) (sym (length-replicate {A = ℕ} (length mid) 0) ∙ sym (ap length (w .all-zero)) ∙ l)

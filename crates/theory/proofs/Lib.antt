@@ -36,6 +36,7 @@ pub mod ExactDepth
 pub mod LowBits
 pub mod Codes
 pub mod Cut
+pub mod Positions
 pub mod Tallies
 pub mod Logarithm
 pub mod Signs

@@ -1,5 +1,5 @@
 //! `bbhost bench`: how long jobs take.
-use super::{Failure, Status, about, grouped, interrupt, number, progress::Progress, sweeps, unknown, value};
+use super::{Failure, Status, about, grouped, interrupt, number, progress::Progress, sweeps, texts, unknown, value};
 use bitblast_host::{
     Answers,
     jobs::{self, CONG},
@@ -20,7 +20,7 @@ use std::{
 
 /// How the command is used.
 pub const USAGE: &str = "  bbhost bench [--work BYTES] [--against COMMAND] [--write DIR]
-      Measures a list of jobs, and sweeps beside a plain Rust evaluator of the same terms. --against also runs
+      Measures a list of jobs, sweeps beside a plain Rust evaluator of the same terms, and texts. --against also runs
       `COMMAND FILE RUNS` on each job that has only rules of the original, as with `oracle bench`, and prints the ratio.
       --write only writes the jobs as files.";
 
@@ -98,7 +98,9 @@ pub fn run(words: &[OsString], out: &mut impl Write) -> Result<Status, Failure> 
     writeln!(out)?;
     let status = measure_all(&mut memory, other.as_ref(), out)?;
     drop(other);
-    Ok(status.max(sweeps::measure_all(&mut memory, out)?))
+    let swept = sweeps::measure_all(&mut memory, out)?;
+    let converted = texts::measure_all(out)?;
+    Ok(status.max(swept).max(converted))
 }
 
 /// Another program, and a folder of the jobs for it, which goes when the measuring ends, by an interrupt too.

@@ -2,12 +2,12 @@
 use super::{
     Checked, Failure, Status, about,
     checker::{Checker, Lent, Trouble},
-    grouped, job_bytes, json, no_file, number,
+    grouped, is_text, job_bytes, json, no_file, number,
     progress::{Progress, during},
-    shown, table, unknown, value,
+    shown, table, text_error, unknown, value,
 };
 use bitblast_host::{
-    Limits, Report, Tally,
+    Limits, Report, Tally, convert,
     service::{MAX_ANSWER_BYTES, MAX_WORK_BYTES},
 };
 use std::{
@@ -24,6 +24,7 @@ use std::{
 pub const USAGE: &str = "  bbhost check [--explain | --json | --jsonl | -q] [--steps N] [--timeout S] [--work BYTES] [--answers BYTES]
                [--width W] [--terms T] [--files-from LIST] FILE..
       Checks the job in each file (- is the standard input; up to 16 MiB each) and prints a table of its steps.
+      A file whose name ends in .alethe is text, and is converted first (bbhost convert).
       A repeat is a record of a term that was there already.
       --explain  prints below each refused step what is claimed, what is expected, and where they first differ
       --json     prints one JSON object instead of the table; docs/OUTPUT.md has its fields
@@ -151,17 +152,20 @@ pub fn run(words: &[OsString], out: &mut impl Write) -> Result<Status, Failure> 
         let (place, name) = (k + 1, file.to_string_lossy());
         let what = format!("file {place} of {}: {}", options.files.len(), shown(file));
         progress.show(|| what.clone());
-        let outcome = match job_bytes(file) {
-            Ok(job) => match during(&what, || checker.check(&job)) {
-                Ok(report) => print(place, &name, &job, &report, &options, out)?,
-                Err(trouble) => failed(place, &name, &trouble, &options, out)?,
-            },
-            Err(error) => failed(place, &name, &Trouble::Unreadable(error), &options, out)?,
+        let outcome = match job_of(file).and_then(|job| Ok((during(&what, || checker.check(&job))?, job))) {
+            Ok((report, job)) => print(place, &name, &job, &report, &options, out)?,
+            Err(trouble) => failed(place, &name, &trouble, &options, out)?,
         };
         status = status.max(outcome);
     }
     sum(&options, checker.tally(), status == Status::Fine, out)?;
     Ok(status)
+}
+
+/// The job in a file, or that of its text.
+fn job_of(file: &OsStr) -> Result<Vec<u8>, Trouble> {
+    let bytes = job_bytes(file).map_err(Trouble::Unreadable)?;
+    if is_text(file) { convert(&bytes).map_err(Trouble::Refused) } else { Ok(bytes) }
 }
 
 /// Prints what came of a job.
@@ -185,7 +189,11 @@ fn print(
 
 /// Says that a file has no answer.
 fn failed(place: usize, name: &str, trouble: &Trouble, options: &Options, out: &mut impl Write) -> io::Result<Status> {
-    eprintln!("bbhost: {}: {}", shown(OsStr::new(name)), trouble.words());
+    let shown = shown(OsStr::new(name));
+    match trouble {
+        Trouble::Refused(refused) => eprintln!("{}", text_error(&shown, *refused)),
+        _ => eprintln!("bbhost: {shown}: {}", trouble.words()),
+    }
     object(place, json::failed(place, name, trouble.kind(), &trouble.words()), options, out)?;
     Ok(trouble.status())
 }

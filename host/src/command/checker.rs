@@ -1,6 +1,6 @@
 //! Who checks the jobs of `bbhost check`: this process, or a child of it for each job, which is ended where it takes too long.
 use super::{Failure, Status, number, unknown};
-use bitblast_host::{Limits, Outcome, Report, Service, Tally, run_job_within, tally_answers};
+use bitblast_host::{Limits, Outcome, Refused, Report, Service, Tally, run_job_within, tally_answers};
 use std::{
     env,
     ffi::OsString,
@@ -20,6 +20,8 @@ const OUTCOME_BYTES: usize = 20;
 /// Why there is no answer.
 pub enum Trouble {
     Unreadable(io::Error),
+    /// A line of its text.
+    Refused(Refused),
     /// The child did not do its work.
     Failed(io::Error),
     TimedOut(Duration),
@@ -30,6 +32,7 @@ impl Trouble {
     pub fn kind(&self) -> &'static str {
         match self {
             Trouble::Unreadable(_) => "unreadable",
+            Trouble::Refused(_) => "refused",
             Trouble::Failed(_) => "failed",
             Trouble::TimedOut(_) => "timeout",
         }
@@ -38,6 +41,7 @@ impl Trouble {
     pub fn words(&self) -> String {
         match self {
             Trouble::Unreadable(error) => error.to_string(),
+            Trouble::Refused(refused) => refused.to_string(),
             Trouble::Failed(error) => format!("the process that checks it failed: {error}"),
             Trouble::TimedOut(limit) => format!("no answer within {} s; the check was ended", limit.as_secs_f64()),
         }
@@ -45,6 +49,7 @@ impl Trouble {
 
     pub fn status(&self) -> Status {
         match self {
+            Trouble::Refused(_) => Status::Failed,
             Trouble::Unreadable(_) | Trouble::Failed(_) => Status::Trouble,
             Trouble::TimedOut(_) => Status::TimedOut,
         }

@@ -2,9 +2,9 @@
 use super::{
     Failure, Status, about,
     case::{Call, Expected, Question},
-    grouped,
+    grouped, is_text,
     progress::Progress,
-    unknown, value,
+    text_case, unknown, value,
 };
 use bitblast_host::{Answers, Outcome, words};
 use std::{
@@ -18,8 +18,9 @@ use std::{
 /// How the command is used.
 pub const USAGE: &str = "  bbhost compare DIR [--counts FILE]
       Runs each NNNNN.job of a folder against its NNNNN.expect (both from the oracle), asks the questions about the job's final
-      store, and about the job under limits, that stand there, and prints which answers of which rule were reached. --counts adds the counts in a file to the
-      table, and keeps the sums there. Exit status 1 on any difference.";
+      store, and about the job under limits, that stand there, converts each NNNNN.alethe, and prints which answers of which
+      rule were reached. --counts adds the counts in a file to the table, and keeps the sums there. Exit status 1 on any
+      difference.";
 
 /// The differences that are printed one by one.
 const SHOWN: usize = 20;
@@ -45,7 +46,7 @@ pub fn run(words: &[OsString], out: &mut impl Write) -> Result<Status, Failure> 
 
     let cases = cases(folder)?;
     if cases.is_empty() {
-        return Err(Failure::Usage(format!("{} holds no .job file", folder.display())));
+        return Err(Failure::Usage(format!("{} holds no .job or .alethe file", folder.display())));
     }
     let mut differing = 0;
     let mut progress = Progress::new();
@@ -63,8 +64,10 @@ pub fn run(words: &[OsString], out: &mut impl Write) -> Result<Status, Failure> 
     if let Some(file) = counts_file {
         fs::write(file, counts.text()).map_err(|error| about(file.display(), error))?;
     }
-    counts.print(out)?;
-    writeln!(out, "{} jobs in this folder, {differing} differ", grouped(cases.len() as u64))?;
+    if counts.jobs > 0 {
+        counts.print(out)?;
+    }
+    writeln!(out, "{} cases in this folder, {differing} differ", grouped(cases.len() as u64))?;
     Ok(if differing == 0 { Status::Fine } else { Status::Failed })
 }
 
@@ -72,7 +75,7 @@ fn cases(folder: &Path) -> Result<Vec<PathBuf>, Failure> {
     let mut cases = Vec::new();
     for entry in fs::read_dir(folder).map_err(|error| about(folder.display(), error))? {
         let path = entry?.path();
-        if path.extension().is_some_and(|end| end == "job") {
+        if path.extension().is_some_and(|end| end == "job" || end == "alethe") {
             cases.push(path);
         }
     }
@@ -85,8 +88,12 @@ fn compare(path: &Path, seed: u64, counts: &mut Counts) -> Result<Option<String>
     let job = fs::read(path).map_err(|error| about(path.display(), error))?;
     let file = path.with_extension("expect");
     let text = fs::read_to_string(&file).map_err(|error| about(file.display(), error))?;
-    let expected = Expected::parse(&text)
-        .ok_or_else(|| Failure::Usage(format!("{} is not as the oracle writes it", file.display())))?;
+    let other = || Failure::Usage(format!("{} is not as the oracle writes it", file.display()));
+    if is_text(path.as_os_str()) {
+        let expected = text_case::Expected::parse(&text).ok_or_else(other)?;
+        return Ok(expected.difference(&job, seed));
+    }
+    let expected = Expected::parse(&text).ok_or_else(other)?;
     let mut call = Call::new(&job, &expected, seed);
     let mut difference = call.job(|outcome, answers| counts.add(outcome, answers));
     for question in &expected.questions {

@@ -4,6 +4,7 @@ mod case;
 pub mod check;
 pub mod checker;
 pub mod compare;
+pub mod convert;
 pub mod count;
 mod explain;
 mod interrupt;
@@ -19,12 +20,15 @@ pub mod soak;
 pub mod sweep;
 mod sweeps;
 mod table;
+mod text_case;
+mod texts;
 
-use bitblast_host::{MAX_JOB_BYTES, Report};
+use bitblast_host::{MAX_JOB_BYTES, Refused, Report, alethe};
 use std::{
     ffi::{OsStr, OsString},
     fs::File,
     io::{self, Read},
+    path::Path,
     slice::Iter,
     str::FromStr,
 };
@@ -108,6 +112,16 @@ fn job_bytes(file: &OsStr) -> io::Result<Vec<u8>> {
         File::open(file)?.take(most).read_to_end(&mut job)?;
     }
     Ok(job)
+}
+
+/// Whether a file is Alethe text, by its name.
+fn is_text(file: &OsStr) -> bool {
+    Path::new(file).extension().is_some_and(|extension| extension == "alethe")
+}
+
+/// What is said of a line that is refused.
+fn text_error(name: &str, refused: Refused) -> String {
+    format!("{name}:{}: {}", refused.line, alethe::REFUSED)
 }
 
 /// The word after an option.

@@ -16,6 +16,7 @@ pub mod rule;
 pub mod shift;
 pub mod sort;
 pub mod survey;
+pub mod text;
 pub mod value;
 
 /// Document 01's specimen of a job.

@@ -1,8 +1,9 @@
 //! The command line `reading`.
-use reading::generate::{write_all, write_asked};
+use reading::generate::{texts::write_texts, write_all, write_asked};
 use reading::job::{self, Lent, Limits};
 use reading::limited::{self, Limited};
 use reading::question::Question;
+use reading::text::expect_text;
 use std::{error::Error, fs, io::Read, path::Path, process::exit};
 
 const USAGE: &str = "usage:
@@ -11,6 +12,8 @@ const USAGE: &str = "usage:
                                   prints the .expect text for that much work memory and answer room, or the outcome under limits
   reading gen SEED COUNT DIR      writes COUNT cases and a summary; status 1 where the cases show a fault
   reading ask SEED COUNT DIR      the same with questions about the jobs' final lists
+  reading texts SEED COUNT DIR    writes COUNT texts, and what is expected of them
+  reading convert ROOM < FILE     prints the .expect text of a text in that much room
   reading verify DIR              reads the cases of a folder against their .expect files; status 1 where one differs";
 
 fn main() {
@@ -54,6 +57,17 @@ fn commands() -> Result<i32, Box<dyn Error>> {
             let survey = write_asked(seed.parse()?, count.parse()?, Path::new(folder))?;
             print!("{}", survey.text());
             Ok(i32::from(!survey.faults.is_empty()))
+        }
+        ["texts", seed, count, folder] => {
+            let (accepted, refused) = write_texts(seed.parse()?, count.parse()?, Path::new(folder))?;
+            println!("{accepted} texts are accepted, {refused} are refused");
+            Ok(i32::from(accepted == 0 || refused == 0))
+        }
+        ["convert", room] => {
+            let mut input = Vec::new();
+            std::io::stdin().read_to_end(&mut input)?;
+            print!("{}", expect_text(&input, room.parse()?));
+            Ok(0)
         }
         ["verify", folder] => verify(Path::new(folder)),
         _ => Err(USAGE.into()),

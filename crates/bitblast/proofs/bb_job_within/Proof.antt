@@ -9,7 +9,8 @@ use denote.Ref.{now}
 use Rattle.terms.proofs.Numbers.{all-bytes}
 use Rattle.theory.specs.Limit.{stated}
 use Rattle.theory.specs.Job.{Outcome, returned, answers-after}
-use Rattle.bitblast.proofs.Calls.{zeros, called}
+use Rattle.table.proofs.Face.{zeros}
+use Rattle.bitblast.proofs.Calls.{called}
 use Rattle.bitblast.proofs.Enough.{run-enough}
 use Rattle.bitblast.proofs.bb_job_within.Statement.{statement}
 use Rattle.bitblast.proofs.bb_job_within.Tie as tie

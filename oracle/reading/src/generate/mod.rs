@@ -12,6 +12,7 @@ mod over;
 mod records;
 mod slices;
 mod terms;
+pub mod texts;
 mod wrong;
 
 pub use asked::{Asked, asked_case};

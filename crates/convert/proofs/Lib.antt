@@ -1,0 +1,3 @@
+pub mod CutLaws
+pub mod TakeLaws
+pub mod TextLaws

@@ -1,0 +1,19 @@
+use Rattle.names.proofs.MarkLaws.{right-is, right-not}
+use borrow.Author.Needs.{needs}
+use Rattle.names.proofs.marks.right_after.Statement.{statement}
+use Rattle.names.proofs.marks.right_after.Tie as tie
+
+next-token-requires : tie.Need-next-token-requires
+next-token-requires c κs = search needs
+
+enum-known-token : tie.Need-enum-known-token
+enum-known-token c = search needs
+
+returns : tie.Need-returns
+returns c = right-is (c .before .before .before .next-token .ensures) (c .before .token .given .1)
+
+returns-2 : tie.Need-returns-2
+returns-2 c = right-not (c .before .next-token .ensures) (c .match .keys2)
+
+pub right-after-spec : {M : Type 1} → statement M
+right-after-spec = tie.close (tie.spec next-token-requires enum-known-token returns returns-2)

@@ -1,0 +1,4 @@
+pub mod Marks
+pub mod Kinds
+pub mod Lines
+pub mod Names

@@ -1,0 +1,5 @@
+pub mod ReaderLaws
+pub mod LoopLaws
+pub mod FinishLaws
+pub mod TermLaws
+pub mod SpanLaws

@@ -1,0 +1,2 @@
+// Terms of a line read into a job: a term and its arguments.
+pub mod reading;

@@ -1,0 +1,3 @@
+pub mod WordLaws
+pub mod TableLaws
+pub mod NumberLaws
