@@ -10,8 +10,8 @@ use Rattle.theory.specs.Demand.{Demand3}
 use Rattle.theory.specs.Demands.{Stops, Demand2}
 use Rattle.theory.proofs.Demands.{demand-1}
 use Rattle.theory.proofs.Written.{demand-2-call, demand-3-call}
-use Rattle.bitblast.specs.declared.Outcome.{Outcome as Told}
-use Rattle.bitblast.specs.Walking.{told}
+use Rattle.runs.specs.declared.Outcome.{Outcome as Told}
+use Rattle.runs.specs.Walking.{told}
 
 -- the three demands, of stated limits, a job, the lengths lent, what is returned and the answers' memory
 abbrev Demanded : Limits → Bytes → ℕ → ℕ → Returned → Bytes → Type 0

@@ -1,4 +1,2 @@
 -- What the contracts of `bitblast` cite.
-pub mod Walking
-pub mod Finished
 pub mod Asking

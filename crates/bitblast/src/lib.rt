@@ -1,11 +1,9 @@
-// The checker of a job: its records one after the other, the terms kept in work memory, and an answer for each step.
+// What is exported: the check of a job, what is asked of its final store, a text converted into a job, and the tally.
 pub mod alethe;
 pub mod count;
-mod finished;
 pub mod known;
 pub mod sweep;
 pub mod totals;
-mod walk;
 
 ghost use mathlib.Core.Path.{_≡_};
 ghost use lib.ListN.{length};
@@ -14,48 +12,15 @@ ghost use Rattle.theory.specs.Answer.{decode-answers};
 ghost use Rattle.theory.specs.Job.{call};
 ghost use Rattle.theory.specs.Demand.{Demand3};
 ghost use Rattle.theory.specs.Demands.{Stops, Demand2};
-ghost use Rattle.intern.specs.Interning.{limits-of};
-ghost use Rattle.bitblast.specs.Walking.{told, Enough, memory-left};
-use crate::finished::outcome_of;
-use crate::finished::run_within;
+ghost use Rattle.runs.specs.Walking.{told};
 use intern::Limits;
+use runs::Outcome;
+use runs::check_job;
+use runs::used;
 use terms::Term;
-
-// The longest job, in bytes.
-pub const MAX_JOB: usize = 16777216;
 
 // The number of the interface. It grows with each change of an exported function, or of a struct that one takes or returns.
 pub const VERSION: u32 = 7;
-
-// What a job comes to: the code that stopped it or 0, the records done, the answers written, the terms kept at the end, and the repeats: the term
-// records done whose term was there already.
-#[repr(C)]
-pub struct Outcome {
-    pub stop: u32,
-    pub records: u32,
-    pub answers: u32,
-    pub terms: u32,
-    pub repeats: u32,
-}
-
-// The outcome of a job under limits that the caller states, and its answers. The work memory is left as the job used it.
-fn check_job(job: &[u8], work: &mut [u8], answers: &mut [u8], limits: Limits) -> Outcome
-    ensures result { λ r. ⌜ told r ≡ call (limits-of limits) (now (job .entry)) (now (work .entry)) (now (answers .entry)) .result ⌝ }
-    ensures answers { λ _. ⌜ now (answers .exit)
-        ≡ call (limits-of limits) (now (job .entry)) (now (work .entry)) (now (answers .entry)) .answer-memory ⌝ }
-    ensures work { λ _. ⌜ now (work .exit)
-        ≡ memory-left (limits-of limits) (now (job .entry)) (now (work .entry)) (length (now (answers .entry))) ⌝ }
-{
-    outcome_of(run_within(job, work, answers, limits))
-}
-
-// The bytes of work memory that a job of `size` bytes is given of those lent: four for each of its own, which leaves room in the table over
-// its terms. A short job is not spread over a long memory.
-pub fn used(size: usize, lent: usize) -> usize
-    ensures { λ r. ⌜ Enough size lent r ⌝ }
-{
-    if size < lent / 4 { 4 * size } else { lent }
-}
 
 // Checks a job, for a host, under a width limit and a limit of the number of terms, `true` and `false` counted; a limit above the rack's is
 // the rack's. The answers stand at the start of their memory, and the work memory is all zero: nothing of the job stays in it.

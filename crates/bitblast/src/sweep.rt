@@ -3,12 +3,12 @@ ghost use mathlib.Core.Path.{_≡_};
 ghost use Rattle.theory.specs.Limit.{rack};
 ghost use Rattle.theory.specs.Job.{call};
 ghost use Rattle.sweeps.specs.Calls.{sweep-lent, values-after};
-ghost use Rattle.bitblast.specs.Walking.{told};
+ghost use Rattle.runs.specs.Walking.{told};
 ghost use Rattle.bitblast.specs.Asking.{as-swept};
-use crate::Outcome;
-use crate::finished::outcome_of;
-use crate::finished::run_job;
-use crate::used;
+use runs::Outcome;
+use runs::finished::outcome_of;
+use runs::finished::run_job;
+use runs::used;
 use sweeper::sweep_number;
 
 // What a sweep comes to: a code, how many assignments there were, on how many the sides differ, and the job's own outcome.

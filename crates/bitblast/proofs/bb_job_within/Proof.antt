@@ -11,7 +11,7 @@ use Rattle.theory.specs.Limit.{stated}
 use Rattle.theory.specs.Job.{Outcome, returned, answers-after}
 use Rattle.table.proofs.Face.{zeros}
 use Rattle.bitblast.proofs.Calls.{called}
-use Rattle.bitblast.proofs.Enough.{run-enough}
+use Rattle.runs.proofs.Enough.{run-enough}
 use Rattle.bitblast.proofs.bb_job_within.Statement.{statement}
 use Rattle.bitblast.proofs.bb_job_within.Tie as tie
 

@@ -6,7 +6,7 @@ use lib.Seq.{length-take-le}
 use native.Mathlib.Omega.{arith}
 use Rattle.theory.specs.Limit.{rack}
 use Rattle.theory.specs.Job.{Outcome, returned, answers-after}
-use Rattle.bitblast.proofs.Enough.{run-enough}
+use Rattle.runs.proofs.Enough.{run-enough}
 use Rattle.table.proofs.Face.{zeros}
 use Rattle.bitblast.proofs.AskingLaws.{sweep-run}
 use Rattle.bitblast.proofs.sweep.bb_sweep.Statement.{statement}

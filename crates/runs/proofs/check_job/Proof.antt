@@ -1,8 +1,8 @@
 -- `check_job`: what the host is told of the job that was run.
 use borrow.Author.Needs.{needs}
 use mathlib.Core.Path.{_∙_}
-use Rattle.bitblast.proofs.check_job.Statement.{statement}
-use Rattle.bitblast.proofs.check_job.Tie as tie
+use Rattle.runs.proofs.check_job.Statement.{statement}
+use Rattle.runs.proofs.check_job.Tie as tie
 
 returns : tie.Need-returns
 returns c = let f = c .before .before .before .before .before .run-within .ensures in (c .outcome-of .ensures ∙ f .result-is, (f .answers-are, f .memory-is))

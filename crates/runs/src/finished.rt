@@ -2,8 +2,8 @@
 ghost use mathlib.Core.Path.{_≡_};
 ghost use Rattle.theory.specs.Limit.{rack};
 ghost use Rattle.intern.specs.Interning.{limits-of};
-ghost use Rattle.bitblast.specs.Walking.{told, reached};
-ghost use Rattle.bitblast.specs.Finished.{Finished, Small};
+ghost use Rattle.runs.specs.Walking.{told, reached};
+ghost use Rattle.runs.specs.Finished.{Finished, Small};
 use crate::MAX_JOB;
 use crate::Outcome;
 use crate::walk::State;

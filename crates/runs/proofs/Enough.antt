@@ -19,7 +19,7 @@ use Rattle.theory.specs.Answer.{Answer}
 use Rattle.theory.specs.Chain.{Earlier}
 use Rattle.theory.specs.Job.{Outcome, outcome, answers-to, recall, run-from, run}
 use Rattle.terms.proofs.Parts.{whole-parts}
-use Rattle.bitblast.specs.Walking.{Enough}
+use Rattle.runs.specs.Walking.{Enough}
 
 -- ---- a record has at least four bytes
 next-few : (b : Bool) (n : ℕ) (r : Bytes) (rs : List Bytes) (len : ℕ) → (b ≡ true → (4 ≤ n) × (n ≤ len)) → 4 * length rs ≤ len - n

@@ -2,9 +2,9 @@
 use borrow.Author.Needs.{needs}
 use denote.Ref.{now}
 use Rattle.intern.specs.Interning.{limits-of}
-use Rattle.bitblast.proofs.AskingLaws.{finished-long, finished-walk}
-use Rattle.bitblast.proofs.finished.run_within.Statement.{statement}
-use Rattle.bitblast.proofs.finished.run_within.Tie as tie
+use Rattle.runs.proofs.FinishedLaws.{finished-long, finished-walk}
+use Rattle.runs.proofs.finished.run_within.Statement.{statement}
+use Rattle.runs.proofs.finished.run_within.Tie as tie
 
 returns : tie.Need-returns
 returns c = let a = c .before .before .before .before .args in finished-long (limits-of (a .limits)) (now (a .job)) (now (a .work)) (now (a .answers)) (c .if1 .taken)

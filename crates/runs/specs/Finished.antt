@@ -8,8 +8,8 @@ use Rattle.theory.specs.Plain.{plain-after}
 use Rattle.theory.specs.Job.{returned, run, answers-after}
 use Rattle.store.specs.Store.{listed}
 use Rattle.shelf.specs.Shelf.{Shelf}
-use Rattle.bitblast.specs.declared.walk.State.{State}
-use Rattle.bitblast.specs.Walking.{reached, memory-left}
+use Rattle.runs.specs.declared.walk.State.{State}
+use Rattle.runs.specs.Walking.{reached, memory-left}
 
 -- the numbers fit into 32 bits
 pub record Small (s : State) : Type 0 where

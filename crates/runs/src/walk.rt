@@ -3,7 +3,7 @@ ghost use Prim.Native.Nat.{_≤_};
 ghost use lib.ListN.{length};
 ghost use Rattle.theory.specs.Limit.{max-job};
 ghost use Rattle.intern.specs.Interning.{limits-of};
-ghost use Rattle.bitblast.specs.Walking.{Standing, Next, Walked};
+ghost use Rattle.runs.specs.Walking.{Standing, Next, Walked};
 use intern::Limits;
 use records::take_record;
 use terms::Frame;

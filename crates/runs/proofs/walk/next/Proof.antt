@@ -6,10 +6,10 @@ use lib.ListN.{drop}
 use denote.Ref.{now}
 use Rattle.theory.specs.Record.{extent}
 use Rattle.terms.proofs.Reading.{broken-learnt, whole-learnt, stands}
-use Rattle.bitblast.specs.Walking.{broken, taken}
-use Rattle.bitblast.proofs.Walks.{turn-repeats, moved-on, moved-not}
-use Rattle.bitblast.proofs.walk.next.Statement.{statement}
-use Rattle.bitblast.proofs.walk.next.Tie as tie
+use Rattle.runs.specs.Walking.{broken, taken}
+use Rattle.runs.proofs.Walks.{turn-repeats, moved-on, moved-not}
+use Rattle.runs.proofs.walk.next.Statement.{statement}
+use Rattle.runs.proofs.walk.next.Tie as tie
 
 returns : tie.Need-returns
 returns c =

@@ -6,9 +6,9 @@ use native.Mathlib.Omega.{arith}
 use lib.ListN.{length}
 use denote.Ref.{now}
 use Rattle.intern.specs.Interning.{limits-of}
-use Rattle.bitblast.proofs.Walks.{Between, begins, standing, goes, stops, ends, walked}
-use Rattle.bitblast.proofs.walk.walk.Statement.{statement}
-use Rattle.bitblast.proofs.walk.walk.Tie as tie
+use Rattle.runs.proofs.Walks.{Between, begins, standing, goes, stops, ends, walked}
+use Rattle.runs.proofs.walk.walk.Statement.{statement}
+use Rattle.runs.proofs.walk.walk.Tie as tie
 
 abbrev Inv-loop : tie.InvT-loop
 Inv-loop job work₀ answers₀ limits s₀ work answers s = (s .stop ≡ 0) × Between (limits-of limits) job (length work₀) answers₀ work answers s

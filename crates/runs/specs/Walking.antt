@@ -13,9 +13,9 @@ use Rattle.terms.specs.Framing.{frame-code}
 use Rattle.steps.specs.Answering.{sealed}
 use Rattle.chains.specs.Premises.{Noted}
 use Rattle.store.specs.Store.{Store, listed}
-use Rattle.bitblast.specs.declared.Outcome.{Outcome}
+use Rattle.runs.specs.declared.Outcome.{Outcome}
 use Rattle.records.specs.declared.Turn.{Turn}
-use Rattle.bitblast.specs.declared.walk.State.{State}
+use Rattle.runs.specs.declared.walk.State.{State}
 use Rattle.records.specs.Turning.{passed, memory-at, Turned}
 
 -- what the host is told

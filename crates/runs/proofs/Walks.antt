@@ -26,13 +26,13 @@ use Rattle.rows.specs.Rows.{column, offsets}
 use Rattle.store.specs.Store.{Store, listed}
 use Rattle.intern.specs.Interning.{Started}
 use Rattle.records.specs.declared.Turn.{Turn}
-use Rattle.bitblast.specs.declared.walk.State.{State}
+use Rattle.runs.specs.declared.walk.State.{State}
 use Rattle.steps.specs.Answering.{with-notes, step-place, sealed}
 use Rattle.chains.specs.Premises.{marks-in, origins, earlier-in}
 use Rattle.records.specs.Turning.{passed, memory-at, Turned}
-use Rattle.bitblast.specs.Walking.{state, moved, Standing, Next, broken, taken, memory-run, memory-left, Walked}
+use Rattle.runs.specs.Walking.{state, moved, Standing, Next, broken, taken, memory-run, memory-left, Walked}
 use Rattle.steps.proofs.Writing.{Note, written-fits, one-answer}
-use Rattle.bitblast.proofs.Notes.{answers-of, at-record, notes-after, answers-more, notes-more, notes-sealed, marks-more, places-more}
+use Rattle.runs.proofs.Notes.{answers-of, at-record, notes-after, answers-more, notes-more, notes-sealed, marks-more, places-more}
 use Rattle.theory.proofs.Positions.{records-whole, records-broken, none-left, ends-whole, ends-broken}
 
 -- ---- a record is one repeat or none

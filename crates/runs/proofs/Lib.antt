@@ -1,0 +1,4 @@
+pub mod Notes
+pub mod Walks
+pub mod Enough
+pub mod FinishedLaws

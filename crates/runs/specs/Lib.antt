@@ -1,0 +1,3 @@
+-- What the contracts of `runs` cite.
+pub mod Walking
+pub mod Finished
