@@ -9,7 +9,7 @@ void bench_wipe(uint8_t *work, size_t work_len);
 uint32_t bench_add(const uint8_t *job, size_t job_len, uint8_t *work, size_t work_len, size_t n, size_t at);
 uint32_t bench_find(const uint8_t *job, size_t job_len, const uint8_t *work, size_t work_len, size_t n, uint32_t kind, uint32_t a, uint32_t b);
 
-// Rows of 8 bytes; the table has as many slots as rows fit into the memory, 131,072 at most.
+// A term costs 8 bytes: a row of 7, and its share of the heads of the buckets behind the rows.
 enum { MOST = 65000, ROOMY = 131072 * 8, CLOSE = 65533 * 8, FULL = MOST * 8, ROUNDS = 200000 };
 
 static double now(void) {

@@ -9,10 +9,16 @@
  * default thread of some C libraries has no room for. A text whose terms are nested 200 deep takes some 152 KiB.
  *
  * Time: every call ends, but nothing interrupts it. A job may repeat its longest step, a division of width 64, in eight bytes for
- * each answer that has room. Where the work memory is twice what the terms need, such a step took less than ten milliseconds
- * (docs/PERFORMANCE.md); where the terms fill it, or are made to collide in the table over them, each lookup walks many rows, and
- * a step takes seconds. So the time is bounded by the answers lent and, for terms that collide, by the job's length. For jobs of
- * strangers lend few answers, and make the call where it can be ended: in a process of its own.
+ * each answer that has room; such a step took less than ten milliseconds (docs/PERFORMANCE.md). So the time is bounded by the
+ * answers lent. For jobs of strangers lend few answers, and make the call where it can be ended: in a process of its own.
+ *
+ * Seed: the last four bytes of `work` at the call decide where the library looks for terms, and nothing else; no result depends on
+ * them. Put random bytes there before each call, since they are zero after it:
+ *
+ *     if (work_len >= BB_SEED_BYTES) getrandom(work + work_len - BB_SEED_BYTES, BB_SEED_BYTES, 0);
+ *
+ * Where they are the same for all jobs, zero say, a job can be made whose terms are all looked for in one place: one with 8,000 such
+ * terms took 0.2 seconds in place of 2 milliseconds, and the time grows with the square of their number.
  */
 #ifndef BITBLAST_H
 #define BITBLAST_H
@@ -40,6 +46,9 @@ extern "C" {
 
 /* The bytes of work memory that a kept term costs; no job keeps more than BB_MAX_TERMS terms, two of them free. */
 #define BB_TERM_BYTES 8
+
+/* The bytes of the seed, which are the last of the work memory. */
+#define BB_SEED_BYTES 4
 
 /* The work memory beyond which the lookups of bb_text become no faster. */
 #define BB_LOOKUP_BYTES 1048576

@@ -1,5 +1,5 @@
 //! Steps as Alethe text: converted into a job.
-use crate::ffi::convert_text;
+use crate::{Seeds, ffi::convert_text};
 use std::{error::Error, fmt};
 
 /// The most bytes of a job for each byte of its text: `#b0` is a record of 14 bytes.
@@ -37,6 +37,7 @@ impl Error for Refused {}
 pub fn convert(text: &[u8]) -> Result<Vec<u8>, Refused> {
     let mut work = vec![0; (4 * text.len()).min(MAX_LOOKUP_BYTES)];
     let mut job = vec![0; JOB_BYTES_PER_BYTE * text.len()];
+    Seeds::default().put(&mut work);
     let converted = convert_text(text, &mut work, &mut job);
     if converted.code != 0 {
         return Err(Refused { line: converted.line });

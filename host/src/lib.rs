@@ -36,6 +36,7 @@ pub mod lent;
 pub mod plain;
 #[doc(hidden)]
 pub mod rng;
+pub mod seed;
 pub mod service;
 pub mod words;
 
@@ -44,6 +45,7 @@ pub use ffi::{
     Converted, Counted, Known, Limits, Outcome, Swept, Tally, convert_text, count_job, interface, known_job, run_job,
     run_job_within, sweep_job, tally_answers,
 };
+pub use seed::Seeds;
 pub use service::{Answer, Answers, Count, KnownBits, Memory, Report, Service, Sweep, Verdict};
 pub use words::{AnswerCode, Kind, Rule, StopCode};
 

@@ -1,7 +1,7 @@
 //! A service: memory of its own, a tally, and reports in words.
 use crate::{
-    ANSWER_BYTES, Counted, Known, Limits, MAX_JOB_BYTES, MAX_VALUES, MAX_WIDTH, Outcome, SHORTEST_RECORD, Swept, Tally,
-    VALUE_BYTES, count_job, known_job, run_job_within, sweep_job, tally_answers, words,
+    ANSWER_BYTES, Counted, Known, Limits, MAX_JOB_BYTES, MAX_VALUES, MAX_WIDTH, Outcome, SHORTEST_RECORD, Seeds, Swept,
+    Tally, VALUE_BYTES, count_job, known_job, run_job_within, sweep_job, tally_answers, words,
 };
 use std::fmt;
 
@@ -36,10 +36,10 @@ pub struct Memory {
 /// is smaller may end the process. Rust's threads have 2 MiB unless they are built otherwise.
 ///
 /// Time: every job ends, but nothing interrupts it. A job may repeat its longest step, a division of width 64, in eight bytes for
-/// each answer that has room. Where the work memory is twice what the terms need, such a step took less than ten milliseconds
-/// (docs/PERFORMANCE.md); it takes seconds where the terms fill the memory or are made to collide in the table over them. So the
-/// time is bounded by the answers lent and, for terms that collide, by the job's length: for jobs of strangers lend few answers,
-/// and check where the check can be ended, in a process of its own.
+/// each answer that has room; such a step took less than ten milliseconds (docs/PERFORMANCE.md). So the time is bounded by the
+/// answers lent: for jobs of strangers lend few answers, and check where the check can be ended, in a process of its own. Where
+/// terms are looked for depends on random bytes that the service puts into the work memory before each job, so that nobody can
+/// choose terms that take long to find.
 ///
 /// A sweep or a count takes one evaluation for each assignment and each term that stands in the asked one, up to 65,536 times 65,535 of them, after the
 /// job's own time. Deriving bits takes one evaluation of each of these terms.
@@ -54,6 +54,8 @@ pub struct Service {
     bits: [u8; MAX_WIDTH],
     limits: Limits,
     tally: Tally,
+    /// For each job another, so that no job can be made to take long to look its terms up.
+    seeds: Seeds,
 }
 
 impl Service {
@@ -73,6 +75,7 @@ impl Service {
             bits: [NO_BIT; MAX_WIDTH],
             limits: Limits::RACK,
             tally: Tally::default(),
+            seeds: Seeds::default(),
         }
     }
 
@@ -91,6 +94,7 @@ impl Service {
     /// Checks a job and adds it to the tally.
     #[must_use = "the job may be refused"]
     pub fn check(&mut self, job: &[u8]) -> Report<'_> {
+        self.seeds.put(&mut self.work);
         let outcome = run_job_within(job, &mut self.work, &mut self.answers, self.limits);
         tally_answers(&mut self.tally, &self.answers, outcome.answers);
         Report::new(outcome, &self.answers, self.tally)
@@ -99,10 +103,12 @@ impl Service {
     /// Runs a job, and evaluates both sides of the Equals of that number in its final store on every assignment of the variables that stand
     /// in it. The job is not added to the tally.
     pub fn sweep(&mut self, job: &[u8], number: u32) -> Sweep<'_> {
+        self.seeds.put(&mut self.work);
         let mut swept = sweep_job(job, &mut self.work, &mut self.answers, &mut self.values, number);
         if swept.code == SHORT_VALUES {
             // Only the job itself says how many terms it keeps.
             self.values.resize(VALUE_BYTES * swept.outcome.terms as usize, 0);
+            self.seeds.put(&mut self.work);
             swept = sweep_job(job, &mut self.work, &mut self.answers, &mut self.values, number);
         }
         Sweep { swept, answers: &self.answers }
@@ -111,11 +117,13 @@ impl Service {
     /// Runs a job, and counts how many assignments of the variables that stand in the term of that number of its final store lead to each of
     /// its values. The job is not added to the tally.
     pub fn count(&mut self, job: &[u8], number: u32) -> Count<'_> {
-        let Service { work, answers, values, counts, .. } = self;
+        let Service { work, answers, values, counts, seeds, .. } = self;
         counts.fill(NO_COUNT);
+        seeds.put(work);
         let mut counted = count_job(job, work, answers, values, number, counts);
         if counted.code == SHORT_VALUES {
             values.resize(VALUE_BYTES * counted.outcome.terms as usize, 0);
+            seeds.put(work);
             counted = count_job(job, work, answers, values, number, counts);
         }
         // The library leaves the numbers past the last value as they were.
@@ -127,11 +135,13 @@ impl Service {
     /// not known, for each bit of the variables that stand in it, the variable with the lowest number first and bit 0 first in each. The job
     /// is not added to the tally.
     pub fn known(&mut self, job: &[u8], number: u32, inputs: &[u8]) -> KnownBits<'_> {
-        let Service { work, answers, values, bits, .. } = self;
+        let Service { work, answers, values, bits, seeds, .. } = self;
         bits.fill(NO_BIT);
+        seeds.put(work);
         let mut known = known_job(job, work, answers, values, number, inputs, bits);
         if known.code == SHORT_VALUES {
             values.resize(VALUE_BYTES * known.outcome.terms as usize, 0);
+            seeds.put(work);
             known = known_job(job, work, answers, values, number, inputs, bits);
         }
         // The library leaves the bytes past the last bit as they were.

@@ -8,7 +8,7 @@ use partial::number::known_number;
 use runs::Outcome;
 use runs::finished::outcome_of;
 use runs::finished::run_job;
-use runs::used;
+use runs::lend;
 
 // What it comes to: a code, and the job's own outcome.
 #[repr(C)]
@@ -70,7 +70,7 @@ pub extern "C" fn bb_known(
         (now (values .entry)) number (now (inputs .entry)) (now (outputs .entry)) .bytes) (now (outputs .entry)) ⌝ }
     ensures values { λ r. ⌜ now (values .exit) ≡ values-after (r .code) (now (values .entry)) ⌝ }
 {
-    let n = used(job.len(), work.len());
+    let n = lend(job.len(), work);
     let r = known_job(
         job,
         &mut work[..n],

@@ -16,7 +16,7 @@ ghost use Rattle.runs.specs.Walking.{told};
 use intern::Limits;
 use runs::Outcome;
 use runs::check_job;
-use runs::used;
+use runs::lend;
 use terms::Term;
 
 // The number of the interface. It grows with each change of an exported function, or of a struct that one takes or returns.
@@ -49,7 +49,7 @@ pub extern "C" fn bb_job_within(
         width: width_limit,
         terms: term_limit,
     };
-    let n = used(job.len(), work.len());
+    let n = lend(job.len(), work);
     let outcome = check_job(job, &mut work[..n], answers, limits);
     table::wipe(work);
     outcome

@@ -8,7 +8,7 @@ ghost use Rattle.bitblast.specs.Asking.{as-swept};
 use runs::Outcome;
 use runs::finished::outcome_of;
 use runs::finished::run_job;
-use runs::used;
+use runs::lend;
 use sweeper::sweep_number;
 
 // What a sweep comes to: a code, how many assignments there were, on how many the sides differ, and the job's own outcome.
@@ -66,7 +66,7 @@ pub extern "C" fn bb_sweep(
     ensures result { λ r. ⌜ as-swept r ≡ sweep-lent (now (job .entry)) (now (work .entry)) (now (answers .entry)) (now (values .entry)) number ⌝ }
     ensures values { λ r. ⌜ now (values .exit) ≡ values-after (r .code) (now (values .entry)) ⌝ }
 {
-    let n = used(job.len(), work.len());
+    let n = lend(job.len(), work);
     let r = sweep_job(job, &mut work[..n], answers, values, number);
     table::wipe(work);
     r

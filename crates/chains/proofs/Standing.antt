@@ -26,7 +26,7 @@ use Rattle.terms.specs.Framing.{record-at}
 use Rattle.terms.specs.declared.Args.{Args}
 use Rattle.terms.specs.Decoded.{item-of, words-in}
 use Rattle.terms.proofs.Lists.{words-in-length}
-use Rattle.rows.specs.Layout.{offset-at}
+use Rattle.rows.specs.Layout.{link-size, offset-at}
 use Rattle.rows.specs.Rows.{column, offsets}
 use Rattle.rows.proofs.RowLaws.{getD-column, length-column}
 use Rattle.store.specs.Store.{Store, listed}
@@ -82,43 +82,43 @@ map-at f (x ∷ xs) zero = refl
 map-at f (x ∷ xs) (suc k) = map-at f xs k
 
 -- of a row
-row-origin : (work : Bytes) (n p : ℕ) → first-terms ≤ p → p - first-terms < n → getElem? (origins work n) p ≡ some (suc (offset-at work (p - first-terms)))
+row-origin : (job work : Bytes) (n p : ℕ) → first-terms ≤ p → p - first-terms < n → getElem? (origins job work n) p ≡ some (suc (offset-at (link-size job) work (p - first-terms)))
 unfolding origins offsets
-row-origin work n zero l h = absurd (omega arith)
-row-origin work n (suc zero) l h = absurd (omega arith)
-row-origin work n (suc (suc k)) l h =
+row-origin job work n zero l h = absurd (omega arith)
+row-origin job work n (suc zero) l h = absurd (omega arith)
+row-origin job work n (suc (suc k)) l h =
     let e : suc (suc k) - first-terms ≡ k = omega arith in
-    map-at suc (column (offset-at work) n) k ∙ ap (either none (λ (a : ℕ). some (suc a))) (column-at (offset-at work) 0 n k (omega arith))
-    ∙ ap (λ (j : ℕ). some (suc (offset-at work j))) (sym e)
+    map-at suc (column (offset-at (link-size job) work) n) k ∙ ap (either none (λ (a : ℕ). some (suc a))) (column-at (offset-at (link-size job) work) 0 n k (omega arith))
+    ∙ ap (λ (j : ℕ). some (suc (offset-at (link-size job) work j))) (sym e)
 
-no-origin : (work : Bytes) (n p : ℕ) → first-terms ≤ p → n ≤ p - first-terms → getElem? (origins work n) p ≡ none
+no-origin : (job work : Bytes) (n p : ℕ) → first-terms ≤ p → n ≤ p - first-terms → getElem? (origins job work n) p ≡ none
 unfolding origins offsets
-no-origin work n zero l h = absurd (omega arith)
-no-origin work n (suc zero) l h = absurd (omega arith)
-no-origin work n (suc (suc k)) l h = map-at suc (column (offset-at work) n) k ∙ ap (either none (λ (a : ℕ). some (suc a))) (column-none (offset-at work) n k (omega arith))
+no-origin job work n zero l h = absurd (omega arith)
+no-origin job work n (suc zero) l h = absurd (omega arith)
+no-origin job work n (suc (suc k)) l h = map-at suc (column (offset-at (link-size job) work) n) k ∙ ap (either none (λ (a : ℕ). some (suc a))) (column-none (offset-at (link-size job) work) n k (omega arith))
 
 -- `true` and `false`
-pub first-before : (work : Bytes) (n p at : ℕ) → p < first-terms → true ≡ origin-before work n p at
+pub first-before : (job work : Bytes) (n p at : ℕ) → p < first-terms → true ≡ origin-before job work n p at
 unfolding origin-before origins
-first-before work n zero at h = sym (le-leb 0 at (omega arith))
-first-before work n (suc zero) at h = sym (le-leb 0 at (omega arith))
-first-before work n (suc (suc p)) at h = absurd (omega arith)
+first-before job work n zero at h = sym (le-leb 0 at (omega arith))
+first-before job work n (suc zero) at h = sym (le-leb 0 at (omega arith))
+first-before job work n (suc (suc p)) at h = absurd (omega arith)
 
-pub absent-before : (work : Bytes) (n p at : ℕ) → first-terms ≤ p → n ≤ p - first-terms → false ≡ origin-before work n p at
+pub absent-before : (job work : Bytes) (n p at : ℕ) → first-terms ≤ p → n ≤ p - first-terms → false ≡ origin-before job work n p at
 unfolding origin-before
-absent-before work n p at l h = sym (ap (either false (λ (o : ℕ). leb o at)) (no-origin work n p l h))
+absent-before job work n p at l h = sym (ap (either false (λ (o : ℕ). leb o at)) (no-origin job work n p l h))
 
-pub row-before : (work : Bytes) (n p at : ℕ) → first-terms ≤ p → p - first-terms < n → ltb (offset-at work (p - first-terms)) at ≡ origin-before work n p at
+pub row-before : (job work : Bytes) (n p at : ℕ) → first-terms ≤ p → p - first-terms < n → ltb (offset-at (link-size job) work (p - first-terms)) at ≡ origin-before job work n p at
 unfolding origin-before
-row-before work n p at l h = sym (ap (either false (λ (o : ℕ). leb o at)) (row-origin work n p l h))
+row-before job work n p at l h = sym (ap (either false (λ (o : ℕ). leb o at)) (row-origin job work n p l h))
 
 -- a term that is there has a place
-pub origin-below : (work : Bytes) (n p o : ℕ) → getElem? (origins work n) p ≡ some o → p < first-terms + n
+pub origin-below : (job work : Bytes) (n p o : ℕ) → getElem? (origins job work n) p ≡ some o → p < first-terms + n
 unfolding origins offsets
-origin-below work n p o e =
-    let a = getElem-lt (origins work n) p o e in
-    let l = length-column (offset-at work) n in
-    let m = length-map (column (offset-at work) n) suc in
+origin-below job work n p o e =
+    let a = getElem-lt (origins job work n) p o e in
+    let l = length-column (offset-at (link-size job) work) n in
+    let m = length-map (column (offset-at (link-size job) work) n) suc in
     omega arith
 
 -- ---- a premise
@@ -126,11 +126,11 @@ module _ (job work memory : Bytes) (n answered : ℕ) where
   abbrev E : Earlier
   E = earlier-in job work memory n answered
 
-  earlier-at : (k : ℕ) → k < answered → getElem? E k ≡ some (standing (origins work n) (step-place memory k) (left-at job memory k))
+  earlier-at : (k : ℕ) → k < answered → getElem? E k ≡ some (standing (origins job work n) (step-place memory k) (left-at job memory k))
   unfolding marks-in
   earlier-at k h =
-      map-at (λ (m : Mark). standing (origins work n) (m .0) (m .1)) (column (mark-at job memory) answered) k
-      ∙ ap (either none (λ (m : Mark). some (standing (origins work n) (m .0) (m .1)))) (column-at (mark-at job memory) (0, none) answered k h)
+      map-at (λ (m : Mark). standing (origins job work n) (m .0) (m .1)) (column (mark-at job memory) answered) k
+      ∙ ap (either none (λ (m : Mark). some (standing (origins job work n) (m .0) (m .1)))) (column-at (mark-at job memory) (0, none) answered k h)
 
   -- no number 0
   pub premise-none : {number : ℕ} → number ≡ 0 → none ≡ premise-place E number
@@ -146,57 +146,57 @@ module _ (job work memory : Bytes) (n answered : ℕ) where
     premise-beyond h =
         sym (ap (premise-place E) next
         ∙ ap (either none (λ (p : Option ℕ). p))
-        (map-at (λ (m : Mark). standing (origins work n) (m .0) (m .1)) (column (mark-at job memory) answered) (number - 1)
-        ∙ ap (either none (λ (m : Mark). some (standing (origins work n) (m .0) (m .1)))) (column-none (mark-at job memory) answered (number - 1) h)))
+        (map-at (λ (m : Mark). standing (origins job work n) (m .0) (m .1)) (column (mark-at job memory) answered) (number - 1)
+        ∙ ap (either none (λ (m : Mark). some (standing (origins job work n) (m .0) (m .1)))) (column-none (mark-at job memory) answered (number - 1) h)))
 
     module _ (there : number - 1 < answered) where
-      premise-is : premise-place E number ≡ standing (origins work n) (step-place memory (number - 1)) (left-at job memory (number - 1))
+      premise-is : premise-place E number ≡ standing (origins job work n) (step-place memory (number - 1)) (left-at job memory (number - 1))
       premise-is = ap (premise-place E) next ∙ ap (either none (λ (p : Option ℕ). p)) (earlier-at (number - 1) there)
 
       -- it is not held
       pub premise-refused : {code : ℕ} → code ≡ step-code memory (number - 1) → (code ≡ 0 → ⊥) → none ≡ premise-place E number
       unfolding left-at
       premise-refused {code} e f =
-          sym (premise-is ∙ ap (λ (b : Bool). standing (origins work n) (step-place memory (number - 1)) (cond b (claimed-at job (step-place memory (number - 1))) none))
+          sym (premise-is ∙ ap (λ (b : Bool). standing (origins job work n) (step-place memory (number - 1)) (cond b (claimed-at job (step-place memory (number - 1))) none))
           (ap (λ (c : ℕ). eqb c 0) (sym e) ∙ ne-eqb code 0 f))
 
       -- it is held
       module _ {code place : ℕ} (e : code ≡ step-code memory (number - 1)) (z : code ≡ 0) (g : place ≡ step-place memory (number - 1)) where
-        premise-left : {q : Option ℕ} → q ≡ claimed-at job place → premise-place E number ≡ standing (origins work n) place q
+        premise-left : {q : Option ℕ} → q ≡ claimed-at job place → premise-place E number ≡ standing (origins job work n) place q
         unfolding left-at
         premise-left {q} f =
             premise-is
-            ∙ ap (λ (b : Bool). standing (origins work n) (step-place memory (number - 1)) (cond b (claimed-at job (step-place memory (number - 1))) none)) (ap (λ (c : ℕ). eqb c 0) (sym e) ∙ eq-eqb code 0 z)
-            ∙ ap (λ (s : ℕ). standing (origins work n) s (claimed-at job s)) (sym g)
-            ∙ ap (standing (origins work n) place) (sym f)
+            ∙ ap (λ (b : Bool). standing (origins job work n) (step-place memory (number - 1)) (cond b (claimed-at job (step-place memory (number - 1))) none)) (ap (λ (c : ℕ). eqb c 0) (sym e) ∙ eq-eqb code 0 z)
+            ∙ ap (λ (s : ℕ). standing (origins job work n) s (claimed-at job s)) (sym g)
+            ∙ ap (standing (origins job work n) place) (sym f)
 
         pub premise-claims-none : none ≡ claimed-at job place → none ≡ premise-place E number
         premise-claims-none f = sym (premise-left f)
 
-        pub premise-stands : {p : ℕ} → some p ≡ claimed-at job place → {b : Bool} → b ≡ origin-before work n p place → cond b (some p) none ≡ premise-place E number
+        pub premise-stands : {p : ℕ} → some p ≡ claimed-at job place → {b : Bool} → b ≡ origin-before job work n p place → cond b (some p) none ≡ premise-place E number
         unfolding origin-before
-        premise-stands {p} f {b} h = sym (premise-left f ∙ go (getElem? (origins work n) p) ∙ ap (λ (c : Bool). cond c (some p) none) (sym h))
+        premise-stands {p} f {b} h = sym (premise-left f ∙ go (getElem? (origins job work n) p) ∙ ap (λ (c : Bool). cond c (some p) none) (sym h))
           where
             go : (q : Option ℕ) → before q place p ≡ cond (either false (λ (o : ℕ). leb o place) q) (some p) none
             go none = refl
             go (some o) = refl
 
   -- its literal is kept
-  stands-below : (s : ℕ) (q : Option ℕ) (p : ℕ) → standing (origins work n) s q ≡ some p → p < first-terms + n
+  stands-below : (s : ℕ) (q : Option ℕ) (p : ℕ) → standing (origins job work n) s q ≡ some p → p < first-terms + n
   stands-below s none p e = absurd (none-some p e)
-  stands-below s (some m) p e = go (getElem? (origins work n) m) refl e
+  stands-below s (some m) p e = go (getElem? (origins job work n) m) refl e
     where
-      go : (o : Option ℕ) → getElem? (origins work n) m ≡ o → before o s m ≡ some p → p < first-terms + n
+      go : (o : Option ℕ) → getElem? (origins job work n) m ≡ o → before o s m ≡ some p → p < first-terms + n
       go none f d = absurd (none-some p d)
       go (some o) f d = by-test (leb o s) d
         where
           by-test : (b : Bool) → cond b (some m) none ≡ some p → p < first-terms + n
-          by-test true c = subst (λ (x : ℕ). x < first-terms + n) (some-inj m p c) (origin-below work n m o f)
+          by-test true c = subst (λ (x : ℕ). x < first-terms + n) (some-inj m p c) (origin-below job work n m o f)
           by-test false c = absurd (none-some p c)
 
-  marks-below : (ms : List Mark) (k p : ℕ) → getElem? (all-standing (origins work n) ms) k ≡ some (some p) → p < first-terms + n
+  marks-below : (ms : List Mark) (k p : ℕ) → getElem? (all-standing (origins job work n) ms) k ≡ some (some p) → p < first-terms + n
   marks-below [] k p e = absurd (none-some (some p) e)
-  marks-below (m ∷ ms) zero p e = stands-below (m .0) (m .1) p (some-inj (standing (origins work n) (m .0) (m .1)) (some p) e)
+  marks-below (m ∷ ms) zero p e = stands-below (m .0) (m .1) p (some-inj (standing (origins job work n) (m .0) (m .1)) (some p) e)
   marks-below (m ∷ ms) (suc k) p e = marks-below ms k p e
 
   pub premise-below : (number p : ℕ) → premise-place E number ≡ some p → p < first-terms + n

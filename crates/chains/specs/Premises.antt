@@ -22,6 +22,7 @@ use Rattle.terms.specs.declared.Args.{Args}
 use Rattle.terms.specs.Framing.{record-at}
 use Rattle.terms.specs.declared.Operands.{Operands}
 use Rattle.terms.specs.Decoded.{Inside, OperandsPlaced, numbers-of}
+use Rattle.rows.specs.Layout.{link-size}
 use Rattle.rows.specs.Rows.{column, offsets}
 use Rattle.store.specs.Store.{Store}
 use Rattle.operand_rules.specs.Rules.{tree}
@@ -49,16 +50,16 @@ unfoldable pub marks-in : Bytes → Bytes → ℕ → List Mark
 marks-in job memory answered = column (mark-at job memory) answered
 
 -- the origins of the terms: `true` and `false` are there from the start
-unfoldable pub origins : Bytes → ℕ → List ℕ
-origins work n = 0 ∷ 0 ∷ map suc (offsets work n)
+unfoldable pub origins : Bytes → Bytes → ℕ → List ℕ
+origins job work n = 0 ∷ 0 ∷ map suc (offsets (link-size job) work n)
 
 -- the earlier steps
 abbrev pub earlier-in : Bytes → Bytes → Bytes → ℕ → ℕ → Earlier
-earlier-in job work memory n answered = all-standing (origins work n) (marks-in job memory answered)
+earlier-in job work memory n answered = all-standing (origins job work n) (marks-in job memory answered)
 
 -- a term is at that place, and its origin is not after `at`
-unfoldable pub origin-before : Bytes → ℕ → ℕ → ℕ → Bool
-origin-before work n place at = either false (λ o. leb o at) (getElem? (origins work n) place)
+unfoldable pub origin-before : Bytes → Bytes → ℕ → ℕ → ℕ → Bool
+origin-before job work n place at = either false (λ o. leb o at) (getElem? (origins job work n) place)
 
 -- ---- what is granted: the store, room for the answers, and a whole record at the place of each step
 pub record Noted (job work memory : Bytes) (n answered : ℕ) : Type 0 where

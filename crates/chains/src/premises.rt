@@ -3,7 +3,8 @@ ghost use mathlib.Core.Path.{_≡_};
 ghost use mathlib.Core.Bool.{true};
 ghost use Prim.Native.Nat.{_+_, _*_, _≤_, _<_};
 ghost use lib.ListN.{length, drop, getD};
-ghost use Rattle.theory.specs.Limit.{term-bytes, first-terms};
+ghost use Rattle.theory.specs.Limit.{first-terms};
+ghost use Rattle.rows.specs.Layout.{link-size, row-size};
 ghost use Rattle.theory.specs.Optional.{is-some};
 ghost use Rattle.theory.specs.Record.{whole};
 ghost use Rattle.theory.specs.Chain.{premise-place, premises-at};
@@ -53,9 +54,9 @@ fn claimed(job: &[u8], at: usize) -> Premise
 }
 
 // Is there a term at that place, and does its record stand before the place `at` of the job? `true` and `false` are there from the start.
-fn kept_before(work: &[u8], n: usize, place: u32, at: usize) -> bool
-    requires { ⌜ n * term-bytes ≤ length (now work) ⌝ }
-    ensures { λ r. ⌜ r ≡ origin-before (now (work .entry)) n place at ⌝ }
+fn kept_before(job: &[u8], work: &[u8], n: usize, place: u32, at: usize) -> bool
+    requires { ⌜ n * row-size (link-size (now job)) ≤ length (now work) ⌝ }
+    ensures { λ r. ⌜ r ≡ origin-before (now (job .entry)) (now (work .entry)) n place at ⌝ }
 {
     let p = place as usize;
     if p < FIRST_PLACE {
@@ -64,7 +65,7 @@ fn kept_before(work: &[u8], n: usize, place: u32, at: usize) -> bool
     if n <= p - FIRST_PLACE {
         return false;
     }
-    offset_at(work, p - FIRST_PLACE) < at
+    offset_at(job, work, p - FIRST_PLACE) < at
 }
 
 // The literal of the earlier step with that number, counted from 1, where the step is held and the literal not dropped since.
@@ -93,7 +94,7 @@ pub fn premise_at(
     let Premise::Literal(p) = claimed(job, at) else {
         return Premise::Broken;
     };
-    if kept_before(work, n, p, at) {
+    if kept_before(job, work, n, p, at) {
         Premise::Literal(p)
     } else {
         Premise::Broken

@@ -12,7 +12,7 @@ ghost use lib.ListN.{take};
 ghost use Rattle.theory.specs.Limit.{max-width};
 ghost use Rattle.theory.specs.Circuit.{sum-bit, next-carry, ripple-carry-adder, last-carry, negate};
 ghost use Rattle.rows.specs.Rows.{kept};
-ghost use Rattle.table.specs.Slots.{Table};
+ghost use Rattle.table.specs.Buckets.{Table};
 ghost use Rattle.store.specs.Numbers.{numbers};
 
 // ripple_carry_adder, one bit of the sum: x, y and the carry into it.

@@ -15,7 +15,7 @@ ghost use Rattle.theory.specs.Limit.{max-width};
 ghost use Rattle.theory.specs.Move.{bits};
 ghost use Rattle.theory.specs.Circuit.{zip-with, choose};
 ghost use Rattle.rows.specs.Rows.{kept};
-ghost use Rattle.table.specs.Slots.{Table};
+ghost use Rattle.table.specs.Buckets.{Table};
 ghost use Rattle.store.specs.Numbers.{numbers, bit-number};
 
 // The most bits that a bit-vector has: an array of bits is so long, whatever its width.

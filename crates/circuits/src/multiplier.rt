@@ -12,7 +12,7 @@ ghost use lib.ListN.{take, drop};
 ghost use Rattle.theory.specs.Limit.{max-width};
 ghost use Rattle.theory.specs.Circuit.{ripple-carry-adder, partial-products, shift-add-multiplier};
 ghost use Rattle.rows.specs.Rows.{kept};
-ghost use Rattle.table.specs.Slots.{Table};
+ghost use Rattle.table.specs.Buckets.{Table};
 ghost use Rattle.store.specs.Numbers.{numbers, false-number};
 
 // One more row: added to the sum so far, from place j on. The places below j stay as they are.

@@ -10,7 +10,7 @@ use lib.ListN.{length, take, drop, replicate, take-append-drop}
 use lib.Seq.{length-take-le}
 use borrow.Author.Tests.{eq-eqb, ne-eqb}
 use Rattle.theory.specs.Record.{Bytes, cut}
-use Rattle.table.specs.Slots.{Table}
+use Rattle.table.specs.Buckets.{Table}
 use Rattle.text.specs.Writing.{kept}
 use Rattle.text.specs.Convert as C
 use Rattle.text.specs.Convert.{lines, take-line, convert-from, Outcome, written, refused, call}

@@ -5,13 +5,14 @@ mod line;
 
 ghost use mathlib.Core.List.{[]};
 ghost use mathlib.Core.Path.{_≡_};
-ghost use Rattle.table.specs.Slots.{Table};
+ghost use Rattle.table.specs.Buckets.{Table};
 ghost use Rattle.text.specs.Convert.{call};
 ghost use Rattle.convert.specs.Text.{told, Taken};
 use crate::line::State;
 use crate::line::take_line;
 use names::lines::line_after;
 use names::lines::line_end;
+use table::clear;
 use table::wipe;
 use writer::places::Spot;
 
@@ -78,7 +79,7 @@ pub fn convert(text: &[u8], work: &mut [u8], job: &mut [u8]) -> Converted
     ensures work { λ _. ⌜ now (work .exit) ≡ call (now (text .entry)) (now (work .entry)) (now (job .entry)) .work-memory ⌝ }
     ensures job { λ _. ⌜ now (job .exit) ≡ call (now (text .entry)) (now (work .entry)) (now (job .entry)) .job-memory ⌝ }
 {
-    wipe(work);
+    clear(work);
     let lines = take_lines(text, work, job);
     wipe(work);
     if lines.refused != 0 {

@@ -19,7 +19,7 @@ use Rattle.terms.specs.declared.Term.{Term as Decoded}
 use Rattle.terms.specs.declared.Term.the-variants as D
 use Rattle.terms.specs.Decoded.{OperandsPlaced, op-of, operands-of, arguments-of}
 use Rattle.store.specs.Store.{listed}
-use Rattle.shelf.specs.Shelf.{args-at}
+use Rattle.store.specs.Shelf.{args-at}
 use Rattle.sweeps.specs.Variables.{is-variable}
 use Rattle.sweeps.specs.Sweep.{as-number}
 use Rattle.evaluation.specs.Cells.{AllRight, Given, Comes, Evaluated, Decodable}

@@ -13,13 +13,16 @@ use terms::Term;
 // The bytes of a cell.
 pub const CELL_BYTES: usize = 8;
 
+// The bytes of half a cell.
+const HALF_BYTES: usize = 4;
+
 // The number in the eight bytes from `at` on.
 fn eight(s: &[u8], at: usize) -> u64
     requires { ⌜ at + cell-bytes ≤ length (now s) ⌝ }
     ensures { λ r. ⌜ r ≡ little-endian (take cell-bytes (drop at (now (s .entry)))) ⌝ }
 {
-    let low = number(s, at) + 65536 * number(s, at + 2);
-    let high = number(s, at + 4) + 65536 * number(s, at + 6);
+    let low = number(s, at, HALF_BYTES);
+    let high = number(s, at + HALF_BYTES, HALF_BYTES);
     (low + 4294967296 * high) as u64
 }
 

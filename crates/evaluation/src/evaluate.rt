@@ -14,7 +14,7 @@ use operations::apply::apply_two;
 use operations::apply::choice;
 use operations::apply::extend;
 use operations::apply::start;
-use shelf::width_on;
+use store::shelf::width_on;
 use terms::Args;
 use terms::Term;
 

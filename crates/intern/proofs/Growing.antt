@@ -10,9 +10,7 @@ use lib.Seq.{take-take, take-all, take-nil, take-append-seam, getD-take}
 use Rattle.theory.specs.Limit.{first-terms, max-job}
 use Rattle.theory.specs.Kind.{Op, True}
 use Rattle.theory.specs.Term.{Term, node, nil}
-use Rattle.theory.specs.Sort.{sort-of, sort-width}
-use Rattle.theory.specs.Depth.{depth}
-use Rattle.theory.specs.Record.{Bytes, Item, term, read}
+use Rattle.theory.specs.Record.{Bytes, Item, term, read, number-length}
 use Rattle.theory.specs.Plain.{Entry, entry, Plain, term-of, has, put, feed, feed-item}
 use Rattle.theory.specs.Plain as P
 use Rattle.theory.proofs.Run.{good-take, start-good}
@@ -20,18 +18,20 @@ use Rattle.theory.proofs.Distinct.{take-well, start-well}
 use Rattle.theory.proofs.Places.{tree-at}
 use Rattle.theory.proofs.Run.{AllGood}
 use Rattle.theory.proofs.Distinct.{WellKept}
-use Rattle.rows.specs.Rows.{kept, column, depths, widths}
-use Rattle.table.specs.Promise.{Wiped, Cut}
-use Rattle.table.proofs.Face.{kept-at, depths-at, widths-at}
+use Rattle.rows.specs.Rows.{kept, kept-as, column, measures}
+use Rattle.table.specs.Promise.{Cleared, Cut}
+use Rattle.table.proofs.Face.{kept-at, measures-at}
+use Rattle.rows.specs.Layout.{link-size}
+use Rattle.store.specs.Measure.{measure}
 use Rattle.store.specs.Store.{Store, listed, records}
 use Rattle.intern.specs.Interning.{Started, CutBack}
-use Rattle.store.proofs.Keeping.{row-kept, row-says}
+use Rattle.store.proofs.Keeping.{row-kept, row-says, shelf}
 use Rattle.theory.proofs.Slices.{map-take}
 use Rattle.rows.proofs.RowLaws.{length-kept}
 
 -- ---- the start
-pub started : {job work after : Bytes} → length job ≤ max-job → Wiped work after → Started job work after
-unfolding kept column
+pub started : {job work after : Bytes} → length job ≤ max-job → Cleared work after → Started job work after
+unfolding kept-as column
 started {job} {work} {after} h w = record {
   store = record {
     table = w .ready job h;
@@ -39,11 +39,10 @@ started {job} {work} {after} h w = record {
     sorted = start-good;
     count = refl;
     records-are = refl;
-    depths-are = λ k l. absurd (omega arith);
-    widths-are = λ k l. absurd (omega arith);
+    measures-are = λ k l. absurd (omega arith);
   };
   listed-is = refl;
-  all-zero = w .all-zero;
+  memory-is = w .memory-is;
 }
 
 -- ---- a part of the list
@@ -111,8 +110,8 @@ say-from (r ∷ rs) f = (f 0 (omega arith), say-from rs (λ k h. f (suc k) (omeg
 kept-say : {job work : Bytes} {n : ℕ} → Store job work n → AllSay (kept job work n)
 kept-say {job} {work} {n} s =
     say-from (kept job work n) (λ k h.
-    let l : k < n = (let q = length-kept job work n in omega arith) in
-    record { op = row-kept s k l .op; args = row-kept s k l .args; says = ap read (kept-at job work n k l) ∙ row-says s k l })
+    let l : k < n = (let q = length-kept (link-size job) job work n in omega arith) in
+    record { op = row-kept (shelf s) k l .op; args = row-kept (shelf s) k l .args; says = ap read (kept-at (link-size job) job work n k l) ∙ row-says (shelf s) k l })
 
 -- ---- the records of a part
 records-part : (m : ℕ) (list : Plain) → records (take (suc (suc m)) list) ≡ take m (records list)
@@ -122,10 +121,10 @@ records-part m (e ∷ d ∷ list) = map-take (λ (x : Entry). x .bytes) m list
 
 -- ---- the store cut back
 module _ {job work after : Bytes} {n count : ℕ} (s : Store job work n) (low : first-terms ≤ count) (high : count ≤ first-terms + n)
-    (c : Cut job work after n (count - first-terms)) where
+    (c : Cut (number-length job) job work after n (count - first-terms)) where
   cut-listed : listed job after (count - first-terms) ≡ take count (listed job work n)
   cut-listed =
-      let l = length-kept job work n in
+      let l = length-kept (link-size job) job work n in
       let z : length P.start + (count - first-terms) ≡ count = omega arith in
       ap (foldl feed P.start) (c .kept-is)
       ∙ sym (fed-part P.start (kept job work n) (kept-say s) (s .count ∙ omega arith) (count - first-terms) (omega arith))
@@ -150,12 +149,9 @@ module _ {job work after : Bytes} {n count : ℕ} (s : Store job work n) (low : 
           sorted = subst AllGood (sym cut-listed) (good-take count list (s .sorted));
           count = ap length cut-listed ∙ length-take count list ∙ omega arith;
           records-are = ap records (cut-listed ∙ ap (λ (j : ℕ). take j list) z) ∙ records-part m list ∙ ap (take m) (s .records-are) ∙ sym (c .kept-is);
-          depths-are = λ k h.
-              sym (depths-at job after m k h) ∙ ap (λ (l : List ℕ). getD l k 0) (c .depths-are) ∙ getD-take m (depths work n) k 0 h
-              ∙ depths-at job work n k (omega arith) ∙ s .depths-are k (omega arith) ∙ ap depth (cut-tree k h);
-          widths-are = λ k h.
-              sym (widths-at job after m k h) ∙ ap (λ (l : List ℕ). getD l k 0) (c .widths-are) ∙ getD-take m (widths work n) k 0 h
-              ∙ widths-at job work n k (omega arith) ∙ s .widths-are k (omega arith) ∙ ap (λ (t : Term). sort-width (sort-of t)) (cut-tree k h);
+          measures-are = λ k h.
+              sym (measures-at (link-size job) job after m k h) ∙ ap (λ (l : List ℕ). getD l k 0) (c .measures-are) ∙ getD-take m (measures (link-size job) work n) k 0 h
+              ∙ measures-at (link-size job) job work n k (omega arith) ∙ s .measures-are k (omega arith) ∙ ap measure (cut-tree k h);
         };
         listed-is = cut-listed;
         offsets-are = c .offsets-are;

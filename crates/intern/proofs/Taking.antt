@@ -3,20 +3,20 @@ use mathlib.Core.Path.{_≡_, refl, sym, ap, ap₂, subst, _∙_}
 use mathlib.Core.Bool.{Bool, true, false, _&&_, _||_, cond}
 use mathlib.Core.List.{List, [], _∷_, _++_, map, map-append}
 use mathlib.Core.Option.{some}
-use Prim.Native.Nat.{ℕ, zero, suc, _+_, _-_, _*_, _<_, _≤_, min}
+use Prim.Native.Nat.{ℕ, zero, suc, _+_, _-_, _*_, _^_, _<_, _≤_, min}
 use native.Mathlib.Omega.{arith}
 use native.Mathlib.Decide.{ℕ-discrete, decLe}
 use lib.Dec.{T, leb, ltb, eqb, leb→le}
 use lib.Ieee.Fits.{and-r}
 use lib.ListN.{length, take, drop, getD, getElem?, length-take, length-append, length-drop, List·getD-append}
-use lib.Seq.{take-take, getD-append-seam, drop-append-le}
+use lib.Seq.{take-take, getD-append-seam, getD-take, drop-append-le, drop-drop}
 use borrow.Author.Tests.{eqb-true, eqb-false, le-leb, lt-leb}
-use Rattle.theory.specs.Limit.{Limits, capped, first-terms, max-width, term-bytes}
-use Rattle.theory.specs.Kind.{Op, True}
-use Rattle.theory.specs.Term.{Term, node, nil, same-numbers}
+use Rattle.theory.specs.Limit.{number-bytes, Limits, capped, first-terms, max-width, term-bytes}
+use Rattle.theory.specs.Kind.{Op, True, kind}
+use Rattle.theory.specs.Term.{Term, node, nil, from-list, same-numbers}
 use Rattle.theory.specs.Sort.{Sort, bad, bool, bv, good, sort-of, sort-width, first}
 use Rattle.theory.specs.Depth.{depth}
-use Rattle.theory.specs.Record.{Bytes, AllBytes, little-endian, word, extent, whole, term, read}
+use Rattle.theory.specs.Record.{Bytes, AllBytes, little-endian, word, extent, whole, kind-of, term, read, number-length}
 use Rattle.theory.specs.Plain.{Entry, entry, Plain, term-of, has, put, feed, feed-item}
 use Rattle.theory.specs.Plain as P
 use Rattle.theory.specs.Codes.{all-below, first-fault, well-sorted, room}
@@ -26,23 +26,25 @@ use Rattle.theory.proofs.Bytes.{take-bytes, drop-bytes}
 use Rattle.theory.proofs.Bounds.{depth-step, deepest-le}
 use Rattle.theory.proofs.Basics.{some-inj, foldl-append, getElem-of, T-true}
 use Rattle.theory.proofs.Same.{same-numbers-eq}
-use Rattle.theory.proofs.Bytes.{Sound, says-term}
+use Rattle.theory.proofs.Bytes.{Sound, says-term, term-kind}
 use Rattle.theory.proofs.Sorts.{sized, sorts-sized}
 use Rattle.theory.proofs.Places.{entry-at, tree-at, tree-of, tree-at-old, term-of-is}
 use Rattle.theory.proofs.Run.{AllGood}
 use Rattle.theory.proofs.Distinct.{WellKept}
 use Rattle.theory.proofs.Bounds.{place-depth}
 use Rattle.terms.specs.Framing.{record-at}
-use Rattle.rows.specs.Layout.{missing, number-end, depth-at, width-at}
-use Rattle.rows.specs.Rows.{kept, offsets, depths, widths, place-of}
-use Rattle.table.specs.Slots.{Table}
+use Rattle.rows.specs.Layout.{link-bytes, link-size, measure-at, missing, number-at, number-end}
+use Rattle.rows.specs.Rows.{kept, measures, offsets, place-of}
+use Rattle.table.specs.Buckets.{Table}
 use Rattle.table.specs.Promise.{Grown, room-for, added-for, count-after, list-after, memory-after, with-row}
 use Rattle.table.specs.declared.kept.Added.{Added}
 use Rattle.table.specs.declared.kept.Added.the-variants as A
-use Rattle.table.proofs.Face.{depths-at, widths-at, place-stands, place-absent}
-use Rattle.rows.proofs.RowLaws.{and-first, length-column, length-kept}
+use Rattle.table.proofs.Face.{measures-at, place-stands, place-absent}
+use Rattle.rows.proofs.RowLaws.{and-first, length-column, length-kept, number-same, rows-small}
 use Rattle.terms.specs.declared.Term.{Term as Decoded}
 use Rattle.terms.specs.Decoded.{op-of, arguments-of}
+use Rattle.store.specs.Measure.{measure, measure-in}
+use Rattle.store.proofs.Measuring.{measure-is, measure-small}
 use Rattle.store.specs.Store.{Store, stored, listed, records}
 use Rattle.store.specs.Sorts.{sorts-at, deepest-at}
 use Rattle.intern.specs.Kinds.{Fitting}
@@ -64,6 +66,18 @@ whole-sound job at b w =
     let l : length (take (extent bs) bs) ≡ 2 + word bs = length-take (extent bs) bs ∙ omega arith in
     let z : word (take (extent bs) bs) ≡ word bs = ap little-endian (take-take 2 (extent bs) bs (omega arith)) in
     record { bytes = take-bytes (extent bs) bs (drop-bytes at job b); size = l ∙ ap (λ (n : ℕ). 2 + n) (sym z); long = omega arith }
+
+-- its length and its kind lie in the job
+pub kind-inside : (job : Bytes) (at : ℕ) → whole (drop at job) ≡ true → at + 4 ≤ length job
+kind-inside job at w = let p = whole-parts (drop at job) w in let x = p .low in let y = p .fit in let d = length-drop at job in omega arith
+
+kind-at : (job : Bytes) (at : ℕ) → whole (drop at job) ≡ true → number-at job (at + number-bytes) number-bytes ≡ kind-of (record-at job at)
+kind-at job at w =
+    let p = whole-parts (drop at job) w in
+    let x = p .low in
+    let y = p .fit in
+    sym (number-same 2 (record-at job at) (drop at job) 2 (λ j b. getD-take (extent (drop at job)) (drop at job) (2 + j) 0 (omega arith))
+    ∙ ap (λ (bs : Bytes). little-endian (take 2 bs)) (drop-drop 2 at job))
 
 pub whole-inside : (job : Bytes) (at : ℕ) → whole (drop at job) ≡ true → at + extent (drop at job) ≤ length job
 whole-inside job at w = let p = whole-parts (drop at job) w in let x = p .low in let y = p .fit in let d = length-drop at job in omega arith
@@ -93,7 +107,7 @@ module _ {job work : Bytes} {n : ℕ} (s : Store job work n) (r : Bytes) where
       let q = place-stands r (kept job work n) f in
       let k = q .index in
       let b = q .below in
-      let l : first-terms + k < length list = (let x = length-kept job work n in let y = s .count in omega arith) in
+      let l : first-terms + k < length list = (let x = length-kept (link-size job) job work n in let y = s .count in omega arith) in
       T-true _ (has-at list (first-terms + k) (entry-at list (first-terms + k)) r (getElem-of list (first-terms + k) (entry (node True nil) []) l)
       (sym (records-at list k) ∙ ap (λ (rs : List Bytes). getD rs k []) (s .records-are) ∙ q .equal))
 
@@ -107,17 +121,17 @@ module _ {job work : Bytes} {n : ℕ} (s : Store job work n) (r : Bytes) where
       go zero l g = let z = ap length (sym (bytes-of 0 _ (s .well .is-true) l) ∙ g) in omega arith
       go (suc zero) l g = let z = ap length (sym (bytes-of 1 _ (s .well .is-false) l) ∙ g) in omega arith
       go (suc (suc k)) l g =
-          let x = length-kept job work n in
+          let x = length-kept (link-size job) job work n in
           let y = s .count in
-          let few = s .table .slots .rows .few in
+          let few = rows-small (s .table .rows) in
           let two : first-terms + k ≡ suc (suc k) = omega arith in
           place-absent r (kept job work n) (omega arith) e k (omega arith)
           (ap (λ (rs : List Bytes). getD rs k []) (sym (s .records-are)) ∙ records-at (listed job work n) k ∙ ap (λ (i : ℕ). entry-at (listed job work n) i .bytes) two ∙ g)
 
 -- ---- the store with the same rows
 pub store-same : {job work after : Bytes} {n : ℕ} → Store job work n → Table job after n → kept job after n ≡ kept job work n
-    → depths after n ≡ depths work n → widths after n ≡ widths work n → Store job after n
-store-same {job} {work} {after} {n} s t k d w =
+    → measures (link-size job) after n ≡ measures (link-size job) work n → Store job after n
+store-same {job} {work} {after} {n} s t k m =
     let e : listed job after n ≡ listed job work n = ap stored k in
     record {
       table = t;
@@ -125,8 +139,9 @@ store-same {job} {work} {after} {n} s t k d w =
       sorted = subst AllGood (sym e) (s .sorted);
       count = ap length e ∙ s .count;
       records-are = ap records e ∙ s .records-are ∙ sym k;
-      depths-are = λ i h. sym (depths-at job after n i h) ∙ ap (λ (l : List ℕ). getD l i 0) d ∙ depths-at job work n i h ∙ s .depths-are i h ∙ ap (λ (l : Plain). depth (tree-at l (first-terms + i))) (sym e);
-      widths-are = λ i h. sym (widths-at job after n i h) ∙ ap (λ (l : List ℕ). getD l i 0) w ∙ widths-at job work n i h ∙ s .widths-are i h ∙ ap (λ (l : Plain). sort-width (sort-of (tree-at l (first-terms + i)))) (sym e);
+      measures-are = λ i h.
+          sym (measures-at (link-size job) job after n i h) ∙ ap (λ (l : List ℕ). getD l i 0) m ∙ measures-at (link-size job) job work n i h ∙ s .measures-are i h
+          ∙ ap (λ (l : Plain). measure (tree-at l (first-terms + i))) (sym e);
     }
 
 -- ---- one more entry
@@ -134,13 +149,9 @@ records-snoc : (list : Plain) (e : Entry) → first-terms ≤ length list → re
 records-snoc list e h =
     ap (map (λ (x : Entry). x .bytes)) (drop-append-le first-terms list (e ∷ []) h) ∙ map-append (λ (x : Entry). x .bytes) (drop first-terms list) (e ∷ [])
 
-depths-length : (work : Bytes) (n : ℕ) → length (depths work n) ≡ n
-unfolding depths
-depths-length work n = length-column (depth-at work) n
-
-widths-length : (work : Bytes) (n : ℕ) → length (widths work n) ≡ n
-unfolding widths
-widths-length work n = length-column (width-at work) n
+measures-length : (l : ℕ) (work : Bytes) (n : ℕ) → length (measures l work n) ≡ n
+unfolding measures
+measures-length l work n = length-column (measure-at l work) n
 
 -- an element of a column with one more
 column-snoc : (f g : ℕ → ℕ) (n x : ℕ) (l : List ℕ) → length l ≡ n → ((k : ℕ) → k < n → getD l k 0 ≡ g k) → ((k : ℕ) → k < n + 1 → getD (l ++ (x ∷ [])) k 0 ≡ f k)
@@ -193,24 +204,21 @@ module _ {job work : Bytes} {n : ℕ} (s : Store job work n) (r : Bytes) (o : Op
           go (no e) = same i (omega arith) ∙ old i (omega arith) ∙ ap h (tree-old i (omega arith))
 
     pub store-snoc : Sound r → T (good (sort-of (tree-of (listed job work n) o ks))) → Table job after (n + 1)
-        → depths after (n + 1) ≡ depths work n ++ (depth (tree-of (listed job work n) o ks) ∷ [])
-        → widths after (n + 1) ≡ widths work n ++ (sort-width (sort-of (tree-of (listed job work n) o ks)) ∷ []) → Store job after (n + 1)
-    store-snoc sound sorted t d w =
+        → measures (link-size job) after (n + 1) ≡ measures (link-size job) work n ++ (measure (tree-of (listed job work n) o ks) ∷ []) → Store job after (n + 1)
+    store-snoc sound sorted t m =
         let list = listed job work n in
         let e = entry (tree-of list o ks) r in
         let c = s .count in
-        let dd = column-snoc (depth-at after) (depth-at work) n _ (depths work n) (depths-length work n) (λ i l. depths-at job work n i l)
-        (λ i l. ap (λ (x : List ℕ). getD x i 0) (sym d) ∙ depths-at job after (n + 1) i l) in
-        let ww = column-snoc (width-at after) (width-at work) n _ (widths work n) (widths-length work n) (λ i l. widths-at job work n i l)
-        (λ i l. ap (λ (x : List ℕ). getD x i 0) (sym w) ∙ widths-at job after (n + 1) i l) in
+        let l = link-size job in
+        let mm = column-snoc (measure-at l after) (measure-at l work) n _ (measures l work n) (measures-length l work n) (λ i h. measures-at l job work n i h)
+        (λ i h. ap (λ (x : List ℕ). getD x i 0) (sym m) ∙ measures-at l job after (n + 1) i h) in
         record {
           table = t;
           well = subst WellKept (sym snoc-listed) (snoc-well list r o ks (s .well) sound says below (λ z. subst T new z));
           sorted = subst AllGood (sym snoc-listed) (good-snoc list e (s .sorted) sorted);
           count = ap length snoc-listed ∙ length-append list (e ∷ []) ∙ omega arith;
           records-are = ap records snoc-listed ∙ records-snoc list e (omega arith) ∙ ap (λ (rs : List Bytes). rs ++ (r ∷ [])) (s .records-are) ∙ sym k;
-          depths-are = numbers-snoc (depth-at after) (depth-at work) depth (dd .0) (dd .1) (s .depths-are);
-          widths-are = numbers-snoc (width-at after) (width-at work) (λ (x : Term). sort-width (sort-of x)) (ww .0) (ww .1) (s .widths-are);
+          measures-are = numbers-snoc (measure-at l after) (measure-at l work) measure (mm .0) (mm .1) (s .measures-are);
         }
 
 -- ---- depths and widths fit into a row
@@ -220,28 +228,28 @@ width-step bool h = omega arith
 width-step (bv n) h = leb→le n 64 (and-r (leb 1 n) _ h)
 
 -- ---- what adding a row says
-module _ (limit : ℕ) (x : Bytes) (rows : List Bytes) (len : ℕ) where
-  pub found-means : {p : ℕ} → A.Found p ≡ added-for limit x rows len → place-of x rows ≡ missing → ⊥
+module _ (nb limit : ℕ) (x : Bytes) (rows : List Bytes) (len : ℕ) where
+  pub found-means : {p : ℕ} → A.Found p ≡ added-for nb limit x rows len → place-of x rows ≡ missing → ⊥
   unfolding added-for
-  found-means {p} e = go (eqb (place-of x rows) missing) (room-for limit (length rows) len) (eqb-false (place-of x rows) missing) e
+  found-means {p} e = go (eqb (place-of x rows) missing) (room-for nb limit (length rows) len) (eqb-false (place-of x rows) missing) e
     where
       go : (b c : Bool) → (b ≡ false → place-of x rows ≡ missing → ⊥) → A.Found p ≡ cond b (cond c (A.New (first-terms + length rows)) A.Spent) (A.Found (place-of x rows)) → place-of x rows ≡ missing → ⊥
       go true true f d = absurd (let z : _≡_ {A = ℕ} 0 1 = cc in omega arith)
       go true false f d = absurd (let z : _≡_ {A = ℕ} 0 1 = cc in omega arith)
       go false c f d = f refl
 
-  pub new-means : {p : ℕ} → A.New p ≡ added-for limit x rows len → (place-of x rows ≡ missing) × (room-for limit (length rows) len ≡ true)
+  pub new-means : {p : ℕ} → A.New p ≡ added-for nb limit x rows len → (place-of x rows ≡ missing) × (room-for nb limit (length rows) len ≡ true)
   unfolding added-for
-  new-means {p} e = go (eqb (place-of x rows) missing) (room-for limit (length rows) len) (eqb-true (place-of x rows) missing) e
+  new-means {p} e = go (eqb (place-of x rows) missing) (room-for nb limit (length rows) len) (eqb-true (place-of x rows) missing) e
     where
       go : (b c : Bool) → (b ≡ true → place-of x rows ≡ missing) → A.New p ≡ cond b (cond c (A.New (first-terms + length rows)) A.Spent) (A.Found (place-of x rows)) → (place-of x rows ≡ missing) × (c ≡ true)
       go true true f d = (f refl, refl)
       go true false f d = absurd (let z : _≡_ {A = ℕ} 0 1 = cc in omega arith)
       go false c f d = absurd (let z : _≡_ {A = ℕ} 0 1 = cc in omega arith)
 
-  pub spent-means : A.Spent ≡ added-for limit x rows len → (place-of x rows ≡ missing) × (room-for limit (length rows) len ≡ false)
+  pub spent-means : A.Spent ≡ added-for nb limit x rows len → (place-of x rows ≡ missing) × (room-for nb limit (length rows) len ≡ false)
   unfolding added-for
-  spent-means e = go (eqb (place-of x rows) missing) (room-for limit (length rows) len) (eqb-true (place-of x rows) missing) e
+  spent-means e = go (eqb (place-of x rows) missing) (room-for nb limit (length rows) len) (eqb-true (place-of x rows) missing) e
     where
       go : (b c : Bool) → (b ≡ true → place-of x rows ≡ missing) → A.Spent ≡ cond b (cond c (A.New (first-terms + length rows)) A.Spent) (A.Found (place-of x rows)) → (place-of x rows ≡ missing) × (c ≡ false)
       go true true f d = absurd (let z : _≡_ {A = ℕ} 0 1 = cc in omega arith)
@@ -281,11 +289,12 @@ module _ (limits : Limits) {job work : Bytes} {n at : ℕ} {t : Decoded} (o : Of
   all-low : T (all-below (length (listed job work n)) (arguments-of job t))
   all-low = subst T (sym (ap (λ (m : ℕ). all-below m (arguments-of job t)) (o .arguments .store .count) ∙ o .arguments .below)) tt
 
-  pub depth-small : {d : ℕ} → d ≡ depth (tree-of (listed job work n) (op-of t) (arguments-of job t)) → d < number-end
+  depth-small : {d : ℕ} → d ≡ depth (tree-of (listed job work n) (op-of t) (arguments-of job t)) → d < number-end
+  unfolding link-bytes
   depth-small e =
       let s = o .arguments .store in
       let c = s .count in
-      let few = s .table .slots .rows .few in
+      let few = s .table .rows .few in
       let l : first-terms + n ≡ suc (n + 1) = omega arith in
       let b = deepest-le (listed job work n) (n + 1) (λ k h. place-depth (listed job work n) (s .well) (suc k) k (omega arith) (omega arith)) (arguments-of job t)
       (subst (λ (m : ℕ). T (all-below m (arguments-of job t))) (c ∙ l) all-low) in
@@ -296,8 +305,22 @@ module _ (limits : Limits) {job work : Bytes} {n at : ℕ} {t : Decoded} (o : Of
   width-within : {s : Sort} → s ≡ sort-of (tree-of (listed job work n) (op-of t) (arguments-of job t)) → sort-width s ≤ max-width
   width-within {s} e = width-step s (subst (λ (x : Sort). T (sized x)) (sym e) (sorts-sized (tree-of (listed job work n) (op-of t) (arguments-of job t))))
 
-  pub width-small : {s : Sort} → s ≡ sort-of (tree-of (listed job work n) (op-of t) (arguments-of job t)) → {w : ℕ} → w ≡ sort-width s → w < 256
+  width-small : {s : Sort} → s ≡ sort-of (tree-of (listed job work n) (op-of t) (arguments-of job t)) → {w : ℕ} → w ≡ sort-width s → w < 256
   width-small e f = let q = width-within e in omega arith
+
+  -- the kind that stands in the record
+  kind-is : {k : ℕ} → k ≡ number-at job (at + number-bytes) number-bytes → k ≡ kind (op-of t)
+  kind-is f = f ∙ kind-at job at (o .stands) ∙ term-kind (record-at job at) (op-of t) (arguments-of job t) says-it
+
+  -- the measure that the code computes is the term's, and fits into a row
+  pub measured : {k d w m : ℕ} {s : Sort} → k ≡ number-at job (at + number-bytes) number-bytes → d ≡ depth (tree-of (listed job work n) (op-of t) (arguments-of job t)) → w ≡ sort-width s
+      → s ≡ sort-of (tree-of (listed job work n) (op-of t) (arguments-of job t)) → m ≡ measure-in k d w → m ≡ measure (tree-of (listed job work n) (op-of t) (arguments-of job t))
+  measured {k} {d} {w} {m} {s} a b c e f = f ∙ rw (kind-is a, b, c, e) (measure-is (op-of t) (from-list (map (tree-at (listed job work n)) (arguments-of job t))))
+
+  pub measure-fits : (k : ℕ) {d w m : ℕ} {s : Sort} → d ≡ depth (tree-of (listed job work n) (op-of t) (arguments-of job t)) → w ≡ sort-width s
+      → s ≡ sort-of (tree-of (listed job work n) (op-of t) (arguments-of job t)) → m ≡ measure-in k d w → m < 256 ^ link-size job
+  unfolding link-bytes
+  measure-fits k {d} {w} {m} {s} b c e f = let q = measure-small k d w number-end (depth-small b) (omega (arith, width-small e c)) in omega arith
 
   sorted-is : {s : Sort} → s ≡ sort-of (tree-of (listed job work n) (op-of t) (arguments-of job t))
       → well-sorted (capped limits) (term-of (listed job work n) (op-of t) (arguments-of job t)) ≡ fits limits s
@@ -305,12 +328,12 @@ module _ (limits : Limits) {job work : Bytes} {n at : ℕ} {t : Decoded} (o : Of
       ap (well-sorted (capped limits)) (term-of-is (listed job work n) (op-of t) (arguments-of job t) all-low) ∙ ap (fits (capped limits)) (sym e)
       ∙ ap (λ (b : Bool). good s && b) (capped-width (sort-width s) (limits .width) (width-within e))
 
-  room-is : room (capped limits) (length work) (listed job work n) ≡ room-for (limits .terms) n (length work)
+  room-is : room (capped limits) (length work) (listed job work n) ≡ room-for (number-length job) (limits .terms) n (length work)
   unfolding room-for
   room-is =
       let c = o .arguments .store .count in
       let a : suc (length (listed job work n)) - first-terms ≡ suc n = omega arith in
-      ap₂ (λ (x y : ℕ). leb (term-bytes * x) (length work) && ltb y (capped limits .terms)) a c
+      ap₂ (λ (x y : ℕ). leb (term-bytes number-bytes * x) (length work) && ltb y (capped limits .terms)) a c
 
   -- the answer and its code
   decided : {sorted there roomy : Bool} → well-sorted (capped limits) (term-of (listed job work n) (op-of t) (arguments-of job t)) ≡ sorted
@@ -322,7 +345,7 @@ module _ (limits : Limits) {job work : Bytes} {n at : ℕ} {t : Decoded} (o : Of
       → answer ≡ answer-for (well-sorted (capped limits) (term-of (listed job work n) (op-of t) (arguments-of job t))) (has (listed job work n) (record-at job at)) (room (capped limits) (length work) (listed job work n)) n
       → after ≡ bytes-after answer work (with-term job work n at (tree-of (listed job work n) (op-of t) (arguments-of job t)))
       → Store job after (rows-after answer n) → listed job after (rows-after answer n) ≡ list-after-of answer (listed job work n) (record-at job at)
-      → offsets after (rows-after answer n) ≡ offsets-after answer at (offsets work n) → Taken limits job work after n at t answer
+      → offsets (link-size job) after (rows-after answer n) ≡ offsets-after answer at (offsets (link-size job) work n) → Taken limits job work after n at t answer
   taken {answer} e m s l f = record { answer-is = e; code-is = ap code-of e ∙ code-law _ _ _ n; memory-is = m; store = s; listed-is = l; offsets-are = f }
 
   -- it has no sort, or is too wide
@@ -330,24 +353,24 @@ module _ (limits : Limits) {job work : Bytes} {n at : ℕ} {t : Decoded} (o : Of
   unfolding answer-for
   taken-unsorted {s} e f = taken (decided (sorted-is e ∙ f) refl refl) refl (o .arguments .store) refl refl
 
-  module _ {after : Bytes} {d w : ℕ} {s : Sort} (bytes : AllBytes job) (e : s ≡ sort-of (tree-of (listed job work n) (op-of t) (arguments-of job t))) (f : fits limits s ≡ true)
-      (de : d ≡ depth (tree-of (listed job work n) (op-of t) (arguments-of job t))) (we : w ≡ sort-width s) {a : Added} (g : Grown job work after n (limits .terms) at d w a) where
+  module _ {after : Bytes} {m : ℕ} {s : Sort} (bytes : AllBytes job) (e : s ≡ sort-of (tree-of (listed job work n) (op-of t) (arguments-of job t))) (f : fits limits s ≡ true)
+      (me : m ≡ measure (tree-of (listed job work n) (op-of t) (arguments-of job t))) {a : Added} (g : Grown (number-length job) job work after n (limits .terms) at m a) where
     sorted-true : well-sorted (capped limits) (term-of (listed job work n) (op-of t) (arguments-of job t)) ≡ true
     sorted-true = sorted-is e ∙ f
 
     sound-it : Sound (record-at job at)
     sound-it = whole-sound job at bytes (o .stands)
 
-    grown-as : (b : Added) → a ≡ b → Grown job work after n (limits .terms) at d w b
-    grown-as b q = subst (Grown job work after n (limits .terms) at d w) q g
+    grown-as : (b : Added) → a ≡ b → Grown (number-length job) job work after n (limits .terms) at m b
+    grown-as b q = subst (Grown (number-length job) job work after n (limits .terms) at m) q g
 
     pub taken-found : {p : ℕ} → a ≡ A.Found p → Taken limits job work after n at t (I.Found n)
     unfolding count-after list-after memory-after answer-for
     taken-found {p} q =
         let h = grown-as (A.Found p) q in
         let s = o .arguments .store in
-        let there = found-there s (record-at job at) (found-means (limits .terms) (record-at job at) (kept job work n) (length work) (h .answer-is)) in
-        taken (decided sorted-true there refl) (h .memory-is) (store-same s (h .table) (h .kept-is) (h .depths-are) (h .widths-are))
+        let there = found-there s (record-at job at) (found-means (number-length job) (limits .terms) (record-at job at) (kept job work n) (length work) (h .answer-is)) in
+        taken (decided sorted-true there refl) (h .memory-is) (store-same s (h .table) (h .kept-is) (h .measures-are))
         (ap stored (h .kept-is) ∙ fed-old s (record-at job at) (op-of t) (arguments-of job t) says-it all-low there) (h .offsets-are)
 
     pub taken-spent : a ≡ A.Spent → Taken limits job work after n at t I.Spent
@@ -355,21 +378,20 @@ module _ (limits : Limits) {job work : Bytes} {n at : ℕ} {t : Decoded} (o : Of
     taken-spent q =
         let h = grown-as A.Spent q in
         let s = o .arguments .store in
-        let m = spent-means (limits .terms) (record-at job at) (kept job work n) (length work) (h .answer-is) in
-        let there = missing-there s (record-at job at) (sound-it .long) (m .0) in
-        let none-left : room (capped limits) (length work) (listed job work n) ≡ false = room-is ∙ ap (λ (k : ℕ). room-for (limits .terms) k (length work)) (sym (length-kept job work n)) ∙ m .1 in
-        taken (decided sorted-true there none-left) (h .memory-is) (store-same s (h .table) (h .kept-is) (h .depths-are) (h .widths-are)) (ap stored (h .kept-is)) (h .offsets-are)
+        let w = spent-means (number-length job) (limits .terms) (record-at job at) (kept job work n) (length work) (h .answer-is) in
+        let there = missing-there s (record-at job at) (sound-it .long) (w .0) in
+        let none-left : room (capped limits) (length work) (listed job work n) ≡ false = room-is ∙ ap (λ (k : ℕ). room-for (number-length job) (limits .terms) k (length work)) (sym (length-kept (link-size job) job work n)) ∙ w .1 in
+        taken (decided sorted-true there none-left) (h .memory-is) (store-same s (h .table) (h .kept-is) (h .measures-are)) (ap stored (h .kept-is)) (h .offsets-are)
 
     pub taken-new : {p : ℕ} → a ≡ A.New p → Taken limits job work after n at t (I.New (n + 1))
     unfolding count-after list-after memory-after answer-for with-term
     taken-new {p} q =
         let h = grown-as (A.New p) q in
         let st = o .arguments .store in
-        let m = new-means (limits .terms) (record-at job at) (kept job work n) (length work) (h .answer-is) in
-        let there = missing-there st (record-at job at) (sound-it .long) (m .0) in
-        let some-left : room (capped limits) (length work) (listed job work n) ≡ true = room-is ∙ ap (λ (k : ℕ). room-for (limits .terms) k (length work)) (sym (length-kept job work n)) ∙ m .1 in
-        let ds = h .depths-are ∙ ap (λ (x : ℕ). depths work n ++ (x ∷ [])) de in
-        let ws = h .widths-are ∙ ap (λ (x : ℕ). widths work n ++ (x ∷ [])) (we ∙ ap sort-width e) in
-        taken (decided sorted-true there some-left) (h .memory-is ∙ ap₂ (with-row job work n at) de (we ∙ ap sort-width e))
-        (store-snoc st (record-at job at) (op-of t) (arguments-of job t) says-it all-low after there (h .kept-is) sound-it (subst (λ (x : Sort). T (good x)) e (subst T (sym (and-first (good s) _ f)) tt)) (h .table) ds ws)
+        let w = new-means (number-length job) (limits .terms) (record-at job at) (kept job work n) (length work) (h .answer-is) in
+        let there = missing-there st (record-at job at) (sound-it .long) (w .0) in
+        let some-left : room (capped limits) (length work) (listed job work n) ≡ true = room-is ∙ ap (λ (k : ℕ). room-for (number-length job) (limits .terms) k (length work)) (sym (length-kept (link-size job) job work n)) ∙ w .1 in
+        let ms = h .measures-are ∙ ap (λ (x : ℕ). measures (link-size job) work n ++ (x ∷ [])) me in
+        taken (decided sorted-true there some-left) (h .memory-is ∙ ap (with-row (number-length job) job work n at) me)
+        (store-snoc st (record-at job at) (op-of t) (arguments-of job t) says-it all-low after there (h .kept-is) sound-it (subst (λ (x : Sort). T (good x)) e (subst T (sym (and-first (good s) _ f)) tt)) (h .table) ms)
         (snoc-fed st (record-at job at) (op-of t) (arguments-of job t) says-it all-low after there (h .kept-is)) (h .offsets-are)

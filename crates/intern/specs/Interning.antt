@@ -3,12 +3,10 @@ use mathlib.Core.Path.{_≡_}
 use mathlib.Core.Bool.{Bool, true, _||_, cond}
 use mathlib.Core.List.{List, [], _∷_, _++_}
 use Prim.Native.Nat.{ℕ, _+_, _-_}
-use lib.ListN.{length, take, drop, replicate}
+use lib.ListN.{length, take, drop}
 use Rattle.theory.specs.Limit.{Limits, stated, capped, first-terms}
 use Rattle.theory.specs.Term as T
-use Rattle.theory.specs.Sort.{sort-of, sort-width}
-use Rattle.theory.specs.Depth.{depth}
-use Rattle.theory.specs.Record.{Bytes, whole, read}
+use Rattle.theory.specs.Record.{Bytes, whole, read, number-length}
 use Rattle.theory.specs.Plain.{Plain, term-of, has, feed}
 use Rattle.theory.specs.Plain as P
 use Rattle.theory.specs.Codes.{first-fault, well-sorted, room}
@@ -17,30 +15,32 @@ use Rattle.terms.specs.declared.Term.{Term}
 use Rattle.terms.specs.declared.Item.the-variants as I
 use Rattle.terms.specs.Framing.{record-at}
 use Rattle.terms.specs.Decoded.{op-of, operands-of, arguments-of, item-of}
+use Rattle.rows.specs.Layout.{link-size}
 use Rattle.rows.specs.Rows.{offsets}
-use Rattle.table.specs.Promise.{with-row, dropped-rows}
+use Rattle.table.specs.Promise.{with-row, dropped-rows, cleared}
+use Rattle.store.specs.Measure.{measure}
 use Rattle.store.specs.Store.{Store, listed}
 use Rattle.store.specs.Sorts.{Arguments}
 use Rattle.intern.specs.declared.Limits.{Limits as Given}
 use Rattle.intern.specs.declared.Interned.{Interned}
 use Rattle.intern.specs.declared.Interned.the-variants.{Unsorted, Spent, Found, New}
 
--- the store is empty: `true` and `false` alone, and the work memory is all zero
+-- the store is empty: `true` and `false` alone, and the work memory is cleared
 pub record Started (job work after : Bytes) : Type 0 where
   pub store : Store job after 0
   pub listed-is : listed job after 0 ≡ P.start
-  pub all-zero : after ≡ replicate (length work) 0
+  pub memory-is : after ≡ cleared work
 
--- the work memory without the terms from place `count` on, of n rows: the slots of their rows are free
+-- the work memory without the terms from place `count` on, of n rows
 abbrev pub without-terms : Bytes → Bytes → ℕ → ℕ → Bytes
-without-terms job work n count = dropped-rows job work n (count - first-terms)
+without-terms job work n count = dropped-rows (number-length job) job work n (count - first-terms)
 
 -- of n rows those of the first `count` places are kept
 pub record CutBack (job work after : Bytes) (n count : ℕ) : Type 0 where
   pub memory-is : after ≡ without-terms job work n count
   pub store : Store job after (count - first-terms)
   pub listed-is : listed job after (count - first-terms) ≡ take count (listed job work n)
-  pub offsets-are : offsets after (count - first-terms) ≡ take (count - first-terms) (offsets work n)
+  pub offsets-are : offsets (link-size job) after (count - first-terms) ≡ take (count - first-terms) (offsets (link-size job) work n)
 
 -- ---- taking a term
 -- the limits that a caller gives, as theory has them
@@ -82,9 +82,9 @@ bytes-after Spent work new = work
 bytes-after (Found m) work new = work
 bytes-after (New m) work new = new
 
--- the work memory with t, the term of the record at `at`, in row n: its depth and its width stand in the row, and the table has it
+-- the work memory with t, the term of the record at `at`, in row n: its measure stands in the row, and the table has it
 unfoldable pub with-term : Bytes → Bytes → ℕ → ℕ → T.Term → Bytes
-with-term job work n at t = with-row job work n at (depth t) (sort-width (sort-of t))
+with-term job work n at t = with-row (number-length job) job work n at (measure t)
 
 -- the answer where the term fits or not, its record is there or not, and there is room or not
 unfoldable pub answer-for : Bool → Bool → Bool → ℕ → Interned
@@ -108,4 +108,4 @@ pub record Taken (limits : Limits) (job work after : Bytes) (n at : ℕ) (t : Te
   pub memory-is : after ≡ bytes-after answer work (with-term job work n at (tree-of (listed job work n) (op-of t) (arguments-of job t)))
   pub store : Store job after (rows-after answer n)
   pub listed-is : listed job after (rows-after answer n) ≡ list-after answer (listed job work n) (record-at job at)
-  pub offsets-are : offsets after (rows-after answer n) ≡ offsets-after answer at (offsets work n)
+  pub offsets-are : offsets (link-size job) after (rows-after answer n) ≡ offsets-after answer at (offsets (link-size job) work n)

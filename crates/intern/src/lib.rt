@@ -11,6 +11,8 @@ ghost use Rattle.intern.specs.Interning.{Started, CutBack, limits-of, Of
 use crate::guards::fits_within;
 use crate::kinds::depth_of;
 use crate::kinds::sort_of;
+use rows::bytes::number;
+use store::measures::measure_in;
 use store::sorts::width_of;
 use table::Added;
 use terms::Term;
@@ -30,12 +32,12 @@ pub enum Interned {
     New(usize),
 }
 
-// Empties the work memory: `true` and `false` are the only terms.
+// Empties the work memory, but for its seed: `true` and `false` are the only terms.
 pub fn start(job: &[u8], work: &mut [u8])
     requires { ⌜ length (now job) ≤ max-job ⌝ }
     ensures { λ _. ⌜ Started (now (job .entry)) (now (work .entry)) (now (work .exit)) ⌝ }
 {
-    table::wipe(work);
+    table::clear(work);
 }
 
 // Drops the terms from place `count` on: the first `count` stay, `true` and `false` counted.
@@ -65,7 +67,9 @@ pub fn intern(
     }
     let depth = depth_of(job, work, n, term);
     let width = width_of(s) as usize;
-    let added = table::add(job, work, n, limits.terms as usize, at, depth, width);
+    let kind = number(job, at + Term::NUMBER_BYTES, Term::NUMBER_BYTES);
+    let measure = measure_in(kind, depth, width);
+    let added = table::add(job, work, n, limits.terms as usize, at, measure);
     match added {
         Added::Found(_) => Interned::Found(n),
         Added::New(_) => Interned::New(n + 1),

@@ -7,7 +7,7 @@ ghost use Rattle.theory.specs.Limit.{max-width};
 ghost use Rattle.theory.specs.Verdict.{held};
 ghost use Rattle.theory.specs.Rule.{compare};
 ghost use Rattle.rows.specs.Rows.{kept};
-ghost use Rattle.table.specs.Slots.{Table};
+ghost use Rattle.table.specs.Buckets.{Table};
 ghost use Rattle.store.specs.Numbers.{numbers};
 ghost use Rattle.operand_rules.specs.Rules.{number-in, tree, verdict-of};
 ghost use Rattle.list_rules.specs.Lists.{Alike, Many, circuit, least, folded-bits, expected, arguments};

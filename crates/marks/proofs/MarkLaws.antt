@@ -1,4 +1,4 @@
--- Marks in the bytes of slots: storing one moves no row, and changes no other mark.
+-- Marks in the bytes of links: storing one moves no row, and changes no other mark.
 use mathlib.Core.Path.{_≡_, refl, sym, ap, subst, _∙_}
 use mathlib.Core.Bool.{Bool, true, false, not, _||_}
 use mathlib.Core.List.{List, [], _∷_}
@@ -8,7 +8,7 @@ use lib.Dec.{T, ltb, eqb, ltb→lt}
 use lib.Ieee.Fits.{and-l, and-r}
 use lib.ListN.{length, drop, getD}
 use borrow.Author.Tests.{eqb-true, eqb-false}
-use Rattle.theory.specs.Limit.{first-terms, term-bytes}
+use Rattle.theory.specs.Limit.{first-terms, number-bytes}
 use Rattle.theory.specs.Record.{Bytes}
 use Rattle.theory.specs.Claim.{element}
 use Rattle.theory.specs.Codes.{all-below}
@@ -16,46 +16,47 @@ use Rattle.theory.proofs.Bytes.{words-length}
 use Rattle.terms.specs.declared.Args.{Args}
 use Rattle.terms.specs.declared.Operands.{Operands}
 use Rattle.terms.specs.Decoded.{words-in, numbers-of}
-use Rattle.table.specs.Slots.{slot-at, stored-slot}
-use Rattle.table.proofs.MemoryLaws.{length-slot, slot-here, slot-other, offset-slot, width-slot}
+use Rattle.rows.specs.Layout.{link-at, row-size}
+use Rattle.rows.specs.Rows.{stored-link}
+use Rattle.rows.proofs.RowLaws.{length-linked, link-here, link-other, offset-linked, measure-linked}
 use Rattle.marks.specs.Marks.{mark-of, Room, Rooms, Kept, Cleared, Set, SetAll}
 
 pub kept-self : (work : Bytes) → Kept work work
-kept-self work = record { offset = λ k. refl; width = λ k. refl; length-is = refl }
+kept-self work = record { offset = λ k. refl; measure = λ k. refl; length-is = refl }
 
 pub kept-more : {work after last : Bytes} → Kept work after → Kept after last → Kept work last
-kept-more h g = record { offset = λ k. g .offset k ∙ h .offset k; width = λ k. g .width k ∙ h .width k; length-is = g .length-is ∙ h .length-is }
+kept-more h g = record { offset = λ k. g .offset k ∙ h .offset k; measure = λ k. g .measure k ∙ h .measure k; length-is = g .length-is ∙ h .length-is }
 
-module _ (work : Bytes) (k v : ℕ) (room : k * term-bytes + term-bytes ≤ length work) where
-  pub kept-slot : Kept work (stored-slot work k v)
-  kept-slot = record {
-    offset = offset-slot work k v room;
-    width = width-slot work k v room;
-    length-is = length-slot work k v room;
+module _ (work : Bytes) (k v : ℕ) (room : k * row-size number-bytes + row-size number-bytes ≤ length work) where
+  pub kept-linked : Kept work (stored-link number-bytes work k v)
+  kept-linked = record {
+    offset = offset-linked number-bytes work k v room;
+    measure = measure-linked number-bytes work k v room;
+    length-is = length-linked number-bytes work k v room;
   }
 
-  pub mark-here : v < 65536 → mark-of (stored-slot work k v) (suc (suc k)) ≡ not (eqb v 0)
-  mark-here h = ap (λ (z : ℕ). not (eqb z 0)) (slot-here work k v room h)
+  pub mark-here : v < 65536 → mark-of (stored-link number-bytes work k v) (suc (suc k)) ≡ not (eqb v 0)
+  mark-here h = ap (λ (z : ℕ). not (eqb z 0)) (link-here number-bytes work k v room h)
 
-  pub mark-other : (p : ℕ) → (p ≡ suc (suc k) → ⊥) → mark-of (stored-slot work k v) p ≡ mark-of work p
+  pub mark-other : (p : ℕ) → (p ≡ suc (suc k) → ⊥) → mark-of (stored-link number-bytes work k v) p ≡ mark-of work p
   mark-other zero h = refl
   mark-other (suc zero) h = refl
-  mark-other (suc (suc j)) h = ap (λ (z : ℕ). not (eqb z 0)) (slot-other work k v room j (λ e. h (ap (λ (z : ℕ). suc (suc z)) e)))
+  mark-other (suc (suc j)) h = ap (λ (z : ℕ). not (eqb z 0)) (link-other number-bytes work k v room j (λ e. h (ap (λ (z : ℕ). suc (suc z)) e)))
 
 or-true : (b : Bool) → true ≡ b || true
 or-true true = refl
 or-true false = refl
 
 -- one mark set
-pub set-row : (work : Bytes) (place : ℕ) → first-terms ≤ place → (place - first-terms) * term-bytes + term-bytes ≤ length work → {after : Bytes} → after ≡ stored-slot work (place - first-terms) 1 → Set work place after
+pub set-row : (work : Bytes) (place : ℕ) → first-terms ≤ place → (place - first-terms) * row-size number-bytes + row-size number-bytes ≤ length work → {after : Bytes} → after ≡ stored-link number-bytes work (place - first-terms) 1 → Set work place after
 set-row work place l room {after} e =
-    subst (Set work place) (sym e) (record { kept = kept-slot work (place - first-terms) 1 room; marks-are = λ p. go p (eqb p place) (eqb-true p place) (eqb-false p place) })
+    subst (Set work place) (sym e) (record { kept = kept-linked work (place - first-terms) 1 room; marks-are = λ p. go p (eqb p place) (eqb-true p place) (eqb-false p place) })
   where
     back : suc (suc (place - first-terms)) ≡ place
     back = omega arith
 
-    go : (p : ℕ) (b : Bool) → (b ≡ true → p ≡ place) → (b ≡ false → p ≡ place → ⊥) → mark-of (stored-slot work (place - first-terms) 1) p ≡ b || mark-of work p
-    go p true f g = ap (mark-of (stored-slot work (place - first-terms) 1)) (f refl ∙ sym back) ∙ mark-here work (place - first-terms) 1 room (omega arith)
+    go : (p : ℕ) (b : Bool) → (b ≡ true → p ≡ place) → (b ≡ false → p ≡ place → ⊥) → mark-of (stored-link number-bytes work (place - first-terms) 1) p ≡ b || mark-of work p
+    go p true f g = ap (mark-of (stored-link number-bytes work (place - first-terms) 1)) (f refl ∙ sym back) ∙ mark-here work (place - first-terms) 1 room (omega arith)
     go p false f g = mark-other work (place - first-terms) 1 room p (λ z. g refl (z ∙ back))
 
 -- `true` and `false` are marked anyway
@@ -72,14 +73,14 @@ set-low work place l = record { kept = kept-self work; marks-are = λ p. go p (e
     go p false f = refl
 
 -- ---- the rows of a place
-pub row-room : {work : Bytes} {place : ℕ} → Room work place → first-terms ≤ place → (place - first-terms) * term-bytes + term-bytes ≤ length work
+pub row-room : {work : Bytes} {place : ℕ} → Room work place → first-terms ≤ place → (place - first-terms) * row-size number-bytes + row-size number-bytes ≤ length work
 row-room r l = omega (arith, r .room l)
 
 -- a mark as it is read
-pub mark-read : (work : Bytes) (place : ℕ) → first-terms ≤ place → {v : ℕ} → v ≡ slot-at work (place - first-terms) → not (eqb v 0) ≡ mark-of work place
+pub mark-read : (work : Bytes) (place : ℕ) → first-terms ≤ place → {v : ℕ} → v ≡ link-at number-bytes work (place - first-terms) → not (eqb v 0) ≡ mark-of work place
 mark-read work zero l e = absurd (omega arith)
 mark-read work (suc zero) l e = absurd (omega arith)
-mark-read work (suc (suc k)) l e = ap (λ (z : ℕ). not (eqb z 0)) (e ∙ ap (slot-at work) (let z : suc (suc k) - 2 ≡ k = omega arith in z))
+mark-read work (suc (suc k)) l e = ap (λ (z : ℕ). not (eqb z 0)) (e ∙ ap (link-at number-bytes work) (let z : suc (suc k) - 2 ≡ k = omega arith in z))
 
 pub mark-low : (work : Bytes) (place : ℕ) → place < first-terms → true ≡ mark-of work place
 mark-low work zero l = refl
@@ -96,20 +97,20 @@ pub record Clearing (work : Bytes) (n : ℕ) (now : Bytes) (k : ℕ) : Type 0 wh
 pub clearing-start : (work : Bytes) (n : ℕ) → Clearing work n work 0
 clearing-start work n = record { kept = kept-self work; most = omega arith; clear = λ p a b. absurd (omega arith) }
 
-pub clearing-room : {work : Bytes} {n : ℕ} {now : Bytes} {k : ℕ} → Clearing work n now k → n * term-bytes ≤ length work → k < n → k * term-bytes + term-bytes ≤ length now
+pub clearing-room : {work : Bytes} {n : ℕ} {now : Bytes} {k : ℕ} → Clearing work n now k → n * row-size number-bytes ≤ length work → k < n → k * row-size number-bytes + row-size number-bytes ≤ length now
 clearing-room {k = k} c r l = omega (arith, c .kept .length-is)
 
-pub clearing-turn : {work : Bytes} {n : ℕ} {now : Bytes} {k : ℕ} → Clearing work n now k → n * term-bytes ≤ length work → k < n → {after : Bytes} → after ≡ stored-slot now k 0 → Clearing work n after (k + 1)
+pub clearing-turn : {work : Bytes} {n : ℕ} {now : Bytes} {k : ℕ} → Clearing work n now k → n * row-size number-bytes ≤ length work → k < n → {after : Bytes} → after ≡ stored-link number-bytes now k 0 → Clearing work n after (k + 1)
 clearing-turn {work} {n} {now} {k} c r l {after} e =
     let room = clearing-room c r l in
     subst (λ (z : Bytes). Clearing work n z (k + 1)) (sym e) (record {
-      kept = kept-more (c .kept) (kept-slot now k 0 room);
+      kept = kept-more (c .kept) (kept-linked now k 0 room);
       most = omega arith;
       clear = λ p a b. go p a b (eqb p (suc (suc k))) (eqb-true p (suc (suc k))) (eqb-false p (suc (suc k)));
     })
   where
-    go : (p : ℕ) → first-terms ≤ p → p < first-terms + (k + 1) → (b : Bool) → (b ≡ true → p ≡ suc (suc k)) → (b ≡ false → p ≡ suc (suc k) → ⊥) → mark-of (stored-slot now k 0) p ≡ false
-    go p a b true f g = ap (mark-of (stored-slot now k 0)) (f refl) ∙ mark-here now k 0 (clearing-room c r l) (omega arith)
+    go : (p : ℕ) → first-terms ≤ p → p < first-terms + (k + 1) → (b : Bool) → (b ≡ true → p ≡ suc (suc k)) → (b ≡ false → p ≡ suc (suc k) → ⊥) → mark-of (stored-link number-bytes now k 0) p ≡ false
+    go p a b true f g = ap (mark-of (stored-link number-bytes now k 0)) (f refl) ∙ mark-here now k 0 (clearing-room c r l) (omega arith)
     go p a b false f g = mark-other now k 0 (clearing-room c r l) p (g refl) ∙ c .clear p a (below p b (g refl))
       where
         below : (p : ℕ) → p < first-terms + (k + 1) → (p ≡ suc (suc k) → ⊥) → p < first-terms + k
@@ -159,10 +160,10 @@ room-at [] i h r = absurd (omega arith)
 room-at (k ∷ ks) zero h r = r .0
 room-at (k ∷ ks) (suc i) h r = room-at ks i (omega arith) (r .1)
 
-pub room-in : (work : Bytes) (n : ℕ) → n * term-bytes ≤ length work → (k : ℕ) → k < first-terms + n → Room work k
+pub room-in : (work : Bytes) (n : ℕ) → n * row-size number-bytes ≤ length work → (k : ℕ) → k < first-terms + n → Room work k
 room-in work n h k l = record { room = λ z. omega arith }
 
-pub rooms-in : (work : Bytes) (n : ℕ) → n * term-bytes ≤ length work → (ks : List ℕ) → T (all-below (first-terms + n) ks) → Rooms work ks
+pub rooms-in : (work : Bytes) (n : ℕ) → n * row-size number-bytes ≤ length work → (ks : List ℕ) → T (all-below (first-terms + n) ks) → Rooms work ks
 rooms-in work n h [] b = tt
 rooms-in work n h (k ∷ ks) b = (room-in work n h k (ltb→lt k (first-terms + n) (and-l (ltb k (first-terms + n)) _ b)), rooms-in work n h ks (and-r (ltb k (first-terms + n)) _ b))
 

@@ -8,7 +8,8 @@ use lib.Dec.{T, ltb, eqb, ltb→lt, eqb→eq}
 use lib.Ieee.Fits.{and-l, and-r}
 use lib.ListN.{length}
 use borrow.Author.Tests.{eq-eqb, eqb-true, eqb-false}
-use Rattle.theory.specs.Limit.{first-terms, term-bytes}
+use Rattle.rows.specs.Layout.{row-size, link-bytes}
+use Rattle.theory.specs.Limit.{first-terms, number-bytes}
 use Rattle.theory.specs.Term.{Term, Terms, node, nil, cons, from-list}
 use Rattle.theory.specs.Sort.{sort-of, sort-width}
 use Rattle.theory.specs.Record.{Bytes}
@@ -21,13 +22,14 @@ use Rattle.theory.specs.Listed.{AllGood}
 use Rattle.theory.proofs.Distinct.{WellKept, kept-at, trees-distinct}
 use Rattle.theory.proofs.Distinct as D
 use Rattle.terms.specs.Framing.{record-at}
-use Rattle.rows.specs.Rows.{kept}
+use Rattle.rows.specs.Rows.{kept, kept-as}
 use Rattle.rows.proofs.RowLaws.{column-same}
 use Rattle.store.specs.Store.{stored, listed, records}
 use Rattle.terms.specs.declared.Term.{Term as Decoded}
 use Rattle.terms.specs.declared.Operands.{Operands}
 use Rattle.terms.specs.Decoded.{OperandsPlaced, operands-of, arguments-of, numbers-of}
-use Rattle.shelf.specs.Shelf.{Shelf, item-args, args-at, TermOn}
+use Rattle.store.specs.Measure.{measure}
+use Rattle.store.specs.Shelf.{Shelf, item-args, args-at, TermOn}
 use Rattle.sweeps.specs.Variables.{stands, stands-any}
 use Rattle.sweeps.proofs.Standing.{stands-self, stands-in, stands-first, stands-rest, stands-cases, any-cases}
 use Rattle.sweeps.proofs.Placing.{placed}
@@ -36,27 +38,29 @@ use Rattle.marks.proofs.MarkLaws.{kept-self, kept-more, rooms-in}
 
 -- ---- the same list
 kept-same : (job : Bytes) {work now : Bytes} (n : ℕ) → Kept work now → kept job now n ≡ kept job work n
-unfolding kept
+unfolding kept-as link-bytes
 kept-same job n e = column-same _ _ n (λ k h. ap (record-at job) (e .offset k))
 
 pub listed-same : (job : Bytes) {work now : Bytes} (n : ℕ) → Kept work now → listed job now n ≡ listed job work n
 listed-same job n e = ap stored (kept-same job n e)
 
 pub shelf-kept : {job work now : Bytes} {n : ℕ} → Shelf job work n → Kept work now → Shelf job now n
+unfolding link-bytes
 shelf-kept {job} {work} {now} {n} s e =
     let l = listed-same job n e in
     record {
       rows = record {
+        link-length = s .rows .link-length;
         short = s .rows .short;
         few = s .rows .few;
-        room = subst (λ (z : ℕ). n * term-bytes ≤ z) (sym (e .length-is)) (s .rows .room);
+        room = subst (λ (z : ℕ). n * row-size number-bytes ≤ z) (sym (e .length-is)) (s .rows .room);
         inside = λ k h. rw (e .offset k) (s .rows .inside k h);
       };
       well = subst WellKept (sym l) (s .well);
       sorted = subst AllGood (sym l) (s .sorted);
       count = ap length l ∙ s .count;
       records-are = ap records l ∙ s .records-are ∙ sym (kept-same job n e);
-      widths-are = λ k h. e .width k ∙ s .widths-are k h ∙ ap (λ (list : Plain). sort-width (sort-of (tree-at list (first-terms + k)))) (sym l);
+      measures-are = λ k h. e .measure k ∙ s .measures-are k h ∙ ap (λ (list : Plain). measure (tree-at list (first-terms + k))) (sym l);
     }
 
 -- ---- what stands in a term that stands in another stands in that
@@ -221,6 +225,7 @@ module _ {job work : Bytes} {n asked : ℕ} where
   marking-same {k = k} e m = subst (λ (z : Bytes). Marking job work n asked z k) (sym e) m
 
   pub marking-room : {now : Bytes} {k : ℕ} → Marking job work n asked now k → Room now k
+  unfolding link-bytes
   marking-room {now} {k} m = record { room = λ z. omega (arith, m .shelf .rows .room, m .kept .length-is, m .most, m .low) }
 
   pub marking-shelf : {now : Bytes} {k : ℕ} → Marking job work n asked now k → Shelf job now n × (k < first-terms + n)
@@ -246,6 +251,7 @@ marking-start {job} {work} {n} {asked} s l {mid} {now} c t = record {
 -- ---- one term
 module _ {job work : Bytes} {n place : ℕ} {t : Decoded} {ops : Operands} (h : TermOn job work n place t) (e : ops ≡ operands-of t) where
   pub term-ready : Shelf job work n → place < first-terms + n → OperandsPlaced job ops × Rooms work (numbers-of job ops)
+  unfolding link-bytes
   term-ready s l = (
     subst (OperandsPlaced job) (sym e) (h .term-at .placed),
     subst (λ (o : Operands). Rooms work (numbers-of job o)) (sym e)

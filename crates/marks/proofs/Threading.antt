@@ -1,4 +1,4 @@
--- The marked places, threaded downwards: each slot leads to the next marked place above.
+-- The marked places, threaded downwards: each link leads to the next marked place above.
 use mathlib.Core.Path.{_≡_, refl, sym, ap, subst, _∙_}
 use mathlib.Core.Bool.{Bool, true, false, not, cond}
 use Prim.Native.Nat.{ℕ, zero, suc, _+_, _-_, _*_, _≤_, _<_}
@@ -6,25 +6,26 @@ use native.Mathlib.Omega.{arith}
 use lib.Dec.{T, ltb, eqb}
 use lib.ListN.{length}
 use borrow.Author.Tests.{eq-eqb, ne-eqb, eqb-true, eqb-false, ltb-true, ltb-false}
-use Rattle.theory.specs.Limit.{first-terms, term-bytes}
+use Rattle.theory.specs.Limit.{first-terms, number-bytes}
 use Rattle.theory.specs.Record.{Bytes}
 use Rattle.theory.specs.Places.{tree-at}
 use Rattle.theory.proofs.Basics.{T-true}
-use Rattle.table.specs.Slots.{slot-at, stored-slot}
-use Rattle.table.proofs.MemoryLaws.{slot-here, slot-other}
+use Rattle.rows.specs.Layout.{link-at, row-size, link-bytes}
+use Rattle.rows.specs.Rows.{stored-link}
+use Rattle.rows.proofs.RowLaws.{link-here, link-other}
 use Rattle.store.specs.Store.{listed}
 use Rattle.sweeps.proofs.Standing.{stands-self}
 use Rattle.marks.specs.Marks.{mark-of, Room, Kept, Next, following, Linked, Threadable, Threaded, Reaches, Marks}
-use Rattle.marks.proofs.MarkLaws.{kept-self, kept-more, kept-slot, mark-low}
+use Rattle.marks.proofs.MarkLaws.{kept-self, kept-more, kept-linked, mark-low}
 use Rattle.marks.proofs.Marking.{listed-same, shelf-kept}
 
 -- ---- one link
-pub link-row : (work : Bytes) (place v : ℕ) → first-terms ≤ place → (place - first-terms) * term-bytes + term-bytes ≤ length work → v < 65536 → {after : Bytes}
-    → after ≡ stored-slot work (place - first-terms) v → Linked work place v after
+pub link-row : (work : Bytes) (place v : ℕ) → first-terms ≤ place → (place - first-terms) * row-size number-bytes + row-size number-bytes ≤ length work → v < 65536 → {after : Bytes}
+    → after ≡ stored-link number-bytes work (place - first-terms) v → Linked work place v after
 link-row work place v l room h {after} e = subst (Linked work place v) (sym e) (record {
-  kept = kept-slot work (place - first-terms) v room;
-  here = λ z. slot-here work (place - first-terms) v room h;
-  others = λ i f. slot-other work (place - first-terms) v room i (λ z. f (let y : suc (suc i) ≡ place = omega arith in y));
+  kept = kept-linked work (place - first-terms) v room;
+  here = λ z. link-here number-bytes work (place - first-terms) v room h;
+  others = λ i f. link-other number-bytes work (place - first-terms) v room i (λ z. f (let y : suc (suc i) ≡ place = omega arith in y));
 })
 
 pub link-none : (work : Bytes) (place v : ℕ) → place < first-terms → Linked work place v work
@@ -36,11 +37,11 @@ link-marks s h m zero = refl
 link-marks s h m (suc zero) = refl
 link-marks {work} {place} {v} {after} s h m (suc (suc i)) = go (eqb (suc (suc i)) place) (eqb-true (suc (suc i)) place) (eqb-false (suc (suc i)) place)
   where
-    go : (b : Bool) → (b ≡ true → suc (suc i) ≡ place) → (b ≡ false → suc (suc i) ≡ place → ⊥) → not (eqb (slot-at after i) 0) ≡ not (eqb (slot-at work i) 0)
+    go : (b : Bool) → (b ≡ true → suc (suc i) ≡ place) → (b ≡ false → suc (suc i) ≡ place → ⊥) → not (eqb (link-at number-bytes after i) 0) ≡ not (eqb (link-at number-bytes work i) 0)
     go true f g =
         let e = f refl in
         let k : place - first-terms ≡ i = omega arith in
-        ap (λ (z : ℕ). not (eqb z 0)) (ap (slot-at after) (sym k) ∙ s .here (omega arith)) ∙ ap not (ne-eqb v 0 (λ z. omega arith))
+        ap (λ (z : ℕ). not (eqb z 0)) (ap (link-at number-bytes after) (sym k) ∙ s .here (omega arith)) ∙ ap not (ne-eqb v 0 (λ z. omega arith))
         ∙ sym (T-true _ (subst (λ (z : ℕ). T (mark-of work z)) (sym e) m))
     go false f g = ap (λ (z : ℕ). not (eqb z 0)) (s .others i (g refl))
 
@@ -51,7 +52,7 @@ pub record Threading (work : Bytes) (asked : ℕ) (now : Bytes) (next k : ℕ) :
   pub kept : Kept work now
   pub marks-are : (p : ℕ) → mark-of now p ≡ mark-of work p
   pub next-is : Next work asked k next
-  pub links : (p : ℕ) → k < p → p ≤ asked → first-terms ≤ p → T (mark-of work p) → Next work asked p (slot-at now (p - first-terms))
+  pub links : (p : ℕ) → k < p → p ≤ asked → first-terms ≤ p → T (mark-of work p) → Next work asked p (link-at number-bytes now (p - first-terms))
 
 -- the one after the asked place
 after-all : (work : Bytes) (asked : ℕ) → Next work asked asked (suc asked)
@@ -82,9 +83,9 @@ module _ {work : Bytes} {asked : ℕ} {now : Bytes} {next k : ℕ} (t : Threadin
       higher : (p : ℕ) → k - 1 < p → (p ≡ k → ⊥) → k < p
       higher p a f = omega arith
 
-      go : (p : ℕ) → k - 1 < p → p ≤ asked → first-terms ≤ p → T (mark-of work p) → (c : Bool) → (c ≡ true → p ≡ k) → (c ≡ false → p ≡ k → ⊥) → Next work asked p (slot-at after (p - first-terms))
+      go : (p : ℕ) → k - 1 < p → p ≤ asked → first-terms ≤ p → T (mark-of work p) → (c : Bool) → (c ≡ true → p ≡ k) → (c ≡ false → p ≡ k → ⊥) → Next work asked p (link-at number-bytes after (p - first-terms))
       go p a b l q true f g =
-          subst (λ (z : ℕ). Next work asked z (slot-at after (z - first-terms))) (sym (f refl)) (subst (Next work asked k) (sym (s .here h)) (t .next-is))
+          subst (λ (z : ℕ). Next work asked z (link-at number-bytes after (z - first-terms))) (sym (f refl)) (subst (Next work asked k) (sym (s .here h)) (t .next-is))
       go p a b l q false f g =
           subst (Next work asked p) (sym (s .others (p - first-terms) (λ z. g refl (let y : p ≡ k = omega arith in y)))) (t .links p (higher p a (g refl)) b l q)
 
@@ -111,7 +112,7 @@ module _ {work : Bytes} {asked : ℕ} {now : Bytes} {next k : ℕ} (t : Threadin
       go r a b true f g = ap (mark-of work) (f refl) ∙ m
       go r a b false f g = t .next-is .between r (higher r a (g refl)) b
 
-      links : (p : ℕ) → k - 1 < p → p ≤ asked → first-terms ≤ p → T (mark-of work p) → (c : Bool) → (c ≡ true → p ≡ k) → (c ≡ false → p ≡ k → ⊥) → Next work asked p (slot-at now (p - first-terms))
+      links : (p : ℕ) → k - 1 < p → p ≤ asked → first-terms ≤ p → T (mark-of work p) → (c : Bool) → (c ≡ true → p ≡ k) → (c ≡ false → p ≡ k → ⊥) → Next work asked p (link-at number-bytes now (p - first-terms))
       links p a b l q true f g = absurd (subst T (ap (mark-of work) (f refl) ∙ m) q)
       links p a b l q false f g = t .links p (higher p a (g refl)) b l q
 
@@ -122,7 +123,7 @@ threading-same {work} {asked} {now} {after} {next} {next′} {k} e f t =
 pub threading-room : {work : Bytes} {asked : ℕ} {now : Bytes} {next k : ℕ} → Threading work asked now next k → Room work asked → (p : ℕ) → p ≤ asked → Room now p
 threading-room t r p l = record { room = λ z. let y = r .room (let x : first-terms ≤ _ = omega arith in x) in omega (arith, t .kept .length-is) }
 
--- ---- at the end the asked place's slot leads to the first
+-- ---- at the end the asked place's link leads to the first
 module _ {work : Bytes} {asked : ℕ} {now : Bytes} {next k : ℕ} (t : Threading work asked now next k) (l : k < first-terms) (top : T (mark-of work asked)) {after : Bytes} (s : Linked now asked next after) where
   marks-same : (p : ℕ) → mark-of after p ≡ mark-of work p
   marks-same p = link-marks s (omega (arith, t .next-is .above)) (subst T (sym (t .marks-are asked)) top) p ∙ t .marks-are p
@@ -138,7 +139,7 @@ module _ {work : Bytes} {asked : ℕ} {now : Bytes} {next k : ℕ} (t : Threadin
 
   follow : (p : ℕ) → p ≤ asked → T (mark-of work p) → (a b c : Bool) → eqb p asked ≡ a → (a ≡ true → p ≡ asked) → (a ≡ false → p ≡ asked → ⊥)
       → (b ≡ true → p ≡ 0) → (b ≡ false → p ≡ 0 → ⊥) → (c ≡ true → p ≡ 1) → (c ≡ false → p ≡ 1 → ⊥)
-      → Next work asked p (cond a (suc asked) (cond b 1 (cond c (slot-at after (asked - first-terms)) (slot-at after (p - first-terms)))))
+      → Next work asked p (cond a (suc asked) (cond b 1 (cond c (link-at number-bytes after (asked - first-terms)) (link-at number-bytes after (p - first-terms)))))
   follow p h m true b c z a₁ a₂ b₁ b₂ c₁ c₂ = subst (λ (y : ℕ). Next work asked y (suc asked)) (sym (a₁ refl)) (after-all work asked)
   follow p h m false true c z a₁ a₂ b₁ b₂ c₁ c₂ =
       let e = b₁ refl in
@@ -166,29 +167,29 @@ module _ {work : Bytes} {asked : ℕ} {now : Bytes} {next k : ℕ} (t : Threadin
     threads = λ p h m. moved (follow p h (subst T (marks-same p) m) (eqb p asked) (eqb p 0) (eqb p 1) refl (eqb-true p asked) (eqb-false p asked) (eqb-true p 0) (eqb-false p 0) (eqb-true p 1) (eqb-false p 1));
   }
 
--- ---- where a slot leads
+-- ---- where a link leads
 module _ (work : Bytes) (asked place : ℕ) where
   pub following-last : place ≡ asked → asked + 1 ≡ following work asked place
   unfolding following
-  following-last e = (let z : asked + 1 ≡ suc asked = omega arith in z) ∙ sym (ap (λ (b : Bool). cond b (suc asked) (cond (eqb place 0) 1 (cond (eqb place 1) (slot-at work (asked - first-terms)) (slot-at work (place - first-terms))))) (eq-eqb place asked e))
+  following-last e = (let z : asked + 1 ≡ suc asked = omega arith in z) ∙ sym (ap (λ (b : Bool). cond b (suc asked) (cond (eqb place 0) 1 (cond (eqb place 1) (link-at number-bytes work (asked - first-terms)) (link-at number-bytes work (place - first-terms))))) (eq-eqb place asked e))
 
   module _ (f : place ≡ asked → ⊥) where
-    not-last : following work asked place ≡ cond (eqb place 0) 1 (cond (eqb place 1) (slot-at work (asked - first-terms)) (slot-at work (place - first-terms)))
+    not-last : following work asked place ≡ cond (eqb place 0) 1 (cond (eqb place 1) (link-at number-bytes work (asked - first-terms)) (link-at number-bytes work (place - first-terms)))
     unfolding following
-    not-last = ap (λ (b : Bool). cond b (suc asked) (cond (eqb place 0) 1 (cond (eqb place 1) (slot-at work (asked - first-terms)) (slot-at work (place - first-terms))))) (ne-eqb place asked f)
+    not-last = ap (λ (b : Bool). cond b (suc asked) (cond (eqb place 0) 1 (cond (eqb place 1) (link-at number-bytes work (asked - first-terms)) (link-at number-bytes work (place - first-terms))))) (ne-eqb place asked f)
 
     pub following-true : place ≡ 0 → 1 ≡ following work asked place
-    following-true e = sym (not-last ∙ ap (λ (b : Bool). cond b 1 (cond (eqb place 1) (slot-at work (asked - first-terms)) (slot-at work (place - first-terms)))) (eq-eqb place 0 e))
+    following-true e = sym (not-last ∙ ap (λ (b : Bool). cond b 1 (cond (eqb place 1) (link-at number-bytes work (asked - first-terms)) (link-at number-bytes work (place - first-terms)))) (eq-eqb place 0 e))
 
-    pub following-false : (place ≡ 0 → ⊥) → place ≡ 1 → {r : ℕ} → r ≡ slot-at work (asked - first-terms) → r ≡ following work asked place
+    pub following-false : (place ≡ 0 → ⊥) → place ≡ 1 → {r : ℕ} → r ≡ link-at number-bytes work (asked - first-terms) → r ≡ following work asked place
     following-false g e z =
-        z ∙ sym (not-last ∙ ap (λ (b : Bool). cond b 1 (cond (eqb place 1) (slot-at work (asked - first-terms)) (slot-at work (place - first-terms)))) (ne-eqb place 0 g)
-        ∙ ap (λ (b : Bool). cond b (slot-at work (asked - first-terms)) (slot-at work (place - first-terms))) (eq-eqb place 1 e))
+        z ∙ sym (not-last ∙ ap (λ (b : Bool). cond b 1 (cond (eqb place 1) (link-at number-bytes work (asked - first-terms)) (link-at number-bytes work (place - first-terms)))) (ne-eqb place 0 g)
+        ∙ ap (λ (b : Bool). cond b (link-at number-bytes work (asked - first-terms)) (link-at number-bytes work (place - first-terms))) (eq-eqb place 1 e))
 
-    pub following-row : (place ≡ 0 → ⊥) → (place ≡ 1 → ⊥) → {r : ℕ} → r ≡ slot-at work (place - first-terms) → r ≡ following work asked place
+    pub following-row : (place ≡ 0 → ⊥) → (place ≡ 1 → ⊥) → {r : ℕ} → r ≡ link-at number-bytes work (place - first-terms) → r ≡ following work asked place
     following-row g e z =
-        z ∙ sym (not-last ∙ ap (λ (b : Bool). cond b 1 (cond (eqb place 1) (slot-at work (asked - first-terms)) (slot-at work (place - first-terms)))) (ne-eqb place 0 g)
-        ∙ ap (λ (b : Bool). cond b (slot-at work (asked - first-terms)) (slot-at work (place - first-terms))) (ne-eqb place 1 e))
+        z ∙ sym (not-last ∙ ap (λ (b : Bool). cond b 1 (cond (eqb place 1) (link-at number-bytes work (asked - first-terms)) (link-at number-bytes work (place - first-terms)))) (ne-eqb place 0 g)
+        ∙ ap (λ (b : Bool). cond b (link-at number-bytes work (asked - first-terms)) (link-at number-bytes work (place - first-terms))) (ne-eqb place 1 e))
 
 -- ---- marked and threaded
 module _ {job work : Bytes} {n asked : ℕ} {mid after : Bytes} (m : Reaches job work n asked mid) (t : Threaded mid asked after) where
@@ -204,6 +205,7 @@ module _ {job work : Bytes} {n asked : ℕ} {mid after : Bytes} (m : Reaches job
 
 -- the asked term is marked
 pub marks-ready : {job work : Bytes} {n asked : ℕ} {mid : Bytes} → asked < first-terms + n → Reaches job work n asked mid → Threadable mid asked
+unfolding link-bytes
 marks-ready {job} {work} {n} {asked} {mid} l m = record {
   room = record { room = λ z. omega (arith, m .shelf .rows .room) };
   low = omega (arith, m .shelf .rows .few);

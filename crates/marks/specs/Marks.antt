@@ -5,35 +5,35 @@ use mathlib.Core.List.{List, [], _∷_}
 use Prim.Native.Nat.{ℕ, zero, suc, _+_, _-_, _*_, _≤_, _<_}
 use lib.Dec.{T, eqb}
 use lib.ListN.{length}
-use Rattle.theory.specs.Limit.{first-terms, term-bytes}
+use Rattle.theory.specs.Limit.{first-terms, number-bytes}
 use Rattle.theory.specs.Record.{Bytes}
 use Rattle.theory.specs.Claim.{element}
 use Rattle.theory.specs.Places.{tree-at}
-use Rattle.table.specs.Slots.{slot-at}
-use Rattle.rows.specs.Layout.{offset-at, width-at}
+use Rattle.rows.specs.Layout.{link-at, measure-at, offset-at, row-size}
+use Rattle.rows.specs.Layout.{offset-at, measure-at}
 use Rattle.store.specs.Store.{listed}
-use Rattle.shelf.specs.Shelf.{Shelf, args-at}
+use Rattle.store.specs.Shelf.{Shelf, args-at}
 use Rattle.sweeps.specs.Variables.{stands}
 
 -- the term at a place is marked; `true` and `false` always are
 abbrev pub mark-of : Bytes → ℕ → Bool
 mark-of work zero = true
 mark-of work (suc zero) = true
-mark-of work (suc (suc k)) = not (eqb (slot-at work k) 0)
+mark-of work (suc (suc k)) = not (eqb (link-at number-bytes work k) 0)
 
 -- the row of a place lies in the work memory; `true` and `false` have none
 pub record Room (work : Bytes) (place : ℕ) : Type 0 where
-  pub room : first-terms ≤ place → place * term-bytes ≤ length work + term-bytes
+  pub room : first-terms ≤ place → place * row-size number-bytes ≤ length work + row-size number-bytes
 
 -- the rows of these places do
 abbrev pub Rooms : Bytes → List ℕ → Type 0
 Rooms work [] = Unit {0}
 Rooms work (k ∷ ks) = Room work k × Rooms work ks
 
--- every row has the record and the width that it had
+-- every row has the record and the measure that it had
 pub record Kept (work after : Bytes) : Type 0 where
-  pub offset : (k : ℕ) → offset-at after k ≡ offset-at work k
-  pub width : (k : ℕ) → width-at after k ≡ width-at work k
+  pub offset : (k : ℕ) → offset-at number-bytes after k ≡ offset-at number-bytes work k
+  pub measure : (k : ℕ) → measure-at number-bytes after k ≡ measure-at number-bytes work k
   pub length-is : length after ≡ length work
 
 -- no row of n is marked
@@ -63,23 +63,23 @@ pub record Next (work : Bytes) (asked p q : ℕ) : Type 0 where
   pub between : (r : ℕ) → p < r → r < q → mark-of work r ≡ false
   pub marked : q ≤ asked → T (mark-of work q)
 
--- where the slot of a marked row leads: to the next marked place. `true` and `false` have no slot; the asked place is the last, and its slot leads to
+-- where the link of a marked row leads: to the next marked place. `true` and `false` have no link; the asked place is the last, and its link leads to
 -- the first row that is marked
 unfoldable pub following : Bytes → ℕ → ℕ → ℕ
 following work asked p =
-    cond (eqb p asked) (suc asked) (cond (eqb p 0) 1 (cond (eqb p 1) (slot-at work (asked - first-terms)) (slot-at work (p - first-terms))))
+    cond (eqb p asked) (suc asked) (cond (eqb p 0) 1 (cond (eqb p 1) (link-at number-bytes work (asked - first-terms)) (link-at number-bytes work (p - first-terms))))
 
 -- from each marked place one comes to the next
 abbrev pub Threads : Bytes → ℕ → Type 0
 Threads work asked = (p : ℕ) → p ≤ asked → T (mark-of work p) → Next work asked p (following work asked p)
 
--- the slot of a place holds v, and the others what they held
+-- the link of a place holds v, and the others what they held
 pub record Linked (work : Bytes) (place v : ℕ) (after : Bytes) : Type 0 where
   pub kept : Kept work after
-  pub here : first-terms ≤ place → slot-at after (place - first-terms) ≡ v
-  pub others : (i : ℕ) → (suc (suc i) ≡ place → ⊥) → slot-at after i ≡ slot-at work i
+  pub here : first-terms ≤ place → link-at number-bytes after (place - first-terms) ≡ v
+  pub others : (i : ℕ) → (suc (suc i) ≡ place → ⊥) → link-at number-bytes after i ≡ link-at number-bytes work i
 
--- the asked place is marked, and its number fits into a slot
+-- the asked place is marked, and its number fits into a link
 pub record Threadable (work : Bytes) (asked : ℕ) : Type 0 where
   pub room : Room work asked
   pub low : asked < 65535

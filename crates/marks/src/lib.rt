@@ -1,30 +1,38 @@
-// Marks on the kept terms of a job whose records are all taken: which of them stand in the asked one. A row's mark is in the bytes of a slot of
-// the table, which is not needed any more. Marks are threaded: the slot of a marked row holds the next marked place, so that a pass over the marked
+// Marks on the kept terms of a job whose records are all taken: which of them stand in the asked one. A row's mark is in the bytes of its
+// link, which is not needed any more. Marks are threaded: the link of a marked row holds the next marked place, so that a pass over the marked
 // terms meets no other.
 ghost use mathlib.Core.Path.{_≡_};
 ghost use Prim.Native.Nat.{_+_, _-_, _*_, _≤_, _<_};
 ghost use lib.ListN.{length};
-ghost use Rattle.theory.specs.Limit.{first-terms, term-bytes};
+ghost use Rattle.theory.specs.Limit.{first-terms, number-bytes};
 ghost use Rattle.terms.specs.Decoded.{OperandsPlaced, Inside, words-in, numbers-of};
-ghost use Rattle.shelf.specs.Shelf.{Shelf};
-ghost use Rattle.table.specs.Slots.{slot-at, stored-slot};
+ghost use Rattle.store.specs.Shelf.{Shelf};
+ghost use Rattle.rows.specs.Layout.{link-at, row-size};
+ghost use Rattle.rows.specs.Rows.{stored-link};
 ghost use Rattle.marks.specs.Marks.{mark-of, Room, Rooms, Cleared, Set, SetAll, SetTerm, following, Linked, Threadable, Threaded, Reaches, Marks};
 use rows::FIRST_PLACE;
 use rows::bytes::number;
 use rows::bytes::put_number;
-use rows::layout::ROW_BYTES;
-use rows::layout::SLOT_BYTE;
-use shelf::term_on;
+use rows::layout::OFFSET_BYTES;
+use store::shelf::term_on;
 use terms::Args;
 use terms::Operands;
 use terms::Term;
 
+// The bytes of a row, in a job whose numbers have two; its link stands last.
+const ROW_BYTES: usize = OFFSET_BYTES + 2 * Term::NUMBER_BYTES;
+
 // Stores a mark of row k.
 fn put_mark(work: &mut [u8], k: usize, v: usize)
-    requires { ⌜ k * term-bytes + term-bytes ≤ length (now work) ⌝ }
-    ensures { λ _. ⌜ now (work .exit) ≡ stored-slot (now (work .entry)) k v ⌝ }
+    requires { ⌜ k * row-size number-bytes + row-size number-bytes ≤ length (now work) ⌝ }
+    ensures { λ _. ⌜ now (work .exit) ≡ stored-link number-bytes (now (work .entry)) k v ⌝ }
 {
-    put_number(work, k * ROW_BYTES + SLOT_BYTE, Term::NUMBER_BYTES, v);
+    put_number(
+        work,
+        k * ROW_BYTES + OFFSET_BYTES + Term::NUMBER_BYTES,
+        Term::NUMBER_BYTES,
+        v,
+    );
 }
 
 // Is the term at a place marked? `true` and `false` always are.
@@ -36,7 +44,12 @@ fn is_marked(work: &[u8], place: u32) -> bool
     if p < FIRST_PLACE {
         return true;
     }
-    number(work, (p - FIRST_PLACE) * ROW_BYTES + SLOT_BYTE) != 0
+    number(
+        work,
+        (p - FIRST_PLACE) * ROW_BYTES + OFFSET_BYTES + Term::NUMBER_BYTES,
+        Term::NUMBER_BYTES,
+    )
+        != 0
 }
 
 // Marks the term at a place.
@@ -52,7 +65,7 @@ fn set_mark(work: &mut [u8], place: u32)
 
 // Takes every mark off the first n rows.
 fn clear_marks(work: &mut [u8], n: usize)
-    requires { ⌜ n * term-bytes ≤ length (now work) ⌝ }
+    requires { ⌜ n * row-size number-bytes ≤ length (now work) ⌝ }
     ensures { λ _. ⌜ Cleared (now (work .entry)) n (now (work .exit)) ⌝ }
 {
     let mut k: usize = 0;
@@ -124,7 +137,7 @@ fn mark_down(job: &[u8], work: &mut [u8], n: usize, asked: u32)
     }
 }
 
-// Stores v, a place, in the slot of a place. `true` and `false` have no slot.
+// Stores v, a place, in the link of a place. `true` and `false` have none.
 fn link(work: &mut [u8], place: u32, v: u32)
     requires { ⌜ Room (now work) place × (v < 65536) ⌝ }
     ensures { λ _. ⌜ Linked (now (work .entry)) place v (now (work .exit)) ⌝ }
@@ -135,7 +148,7 @@ fn link(work: &mut [u8], place: u32, v: u32)
     }
 }
 
-// Threads the marked places, downwards from the asked one. The slot of that one leads to the lowest.
+// Threads the marked places, downwards from the asked one. The link of that one leads to the lowest.
 fn thread(work: &mut [u8], asked: u32)
     requires { ⌜ Threadable (now work) asked ⌝ }
     ensures { λ _. ⌜ Threaded (now (work .entry)) asked (now (work .exit)) ⌝ }
@@ -152,12 +165,16 @@ fn thread(work: &mut [u8], asked: u32)
     link(work, asked, next);
 }
 
-// The number in the slot of a row's place.
-fn slot(work: &[u8], place: u32) -> u32
+// The number in the link of a row's place.
+fn linked(work: &[u8], place: u32) -> u32
     requires { ⌜ (first-terms ≤ place) × Room (now work) place ⌝ }
-    ensures { λ r. ⌜ r ≡ slot-at (now (work .entry)) (place - first-terms) ⌝ }
+    ensures { λ r. ⌜ r ≡ link-at number-bytes (now (work .entry)) (place - first-terms) ⌝ }
 {
-    number(work, (place as usize - FIRST_PLACE) * ROW_BYTES + SLOT_BYTE) as u32
+    number(
+        work,
+        (place as usize - FIRST_PLACE) * ROW_BYTES + OFFSET_BYTES + Term::NUMBER_BYTES,
+        Term::NUMBER_BYTES,
+    ) as u32
 }
 
 // The next marked place after a marked one, up to the asked one.
@@ -172,9 +189,9 @@ pub fn next_marked(work: &[u8], asked: u32, place: u32) -> u32
         return 1;
     }
     if place == 1 {
-        return slot(work, asked);
+        return linked(work, asked);
     }
-    slot(work, place)
+    linked(work, place)
 }
 
 // Marks the terms that stand in the asked one, and no others, and threads them.

@@ -31,6 +31,7 @@ use Rattle.terms.specs.declared.Term.the-variants as D
 use Rattle.terms.specs.Decoded.{op-of, arguments-of, words-in}
 use Rattle.rows.specs.Rows.{kept}
 use Rattle.store.specs.Numbers.{numbers, bit-number, bb-number, is-false-number}
+use Rattle.rows.specs.Layout.{link-bytes}
 use Rattle.store.specs.Store.{Store, listed}
 use Rattle.store.specs.Terms.{TermAt}
 use Rattle.store.proofs.Lookup.{number-hom, number-exact, bb-hom}
@@ -72,7 +73,8 @@ bb-width us w e =
 
 module _ {job work : Bytes} {n : ℕ} where
   pub few : Store job work n → length (listed job work n) ≤ max-terms
-  few s = let c = s .count in let f = s .table .slots .rows .few in omega arith
+  unfolding link-bytes
+  few s = let c = s .count in let f = s .table .rows .few in omega arith
 
   pub there : Store job work n → {x : ℕ} → x < first-terms + n → x < length (listed job work n)
   there s h = let c = s .count in omega arith

@@ -10,7 +10,7 @@ ghost use Rattle.theory.specs.Bits.{get-term-bits};
 ghost use Rattle.theory.specs.Verdict.{held, form-only, terms-differ};
 ghost use Rattle.terms.specs.Decoded.{Inside, words-in};
 ghost use Rattle.rows.specs.Rows.{kept};
-ghost use Rattle.table.specs.Slots.{Table};
+ghost use Rattle.table.specs.Buckets.{Table};
 ghost use Rattle.store.specs.Numbers.{bb-number};
 ghost use Rattle.operand_rules.specs.Rules.{Operand, width-in, number-in, tree, verdict-of};
 use crate::Verdict;

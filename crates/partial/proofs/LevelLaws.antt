@@ -18,8 +18,8 @@ use Rattle.theory.proofs.Distinct.{tree-0, tree-1}
 use Rattle.theory.specs.Places.{tree-at}
 use Rattle.terms.specs.declared.Term.the-variants as D
 use Rattle.store.specs.Store.{listed}
-use Rattle.shelf.specs.Shelf.{args-at}
-use Rattle.shelf.proofs.Keeping.{first-args}
+use Rattle.store.specs.Shelf.{args-at}
+use Rattle.store.proofs.Keeping.{first-args}
 use Rattle.marks.proofs.Marking.{arg-below, arg-stands, stands-trans}
 use Rattle.sweeps.specs.Variables.{stands, stands-any}
 use Rattle.sweeps.specs.Known.{bit-level, all-bit-level}

@@ -3,7 +3,7 @@ ghost use Rattle.store.specs.Store.{listed};
 ghost use Rattle.partial.specs.Passing.{Ready, Passed};
 use evaluation::cells::put_cell;
 use marks::next_marked;
-use shelf::width_on;
+use store::shelf::width_on;
 use ternary::known::known_of;
 
 // Stores the bits of the marked Bools up to the asked term in their cells; the variables' cells say where their bits

@@ -7,7 +7,7 @@ use Prim.Native.Nat.{ℕ, zero, suc, _+_, _-_, _<_, _≤_}
 use native.Mathlib.Omega.{arith}
 use lib.ListN.{length, take, drop}
 use borrow.Author.Tests.{le-leb, lt-leb}
-use Rattle.theory.specs.Limit.{Limits, capped, first-terms}
+use Rattle.theory.specs.Limit.{Limits, capped, first-terms, max-terms}
 use Rattle.theory.specs.Term as T
 use Rattle.theory.specs.Optional.{is-some, collect}
 use Rattle.theory.specs.Verdict.{held, wrong-form, accepted}
@@ -41,10 +41,16 @@ use Rattle.records.specs.declared.Turn.{Turn}
 use Rattle.steps.specs.Answering.{given, equation-depth, with-notes, Literals, Judged}
 use Rattle.steps.proofs.Equations.{accepted-depth}
 use Rattle.steps.proofs.Judging.{judged-is}
+use Rattle.rows.specs.Layout.{link-bytes, link-size}
 use Rattle.chains.specs.Premises.{earlier-in, origins, Noted, Claimed}
 use Rattle.records.specs.Turning.{passed, turn, repeats-in, Reading, answers-at, origins-at, memory-item, memory-at, Turned}
 use Rattle.steps.proofs.Writing.{none-written}
 use Rattle.theory.proofs.Basics.{T-true}
+
+-- the terms are no more than the rack's
+pub few-terms : {job work : Bytes} {rows : ℕ} → Store job work rows → rows + first-terms ≤ max-terms
+unfolding link-bytes
+few-terms s = let f = s .table .rows .few in omega arith
 
 -- a record that was read as an item
 pub reading : {job work : Bytes} {rows at : ℕ} {item k : Item} → Store job work rows → whole (drop at job) ≡ true → item-of job item ≡ read (record-at job at)
@@ -74,9 +80,9 @@ module _ {job work : Bytes} {rows at : ℕ} {item : Item} (g : Reading job work 
   unfolding answers-to
   answers-are = ap (item-answers (earlier-in job work answers rows answered) list) (g .says)
 
-  -- so are the origins after it
-  origins-are : origins-item (origins work rows) list at r (item-of job item) ≡ origins-at job work rows at
-  origins-are = ap (origins-item (origins work rows) list at r) (g .says)
+  -- so are the origins job after it
+  origins-are : origins-item (origins job work rows) list at r (item-of job item) ≡ origins-at job work rows at
+  origins-are = ap (origins-item (origins job work rows) list at r) (g .says)
 
   -- so is the work memory after it
   memory-same : memory-item job work rows at (item-of job item) ≡ memory-at job work rows at
@@ -94,7 +100,7 @@ module _ (limits : Limits) {job work : Bytes} {rows at : ℕ} {item : Item} (g :
 
   -- a turn that writes no answer
   unanswered : {after : Bytes} {c n m : ℕ} → c ≡ code → after ≡ passed c (memory-at job work rows at) work → Store job after n → listed job after n ≡ passed c (feed (listed job work rows) (record-at job at)) (listed job work rows)
-      → origins after n ≡ passed c (origins-at job work rows at) (origins work rows) → passed c (answers-at job work answers rows answered at) [] ≡ []
+      → origins job after n ≡ passed c (origins-at job work rows at) (origins job work rows) → passed c (answers-at job work answers rows answered at) [] ≡ []
       → m ≡ passed c (repeat-of (listed job work rows) (record-at job at)) 0 → Turned limits job work answers rows answered at after answers (turn c answered n m)
   unanswered e w s l o a q = record {
     code-is = e ∙ fault-is;
@@ -150,28 +156,28 @@ module _ (limits : Limits) {job work : Bytes} {rows at : ℕ} {t : Term} (g : Re
   pub not-below : all-below (rows + first-terms) (arguments-of job t) ≡ false → Turned limits job work answers rows answered at work answers (turn 6 answered rows 0)
   not-below e = stopped limits g answers answered 6 (λ z. omega arith) (rw (first-test e))
 
-  -- the origins after it, by whether it was there
-  term-origins : {after : Bytes} {a : Interned} → Taken limits job work after rows at t a → origins after (rows-after a rows) ≡ passed (code-of a) (origins-at job work rows at) (origins work rows)
+  -- the origins job after it, by whether it was there
+  term-origins : {after : Bytes} {a : Interned} → Taken limits job work after rows at t a → origins job after (rows-after a rows) ≡ passed (code-of a) (origins-at job work rows at) (origins job work rows)
   unfolding origins answer-for
   term-origins {after} {a} k = ap (λ (os : List ℕ). 0 ∷ 0 ∷ map suc os) (k .offsets-are) ∙ go a (k .answer-is)
     where
       there : Bool
       there = has (listed job work rows) (record-at job at)
 
-      put-at : (b : Bool) → has (listed job work rows) (record-at job at) ≡ b → cond b (origins work rows) (origins work rows ++ (suc at ∷ [])) ≡ origins-at job work rows at
-      put-at b e = sym (ap (λ (x : Bool). cond x (origins work rows) (origins work rows ++ (suc at ∷ []))) e) ∙ origins-are g answers answered
+      put-at : (b : Bool) → has (listed job work rows) (record-at job at) ≡ b → cond b (origins job work rows) (origins job work rows ++ (suc at ∷ [])) ≡ origins-at job work rows at
+      put-at b e = sym (ap (λ (x : Bool). cond x (origins job work rows) (origins job work rows ++ (suc at ∷ []))) e) ∙ origins-are g answers answered
 
       snoc-map : (os : List ℕ) → map suc (os ++ (at ∷ [])) ≡ map suc os ++ (suc at ∷ [])
       snoc-map [] = refl
       snoc-map (o ∷ os) = ap (λ (xs : List ℕ). suc o ∷ xs) (snoc-map os)
 
       go : (x : Interned) → x ≡ answer-for (well-sorted (capped limits) (term-of (listed job work rows) (op-of t) (arguments-of job t))) (has (listed job work rows) (record-at job at)) (room (capped limits) (length work) (listed job work rows)) rows
-          → 0 ∷ 0 ∷ map suc (offsets-after x at (offsets work rows)) ≡ passed (code-of x) (origins-at job work rows at) (origins work rows)
+          → 0 ∷ 0 ∷ map suc (offsets-after x at (offsets (link-size job) work rows)) ≡ passed (code-of x) (origins-at job work rows at) (origins job work rows)
       go N.Unsorted e = refl
       go N.Spent e = refl
       go (N.Found m) e = put-at true (found-was (well-sorted (capped limits) (term-of (listed job work rows) (op-of t) (arguments-of job t))) _ (room (capped limits) (length work) (listed job work rows)) rows m e)
       go (N.New m) e =
-          ap (λ (xs : List ℕ). 0 ∷ 0 ∷ xs) (snoc-map (offsets work rows))
+          ap (λ (xs : List ℕ). 0 ∷ 0 ∷ xs) (snoc-map (offsets (link-size job) work rows))
           ∙ put-at false (new-was (well-sorted (capped limits) (term-of (listed job work rows) (op-of t) (arguments-of job t))) _ (room (capped limits) (length work) (listed job work rows)) rows m e)
 
   -- the work memory after it, by whether it was there
@@ -237,13 +243,13 @@ module _ (limits : Limits) {job work : Bytes} {rows at n : ℕ} (g : Reading job
       let c = g .store .count in
       stopped limits g answers answered 18 (λ z. omega arith) (rw (le-leb first-terms n h, lt-leb n (length (listed job work rows)) (omega arith)))
 
-  back-origins : {after : Bytes} → first-terms ≤ n → CutBack job work after rows n → origins after (n - first-terms) ≡ origins-at job work rows at
+  back-origins : {after : Bytes} → first-terms ≤ n → CutBack job work after rows n → origins job after (n - first-terms) ≡ origins-at job work rows at
   unfolding origins
   back-origins h b =
       let z : n ≡ suc (suc (n - first-terms)) = omega arith in
       ap (λ (os : List ℕ). 0 ∷ 0 ∷ map suc os) (b .offsets-are)
-      ∙ ap (λ (os : List ℕ). 0 ∷ 0 ∷ os) (map-take suc (n - first-terms) (offsets work rows))
-      ∙ ap (λ (i : ℕ). take i (origins work rows)) (sym z) ∙ origins-are g answers answered
+      ∙ ap (λ (os : List ℕ). 0 ∷ 0 ∷ os) (map-take suc (n - first-terms) (offsets (link-size job) work rows))
+      ∙ ap (λ (i : ℕ). take i (origins job work rows)) (sym z) ∙ origins-are g answers answered
 
   -- the list is cut back
   pub back-turned : {after : Bytes} → first-terms ≤ n → n ≤ rows + first-terms → CutBack job work after rows n

@@ -51,9 +51,9 @@ pub record Reading (job work : Bytes) (rows at : ℕ) (item : Item) : Type 0 whe
 abbrev pub answers-at : Bytes → Bytes → Bytes → ℕ → ℕ → ℕ → List Answer
 answers-at job work answers rows answered at = answers-to (earlier-in job work answers rows answered) (listed job work rows) (record-at job at)
 
--- the origins after it
+-- the origins job after it
 abbrev pub origins-at : Bytes → Bytes → ℕ → ℕ → List ℕ
-origins-at job work rows at = origins-item (origins work rows) (listed job work rows) at (record-at job at) (read (record-at job at))
+origins-at job work rows at = origins-item (origins job work rows) (listed job work rows) at (record-at job at) (read (record-at job at))
 
 -- the work memory after the record at `at` that says an item, where no code stops the job: a new term has its row, and the rows that a back drops have
 -- no slot
@@ -77,7 +77,7 @@ pub record Turned (limits : Limits) (job work answers : Bytes) (rows answered at
   pub memory-is : work′ ≡ passed (t .code) (memory-at job work rows at) work
   pub store : Store job work′ (t .rows)
   pub listed-is : listed job work′ (t .rows) ≡ passed (t .code) (feed (listed job work rows) (record-at job at)) (listed job work rows)
-  pub origins-are : origins work′ (t .rows) ≡ passed (t .code) (origins-at job work rows at) (origins work rows)
+  pub origins-are : origins job work′ (t .rows) ≡ passed (t .code) (origins-at job work rows at) (origins job work rows)
   pub repeats-is : t .repeats ≡ passed (t .code) (repeat-of (listed job work rows) (record-at job at)) 0
   pub answers-is : t .answers ≡ answered + length (passed (t .code) (answers-at job work answers rows answered at) [])
   pub written-is : answers′ ≡ with-notes answers answered at (passed (t .code) (answers-at job work answers rows answered at) [])

@@ -1,43 +1,44 @@
 -- Laws of the rows: numbers in bytes, the list of kept records, the search in it, and what a stored row changes.
-use mathlib.Core.Path.{_≡_, refl, sym, ap, _∙_}
-use mathlib.Core.Bool.{Bool, true, false, _&&_}
-use mathlib.Core.List.{[], _∷_, _++_, append-nil}
-use Prim.Native.Nat.{ℕ, zero, suc, _+_, _*_, _-_, _/_, _%_, _≤_, _<_}
-use native.Mathlib.Nat.{not-suc-le-zero, add-zero}
-use native.Mathlib.Decide.{decLt, decLe}
+use mathlib.Core.Path.{_≡_, refl, sym, ap, ap₂, _∙_}
+use mathlib.Core.Bool.{Bool, true, false, _&&_, cond}
+use mathlib.Core.Logic.{_⊎_, inl, inr, ⊎-elim}
+use mathlib.Core.List.{[], _∷_, _++_, append-nil, append-assoc}
+use Prim.Native.Nat.{ℕ, zero, suc, _+_, _*_, _-_, _/_, _%_, _^_, _≤_, _<_}
+use native.Mathlib.Nat.{not-suc-le-zero, add-zero, mul-le-mul-right, pow-le-pow-right}
+use native.Mathlib.Decide.{decLt, decLe, ℕ-discrete}
 use native.Mathlib.Numerals.{add-one}
 use native.Mathlib.Omega.{arith}
 use lib.Dec.{eqb}
 use lib.ListN.{length-set, length-append, length-take, length-drop, List·getD-append, drop-of-length-le, drop, getD, length, replicate, set, take}
-use lib.Seq.{sets, drop-cons, getD-take, getD-drop, getD-at, getD-set-same, getD-set-other, ext-getD, length-sets, take-all, take-append-le}
-use borrow.Author.Tests.{eq-eqb, eqb-true}
+use lib.Seq.{sets, drop-cons, getD-take, getD-drop, getD-at, getD-set-same, getD-set-other, ext-getD, length-sets, sets-eq, take-all, take-at, take-nil, drop-at, drop-drop, take-append-le}
+use borrow.Author.Tests.{eq-eqb, eqb-true, ne-eqb}
 use borrow.Author.Count.{below-more}
-use Rattle.theory.specs.Record.{Bytes, extent, little-endian, word, bytes-of}
+use Rattle.theory.specs.Record.{Bytes, extent, little-endian, bytes-of}
 use Rattle.terms.specs.Framing.{record-at}
-use Rattle.rows.specs.Layout.{depth-at, missing, number-at, offset-at, offset-bytes, offset-number, width-at, max-rows}
-use Rattle.rows.specs.Rows.{Rows, column, kept, place-from, place-of, row-bytes, row-record, stored-row}
+use Rattle.rows.specs.Layout.{link-at, link-bytes, measure-at, missing, number-at, offset-at, offset-bytes, row-size}
+use Rattle.rows.specs.Rows.{Rows, column, kept-as, place-from, place-of, row-bytes, row-record, stored-link, stored-row}
 use Rattle.theory.specs.Term.{same-numbers}
-use Rattle.theory.specs.Limit.{term-bytes, number-bytes}
+use Rattle.theory.specs.Limit.{first-terms}
+use Rattle.theory.proofs.Written.{number-exact}
+use Rattle.terms.specs.Bodies.{Length}
+use Rattle.terms.proofs.Numbers.{place-small}
 
 -- ---- numbers in bytes
 
-first-two : (xs : Bytes) → word xs ≡ getD xs 0 0 + 256 * getD xs 1 0
-first-two [] = refl
-first-two (a ∷ []) = omega arith
-first-two (a ∷ b ∷ xs) = omega arith
+-- a number is its bytes: where these are the same, so is it
+pub number-same : (len : ℕ) (s t : Bytes) (at : ℕ) → ((i : ℕ) → i < len → getD s (at + i) 0 ≡ getD t (at + i) 0) → number-at s at len ≡ number-at t at len
+number-same zero s t at h = refl
+number-same (suc len) s t at h =
+    first len s at ∙ ap₂ (λ (x y : ℕ). x + 256 * y) (ap (λ (k : ℕ). getD s k 0) (sym (add-zero at)) ∙ h 0 (omega arith) ∙ ap (λ (k : ℕ). getD t k 0) (add-zero at))
+    (number-same len s t (at + 1) (λ i l. let e : at + 1 + i ≡ at + suc i = omega arith in rw e (h (suc i) (omega arith))))
+    ∙ sym (first len t at)
+  where
+    digit : (m : ℕ) (xs : Bytes) → little-endian (take (suc m) xs) ≡ getD xs 0 0 + 256 * little-endian (take m (drop 1 xs))
+    digit m [] = rw take-nil
+    digit m (x ∷ xs) = refl
 
--- theory's number at a place, byte by byte
-pub number-is : (s : Bytes) (at : ℕ) → number-at s at ≡ getD s at 0 + 256 * getD s (at + 1) 0
-number-is s at = first-two (drop at s) ∙ rw (getD-drop at s 0 0, getD-drop at s 1 0, add-zero)
-
-first-three : (xs : Bytes) → little-endian (take offset-bytes xs) ≡ getD xs 0 0 + 256 * getD xs 1 0 + 65536 * getD xs 2 0
-first-three [] = refl
-first-three (a ∷ []) = omega arith
-first-three (a ∷ b ∷ []) = omega arith
-first-three (a ∷ b ∷ c ∷ xs) = omega arith
-
-pub offset-is : (s : Bytes) (at : ℕ) → offset-number s at ≡ getD s at 0 + 256 * getD s (at + 1) 0 + 65536 * getD s (at + 2) 0
-offset-is s at = first-three (drop at s) ∙ rw (getD-drop at s 0 0, getD-drop at s 1 0, getD-drop at s 2 0, add-zero)
+    first : (m : ℕ) (s : Bytes) (at : ℕ) → number-at s at (suc m) ≡ getD s at 0 + 256 * number-at s (at + 1) m
+    first m s at = digit m (drop at s) ∙ rw (getD-drop at s 0 0, add-zero, drop-drop 1 at s)
 
 -- the bytes of a number are stored one by one
 pub put-start : (s : Bytes) (at x len : ℕ) → sets s at (bytes-of len x) ≡ sets s at (bytes-of (at + len - at) x)
@@ -102,14 +103,14 @@ column-added f g n x h e = column-more g n ∙ rw (column-same g f n h, e)
 
 -- ---- the list of kept records
 
-module _ (job work : Bytes) (n : ℕ) where
-  pub length-kept : length (kept job work n) ≡ n
-  unfolding kept
-  length-kept = length-column (row-record job work) n
+module _ (b : ℕ) (job work : Bytes) (n : ℕ) where
+  pub length-kept : length (kept-as b job work n) ≡ n
+  unfolding kept-as
+  length-kept = length-column (row-record b job work) n
 
-  pub getD-kept : (k : ℕ) → k < n → getD (kept job work n) k [] ≡ row-record job work k
-  unfolding kept
-  getD-kept k h = getD-column (row-record job work) [] n k h
+  pub getD-kept : (k : ℕ) → k < n → getD (kept-as b job work n) k [] ≡ row-record b job work k
+  unfolding kept-as
+  getD-kept k h = getD-column (row-record b job work) [] n k h
 
 -- ---- equality of lists, as a test
 
@@ -143,25 +144,25 @@ same-differ x y h = go (same-numbers x y) refl
 
 -- ---- the search
 
-module _ (job work : Bytes) (n : ℕ) (x : Bytes) (p : ℕ) where
-  pub place-end : (k : ℕ) → n ≤ k → place-from p x (drop k (kept job work n)) ≡ missing
+module _ (b : ℕ) (job work : Bytes) (n : ℕ) (x : Bytes) (p : ℕ) where
+  pub place-end : (k : ℕ) → n ≤ k → place-from p x (drop k (kept-as b job work n)) ≡ missing
   unfolding place-from
-  place-end k h = rw (drop-of-length-le (kept job work n) {i = k} (omega (arith, length-kept job work n)))
+  place-end k h = rw (drop-of-length-le (kept-as b job work n) {i = k} (omega (arith, length-kept b job work n)))
 
   module _ (k : ℕ) (h : k < n) where
-    split : drop k (kept job work n) ≡ record-at job (offset-at work k) ∷ drop (suc k) (kept job work n)
+    split : drop k (kept-as b job work n) ≡ record-at job (offset-at b work k) ∷ drop (suc k) (kept-as b job work n)
     split =
-        drop-cons (kept job work n) k [] (rw length-kept h)
-        ∙ ap (λ (r : Bytes). r ∷ drop (suc k) (kept job work n)) (getD-kept job work n k h)
+        drop-cons (kept-as b job work n) k [] (rw length-kept h)
+        ∙ ap (λ (r : Bytes). r ∷ drop (suc k) (kept-as b job work n)) (getD-kept b job work n k h)
 
-    pub place-found : x ≡ record-at job (offset-at work k) → place-from p x (drop k (kept job work n)) ≡ p
+    pub place-found : x ≡ record-at job (offset-at b work k) → place-from p x (drop k (kept-as b job work n)) ≡ p
     unfolding place-from
     place-found e = rw (split, ← e, same-refl x)
 
-    pub place-next : (x ≡ record-at job (offset-at work k) → ⊥)
-        → place-from p x (drop k (kept job work n)) ≡ place-from (suc p) x (drop (suc k) (kept job work n))
+    pub place-next : (x ≡ record-at job (offset-at b work k) → ⊥)
+        → place-from p x (drop k (kept-as b job work n)) ≡ place-from (suc p) x (drop (suc k) (kept-as b job work n))
     unfolding place-from
-    place-next e = rw (split, same-differ x (record-at job (offset-at work k)) e)
+    place-next e = rw (split, same-differ x (record-at job (offset-at b work k)) e)
 
 -- ---- a record in the job
 
@@ -202,33 +203,6 @@ agree-turn {job} {x} {at} {m} h e = record { low = omega (arith, h .low); bytes 
         let q : k ≡ m - 1 = omega arith in
         rw q e
 
--- ---- a turn of the search
-
--- row k is one of n rows, and its record stands at `at`
-pub record AtRow (job work : Bytes) (n k at : ℕ) : Type 0 where
-  pub rows : Rows job work n
-  pub below : k < n
-  pub here : at ≡ offset-at work k
-
-module _ {job work : Bytes} {n k at : ℕ} (row : AtRow job work n k at) where
-  pub row-inside : at + extent (drop at job) ≤ length job
-  row-inside = rw (row .here) (row .rows .inside k (row .below))
-
-  -- x is not found before row k, and row k does not hold it, or does
-  module _ (x : Bytes) (e : place-of x (kept job work n) ≡ place-from (k + 2) x (drop k (kept job work n))) where
-    pub row-next : (x ≡ record-at job at → ⊥) → place-of x (kept job work n) ≡ place-from (k + 1 + 2) x (drop (k + 1) (kept job work n))
-    row-next d =
-        e
-        ∙ place-next job work n x (k + 2) k (row .below) (λ q. d (q ∙ ap (λ (o : ℕ). record-at job o) (sym (row .here))))
-        ∙ ap (λ (m : ℕ). place-from m x (drop (suc k) (kept job work n))) (omega arith)
-        ∙ ap (λ (m : ℕ). place-from (k + 1 + 2) x (drop m (kept job work n))) (sym (add-one k))
-
-    pub row-found : x ≡ record-at job at → k + 2 ≡ place-of x (kept job work n)
-    row-found q =
-        let f : place-from (k + 2) x (drop k (kept job work n)) ≡ k + 2
-        = place-found job work n x (k + 2) k (row .below) (q ∙ ap (λ (o : ℕ). record-at job o) (row .here)) in
-        omega arith
-
 -- ---- memory that is wiped
 
 pub filled : (l : Bytes) (i v : ℕ) → i ≤ length l → length l ≤ i → replicate i v ++ drop i l ≡ replicate (length l) v
@@ -258,76 +232,197 @@ pub sets-after : (l : Bytes) (i : ℕ) (vs : Bytes) (j d : ℕ) → i + length v
 sets-after l i [] j d h = refl
 sets-after l i (a ∷ vs) j d h = sets-after (set l i a) (suc i) vs j d (omega arith) ∙ getD-set-other l i j a d (omega arith)
 
+-- ---- numbers beside a run of stores, and one that is stored
+
+pub number-before : (l : Bytes) (i : ℕ) (vs : Bytes) (at len : ℕ) → at + len ≤ i → number-at (sets l i vs) at len ≡ number-at l at len
+number-before l i vs at len h = number-same len (sets l i vs) l at (λ k b. sets-before l i vs (at + k) 0 (omega arith))
+
+pub number-after : (l : Bytes) (i : ℕ) (vs : Bytes) (at len : ℕ) → i + length vs ≤ at → number-at (sets l i vs) at len ≡ number-at l at len
+number-after l i vs at len h = number-same len (sets l i vs) l at (λ k b. sets-after l i vs (at + k) 0 (omega arith))
+
+pub length-bytes : (k x : ℕ) → length (bytes-of k x) ≡ k
+length-bytes zero x = refl
+length-bytes (suc k) x = ap suc (length-bytes k (x / 256))
+
+pub number-stored : (l : Bytes) (at len v : ℕ) → at + len ≤ length l → v < 256 ^ len → number-at (sets l at (bytes-of len v)) at len ≡ v
+number-stored l at len v h small =
+    let e = length-bytes len v in
+    ap little-endian
+    (ap (λ (xs : Bytes). take len (drop at xs)) (sets-eq (bytes-of len v) l at (omega arith))
+    ∙ ap (take len) (ap (drop at) (append-assoc (take at l) (bytes-of len v) (drop (at + length (bytes-of len v)) l)) ∙ drop-at (take at l) _ at (length-take at l ∙ omega arith))
+    ∙ take-at (bytes-of len v) _ len e)
+    ∙ number-exact len v small
+
+-- ---- the bytes of a link
+
+pub link-cases : (b : ℕ) → ((b ≡ 4) × (link-bytes b ≡ 3)) ⊎ ((b ≡ 4 → ⊥) × (link-bytes b ≡ b))
+unfolding link-bytes
+link-cases b = go (ℕ-discrete b 4)
+  where
+    go : Dec (b ≡ 4) → ((b ≡ 4) × (cond (eqb b 4) 3 b ≡ 3)) ⊎ ((b ≡ 4 → ⊥) × (cond (eqb b 4) 3 b ≡ b))
+    go (yes e) = inl (e, rw (eq-eqb b 4 e))
+    go (no f) = inr (f, rw (ne-eqb b 4 f))
+
+pub link-least : (b : ℕ) → link-bytes b ≤ b
+link-least b = ⊎-elim (λ w. omega arith) (λ w. omega arith) (link-cases b)
+
+pub link-whole : {b : ℕ} → Length b → Length (link-bytes b)
+link-whole {b} l =
+    let s = l .some-bytes in let f = l .few-bytes in
+    record { some-bytes = ⊎-elim (λ w. omega arith) (λ w. omega arith) (link-cases b); few-bytes = omega (arith, link-least b) }
+
+pub link-back : {b : ℕ} → Length (link-bytes b) → Length b
+link-back {b} l =
+    let s = l .some-bytes in let f = l .few-bytes in
+    record { some-bytes = omega (arith, link-least b); few-bytes = ⊎-elim (λ w. omega arith) (λ w. omega arith) (link-cases b) }
+
+-- a place that a link can name is one that a number can name
+pub link-holds : (b x : ℕ) → x < 256 ^ link-bytes b → x < 256 ^ b
+link-holds b x h = let q : 256 ^ link-bytes b ≤ 256 ^ b = pow-le-pow-right (omega arith) (link-least b) in omega arith
+
+-- ---- rows of r bytes
+-- an earlier row ends where a later one starts, or before
+pub row-before : (r : ℕ) {k n : ℕ} → k < n → k * r + r ≤ n * r
+row-before r {k} {n} h = let e : suc k * r ≤ n * r = mul-le-mul-right r h in let f : suc k * r ≡ k * r + r = omega arith in omega arith
+
+pub row-least : (r : ℕ) {k n : ℕ} → k ≤ n → k * r ≤ n * r
+row-least r h = mul-le-mul-right r h
+
 -- ---- a row that is stored
 
-module _ (work : Bytes) (n offset depth width : ℕ) (room : n * term-bytes + term-bytes ≤ length work) where
-  pub length-stored : length (stored-row work n offset depth width) ≡ length work
+module _ (b : ℕ) (work : Bytes) (n offset measure link : ℕ) (room : n * row-size b + row-size b ≤ length work) where
+  pub length-stored : length (stored-row b work n offset measure link) ≡ length work
   unfolding stored-row
-  length-stored = length-sets work (n * term-bytes) (row-bytes offset depth width)
+  length-stored = length-sets work (n * row-size b) (row-bytes b offset measure link)
+
+  length-row : length (row-bytes b offset measure link) ≡ row-size b
+  unfolding row-bytes
+  length-row = let e = length-bytes b measure in let g = length-bytes b link in let f = length-append (bytes-of b measure) (bytes-of b link) in omega arith
 
   -- its three parts, stored one after the other
-  pub stored-parts : (a b c : Bytes) → a ≡ sets work (n * term-bytes) (bytes-of offset-bytes offset) → b ≡ sets a (n * term-bytes + 3) (bytes-of number-bytes depth)
-      → c ≡ sets b (n * term-bytes + 5) (bytes-of 1 width) → c ≡ stored-row work n offset depth width
+  pub stored-parts : (p q r : Bytes) → p ≡ sets work (n * row-size b) (bytes-of offset-bytes offset) → q ≡ sets p (n * row-size b + 3) (bytes-of b measure)
+      → r ≡ sets q (n * row-size b + 3 + b) (bytes-of b link) → r ≡ stored-row b work n offset measure link
   unfolding stored-row row-bytes
-  stored-parts a b c p q r =
-      let e : n * term-bytes + 5 ≡ n * term-bytes + 3 + 2 = omega arith in
-      r
-      ∙ ap (λ (j : ℕ). sets b j (bytes-of 1 width)) e
-      ∙ ap (λ (l : Bytes). sets l (n * term-bytes + 3 + 2) (bytes-of 1 width)) q
-      ∙ sym (sets-append a (n * term-bytes + 3) (bytes-of number-bytes depth) (bytes-of 1 width))
-      ∙ ap (λ (l : Bytes). sets l (n * term-bytes + 3) (bytes-of number-bytes depth ++ bytes-of 1 width)) p
-      ∙ sym (sets-append work (n * term-bytes) (bytes-of offset-bytes offset) (bytes-of number-bytes depth ++ bytes-of 1 width))
+  stored-parts p q r x y z =
+      z
+      ∙ ap (λ (j : ℕ). sets q j (bytes-of b link)) (ap (λ (j : ℕ). n * row-size b + 3 + j) (sym (length-bytes b measure)))
+      ∙ ap (λ (l : Bytes). sets l (n * row-size b + 3 + length (bytes-of b measure)) (bytes-of b link)) y
+      ∙ sym (sets-append p (n * row-size b + 3) (bytes-of b measure) (bytes-of b link))
+      ∙ ap (λ (l : Bytes). sets l (n * row-size b + 3) (bytes-of b measure ++ bytes-of b link)) x
+      ∙ sym (sets-append work (n * row-size b) (bytes-of offset-bytes offset) (bytes-of b measure ++ bytes-of b link))
 
-  -- the bytes before it stay
-  pub before-stored : (j : ℕ) → j < n * term-bytes → getD (stored-row work n offset depth width) j 0 ≡ getD work j 0
+  -- the bytes before it stay, and those after it
+  number-before-stored : (at len : ℕ) → at + len ≤ n * row-size b → number-at (stored-row b work n offset measure link) at len ≡ number-at work at len
   unfolding stored-row
-  before-stored j h = sets-before work (n * term-bytes) (row-bytes offset depth width) j 0 h
+  number-before-stored at len h = number-before work (n * row-size b) (row-bytes b offset measure link) at len h
 
-  -- its own bytes
-  at-stored : (j : ℕ) → j < 6 → getD (stored-row work n offset depth width) (n * term-bytes + j) 0 ≡ getD (row-bytes offset depth width) j 0
-  unfolding stored-row row-bytes
-  at-stored j h = sets-in work (n * term-bytes) (row-bytes offset depth width) j 0 h (omega arith)
+  pub number-after-stored : (at len : ℕ) → n * row-size b + row-size b ≤ at → number-at (stored-row b work n offset measure link) at len ≡ number-at work at len
+  unfolding stored-row
+  number-after-stored at len h = number-after work (n * row-size b) (row-bytes b offset measure link) at len (let e = length-row in omega arith)
 
-  -- the bytes after it stay
-  pub after-stored : (j : ℕ) → n * term-bytes + 6 ≤ j → getD (stored-row work n offset depth width) j 0 ≡ getD work j 0
-  unfolding stored-row row-bytes
-  after-stored j h = sets-after work (n * term-bytes) (row-bytes offset depth width) j 0 h
-
-  at-stored0 : getD (stored-row work n offset depth width) (n * term-bytes) 0 ≡ getD (row-bytes offset depth width) 0 0
-  at-stored0 = ap (λ (k : ℕ). getD (stored-row work n offset depth width) k 0) (sym (add-zero (n * term-bytes))) ∙ at-stored 0 (omega arith)
-
-  pub offset-before : (k : ℕ) → k < n → offset-at (stored-row work n offset depth width) k ≡ offset-at work k
+  pub offset-before : (k : ℕ) → k < n → offset-at b (stored-row b work n offset measure link) k ≡ offset-at b work k
   unfolding offset-at
-  offset-before k h =
-      rw (offset-is, offset-is work, before-stored (k * term-bytes) (omega arith), before-stored (k * term-bytes + 1) (omega arith), before-stored (k * term-bytes + 2) (omega arith))
+  offset-before k h = number-before-stored (k * row-size b) 3 (omega (arith, row-before (row-size b) h))
 
-  pub depth-before : (k : ℕ) → k < n → depth-at (stored-row work n offset depth width) k ≡ depth-at work k
-  unfolding depth-at
-  depth-before k h = rw (number-is, number-is work, before-stored (k * term-bytes + 3) (omega arith), before-stored (k * term-bytes + 3 + 1) (omega arith))
+  pub measure-before : (k : ℕ) → k < n → measure-at b (stored-row b work n offset measure link) k ≡ measure-at b work k
+  unfolding measure-at
+  measure-before k h = number-before-stored (k * row-size b + 3) b (omega (arith, row-before (row-size b) h))
 
-  pub width-before : (k : ℕ) → k < n → width-at (stored-row work n offset depth width) k ≡ width-at work k
-  unfolding width-at
-  width-before k h = before-stored (k * term-bytes + 5) (omega arith)
+  pub link-before : (k : ℕ) → k < n → link-at b (stored-row b work n offset measure link) k ≡ link-at b work k
+  unfolding link-at
+  link-before k h = number-before-stored (k * row-size b + 3 + b) b (omega (arith, row-before (row-size b) h))
 
-  pub offset-stored : offset < 16777216 → offset-at (stored-row work n offset depth width) n ≡ offset
-  unfolding offset-at row-bytes
-  offset-stored h = rw (offset-is, at-stored0, at-stored 1 (omega arith), at-stored 2 (omega arith)) (omega arith)
+  -- its own parts
+  first-part : Bytes
+  first-part = sets work (n * row-size b) (bytes-of offset-bytes offset)
 
-  pub depth-stored : depth < 65536 → depth-at (stored-row work n offset depth width) n ≡ depth
-  unfolding depth-at row-bytes
-  depth-stored h =
-      let e : n * term-bytes + 3 + 1 ≡ n * term-bytes + 4 = omega arith in
-      rw (number-is, e, at-stored 3 (omega arith), at-stored 4 (omega arith)) (omega arith)
+  second-part : Bytes
+  second-part = sets first-part (n * row-size b + 3) (bytes-of b measure)
 
-  pub width-stored : width < 256 → width-at (stored-row work n offset depth width) n ≡ width
-  unfolding width-at row-bytes
-  width-stored h = rw (at-stored 5 (omega arith)) (omega arith)
+  third-part : Bytes
+  third-part = sets second-part (n * row-size b + 3 + b) (bytes-of b link)
 
-  pub rows-stored : (job : Bytes) → Rows job work n → n < max-rows → offset < 16777216 → offset + extent (drop offset job) ≤ length job
-      → Rows job (stored-row work n offset depth width) (n + 1)
+  in-parts : stored-row b work n offset measure link ≡ third-part
+  unfolding first-part second-part third-part
+  in-parts = sym (stored-parts first-part second-part third-part refl refl refl)
+
+  pub offset-stored : offset < 16777216 → offset-at b (stored-row b work n offset measure link) n ≡ offset
+  unfolding offset-at first-part second-part third-part
+  offset-stored h =
+      ap (λ (l : Bytes). number-at l (n * row-size b) 3) in-parts
+      ∙ number-before second-part (n * row-size b + 3 + b) (bytes-of b link) (n * row-size b) 3 (omega arith)
+      ∙ number-before first-part (n * row-size b + 3) (bytes-of b measure) (n * row-size b) 3 (omega arith)
+      ∙ number-stored work (n * row-size b) 3 offset (omega arith) (omega arith)
+
+  pub measure-stored : measure < 256 ^ b → measure-at b (stored-row b work n offset measure link) n ≡ measure
+  unfolding measure-at first-part second-part third-part
+  measure-stored h =
+      ap (λ (l : Bytes). number-at l (n * row-size b + 3) b) in-parts
+      ∙ number-before second-part (n * row-size b + 3 + b) (bytes-of b link) (n * row-size b + 3) b (omega arith)
+      ∙ number-stored first-part (n * row-size b + 3) b measure (rw length-sets (omega arith)) h
+
+  pub link-stored : link < 256 ^ b → link-at b (stored-row b work n offset measure link) n ≡ link
+  unfolding link-at first-part second-part third-part
+  link-stored h =
+      ap (λ (l : Bytes). number-at l (n * row-size b + 3 + b) b) in-parts
+      ∙ number-stored second-part (n * row-size b + 3 + b) b link (rw (length-sets, length-sets) (omega arith)) h
+
+  pub rows-stored : (job : Bytes) → Rows b job work n → first-terms + suc n < 256 ^ b → offset < 16777216 → offset + extent (drop offset job) ≤ length job
+      → Rows b job (stored-row b work n offset measure link) (n + 1)
   rows-stored job rows few small inside = record {
+    link-length = rows .link-length;
     short = rows .short;
-    few = omega arith;
+    few = let e : first-terms + (n + 1) ≡ first-terms + suc n = omega arith in rw e few;
     room = rw length-stored (omega arith);
     inside = below-more _ n (λ k h. rw (offset-before k h) (rows .inside k h)) (rw (offset-stored small) inside);
   }
+
+-- ---- a link that is stored
+
+module _ (l : ℕ) (work : Bytes) (k v : ℕ) (room : k * row-size l + row-size l ≤ length work) where
+  pub length-linked : length (stored-link l work k v) ≡ length work
+  unfolding stored-link
+  length-linked = length-sets work (k * row-size l + 3 + l) (bytes-of l v)
+
+  -- what stands elsewhere stays: before the link, or from the next row on
+  number-elsewhere : (at len : ℕ) → (at + len ≤ k * row-size l + 3 + l) ⊎ (k * row-size l + row-size l ≤ at) → number-at (stored-link l work k v) at len ≡ number-at work at len
+  unfolding stored-link
+  number-elsewhere at len (inl h) = number-before work (k * row-size l + 3 + l) (bytes-of l v) at len h
+  number-elsewhere at len (inr h) = number-after work (k * row-size l + 3 + l) (bytes-of l v) at len (let e = length-bytes l v in omega arith)
+
+  -- the offset and the measure of any row, and the link of another
+  beside : (j at len : ℕ) → at + len ≤ row-size l → (j ≡ k → at + len ≤ 3 + l) → number-at (stored-link l work k v) (j * row-size l + at) len ≡ number-at work (j * row-size l + at) len
+  beside j at len h here = number-elsewhere (j * row-size l + at) len (go (decLt j k) (decLt k j))
+    where
+      go : Dec (j < k) → Dec (k < j) → (j * row-size l + at + len ≤ k * row-size l + 3 + l) ⊎ (k * row-size l + row-size l ≤ j * row-size l + at)
+      go (yes b) d = inl (let r : j * row-size l + row-size l ≤ k * row-size l = row-before (row-size l) b in omega arith)
+      go (no b) (yes d) = inr (let r : k * row-size l + row-size l ≤ j * row-size l = row-before (row-size l) d in omega arith)
+      go (no b) (no d) =
+          let e : j ≡ k = omega arith in
+          inl (let r : j * row-size l ≡ k * row-size l = ap (λ (i : ℕ). i * row-size l) e in let g = here e in omega arith)
+
+  pub offset-linked : (j : ℕ) → offset-at l (stored-link l work k v) j ≡ offset-at l work j
+  unfolding offset-at
+  offset-linked j = rw add-zero at (beside j 0 3 (omega arith) (λ e. omega arith))
+
+  pub measure-linked : (j : ℕ) → measure-at l (stored-link l work k v) j ≡ measure-at l work j
+  unfolding measure-at
+  measure-linked j = beside j 3 l (omega arith) (λ e. omega arith)
+
+  pub link-other : (j : ℕ) → (j ≡ k → ⊥) → link-at l (stored-link l work k v) j ≡ link-at l work j
+  unfolding link-at
+  link-other j d =
+      let e : j * row-size l + (3 + l) ≡ j * row-size l + 3 + l = omega arith in
+      rw e at (beside j (3 + l) l (omega arith) (λ q. absurd (d q)))
+
+  pub link-here : v < 256 ^ l → link-at l (stored-link l work k v) k ≡ v
+  unfolding link-at stored-link
+  link-here h = number-stored work (k * row-size l + 3 + l) l v (omega arith) h
+
+-- ---- what the invariant says of numbers: places fit into 32 bits, and row k lies in the work memory
+module _ {b : ℕ} {job work : Bytes} {n : ℕ} (rows : Rows b job work n) where
+  pub rows-small : first-terms + n < 4294967296
+  rows-small = place-small b (first-terms + n) (rows .link-length .few-bytes) (rows .few)
+
+  pub row-room : {k : ℕ} → k < n → k * row-size b + row-size b ≤ length work
+  row-room h = let r = rows .room in omega (arith, row-before (row-size b) h)

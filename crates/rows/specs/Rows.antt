@@ -1,14 +1,15 @@
 -- The rows: the records that the work memory keeps, and the place of a record among them.
 use mathlib.Core.Bool.{cond}
 use mathlib.Core.List.{List, [], _∷_, _++_}
-use Prim.Native.Nat.{ℕ, zero, suc, _+_, _*_, _≤_, _<_}
+use Prim.Native.Nat.{ℕ, zero, suc, _+_, _*_, _^_, _≤_, _<_}
 use lib.ListN.{length, drop}
 use lib.Seq.{sets}
-use Rattle.theory.specs.Limit.{number-bytes, term-bytes, first-terms, max-job}
+use Rattle.theory.specs.Limit.{first-terms, max-job}
 use Rattle.theory.specs.Term.{same-numbers}
 use Rattle.theory.specs.Record.{Bytes, extent, bytes-of}
 use Rattle.terms.specs.Framing.{record-at}
-use Rattle.rows.specs.Layout.{missing, max-rows, offset-bytes, width-bytes, offset-at, depth-at, width-at}
+use Rattle.terms.specs.Bodies.{Length}
+use Rattle.rows.specs.Layout.{missing, link-size, offset-bytes, row-size, offset-at, measure-at}
 
 -- f 0, f 1 and so on, n of them
 unfoldable pub column : {A : Type 0} → (ℕ → A) → ℕ → List A
@@ -16,31 +17,32 @@ column f zero = []
 column f (suc n) = column f n ++ (f n ∷ [])
 
 -- the record of row k
-abbrev pub row-record : Bytes → Bytes → ℕ → Bytes
-row-record job work k = record-at job (offset-at work k)
+abbrev pub row-record : ℕ → Bytes → Bytes → ℕ → Bytes
+row-record l job work k = record-at job (offset-at l work k)
 
 -- THE KEPT LIST: the records of the first n rows
-unfoldable pub kept : Bytes → Bytes → ℕ → List Bytes
-kept job work n = column (row-record job work) n
+unfoldable pub kept-as : ℕ → Bytes → Bytes → ℕ → List Bytes
+kept-as l job work n = column (row-record l job work) n
+
+-- by the job's own number length
+abbrev pub kept : Bytes → Bytes → ℕ → List Bytes
+kept job work n = kept-as (link-size job) job work n
 
 -- where they stand in the job
-unfoldable pub offsets : Bytes → ℕ → List ℕ
-offsets work n = column (offset-at work) n
+unfoldable pub offsets : ℕ → Bytes → ℕ → List ℕ
+offsets l work n = column (offset-at l work) n
 
--- their depths
-unfoldable pub depths : Bytes → ℕ → List ℕ
-depths work n = column (depth-at work) n
-
--- their widths
-unfoldable pub widths : Bytes → ℕ → List ℕ
-widths work n = column (width-at work) n
+-- their measures
+unfoldable pub measures : ℕ → Bytes → ℕ → List ℕ
+measures l work n = column (measure-at l work) n
 
 -- the n rows have places and lie in the work memory, and each row's record lies in the job
-pub record Rows (job work : Bytes) (n : ℕ) : Type 0 where
+pub record Rows (l : ℕ) (job work : Bytes) (n : ℕ) : Type 0 where
+  pub link-length : Length l
   pub short : length job ≤ max-job
-  pub few : n ≤ max-rows
-  pub room : n * term-bytes ≤ length work
-  pub inside : (k : ℕ) → k < n → offset-at work k + extent (drop (offset-at work k) job) ≤ length job
+  pub few : first-terms + n < 256 ^ l
+  pub room : n * row-size l ≤ length work
+  pub inside : (k : ℕ) → k < n → offset-at l work k + extent (drop (offset-at l work k) job) ≤ length job
 
 -- the place of the first record that equals x, the list's first having place p; or missing
 unfoldable pub place-from : ℕ → Bytes → List Bytes → ℕ
@@ -51,10 +53,14 @@ place-from p x (y ∷ ys) = cond (same-numbers x y) p (place-from (suc p) x ys)
 abbrev pub place-of : Bytes → List Bytes → ℕ
 place-of x rows = place-from first-terms x rows
 
--- the bytes of a row; the slot after them is not the row's
-unfoldable pub row-bytes : ℕ → ℕ → ℕ → Bytes
-row-bytes offset depth width = bytes-of offset-bytes offset ++ (bytes-of number-bytes depth ++ bytes-of width-bytes width)
+-- the bytes of a row
+unfoldable pub row-bytes : ℕ → ℕ → ℕ → ℕ → Bytes
+row-bytes l offset measure link = bytes-of offset-bytes offset ++ (bytes-of l measure ++ bytes-of l link)
 
 -- the work memory with row n stored
-unfoldable pub stored-row : Bytes → ℕ → ℕ → ℕ → ℕ → Bytes
-stored-row work n offset depth width = sets work (n * term-bytes) (row-bytes offset depth width)
+unfoldable pub stored-row : ℕ → Bytes → ℕ → ℕ → ℕ → ℕ → Bytes
+stored-row l work n offset measure link = sets work (n * row-size l) (row-bytes l offset measure link)
+
+-- the work memory with v as the link of row k
+unfoldable pub stored-link : ℕ → Bytes → ℕ → ℕ → Bytes
+stored-link l work k v = sets work (k * row-size l + offset-bytes + l) (bytes-of l v)

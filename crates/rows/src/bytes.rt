@@ -1,11 +1,10 @@
 // Numbers that stand in bytes, the lowest byte first.
 ghost use mathlib.Core.Path.{_≡_};
-ghost use Prim.Native.Nat.{_+_, _≤_};
+ghost use Prim.Native.Nat.{_+_, _^_, _≤_};
 ghost use lib.ListN.{length};
 ghost use lib.Seq.{sets};
-ghost use Rattle.theory.specs.Limit.{number-bytes, max-job};
 ghost use Rattle.theory.specs.Record.{bytes-of};
-ghost use Rattle.rows.specs.Layout.{Bounded, number-end, offset-bytes, number-at, offset-number};
+ghost use Rattle.rows.specs.Layout.{Bounded, number-at};
 
 // A byte as a number.
 pub fn wide(x: u8) -> usize
@@ -14,20 +13,18 @@ pub fn wide(x: u8) -> usize
     x as usize
 }
 
-// The number at a place, of two bytes.
-pub fn number(s: &[u8], at: usize) -> usize
-    requires { ⌜ at + number-bytes ≤ length (now s) ⌝ }
-    ensures { λ r. ⌜ Bounded r (number-at (now (s .entry)) at) number-end ⌝ }
+// The number at a place, of up to four bytes.
+pub fn number(s: &[u8], at: usize, len: usize) -> usize
+    requires { ⌜ (at + len ≤ length (now s)) × (len ≤ 4) ⌝ }
+    ensures { λ r. ⌜ Bounded r (number-at (now (s .entry)) at len) (256 ^ len) ⌝ }
 {
-    wide(s[at]) + 256 * wide(s[at + 1])
-}
-
-// The offset at a place, of three bytes.
-pub fn offset(s: &[u8], at: usize) -> usize
-    requires { ⌜ at + offset-bytes ≤ length (now s) ⌝ }
-    ensures { λ r. ⌜ Bounded r (offset-number (now (s .entry)) at) max-job ⌝ }
-{
-    wide(s[at]) + 256 * wide(s[at + 1]) + 65536 * wide(s[at + 2])
+    let mut x: usize = 0;
+    let mut i = len;
+    while 0 < i {
+        i -= 1;
+        x = 256 * x + wide(s[at + i]);
+    }
+    x
 }
 
 // Stores `len` bytes of a number.

@@ -1,90 +1,92 @@
-// The rows of the work memory, each of them for a record that the job keeps, and the plain walk over them.
+// The rows of the work memory, each of them for a record that the job keeps.
 //
 // A record stands in the job and stays there; the work memory has a row for each kept record, in the order in which they came. Row k has
-// place 2 + k, since places 0 and 1 are `true` and `false`. Callers say how many rows there are.
+// place 2 + k, since places 0 and 1 are `true` and `false`. Callers say how many rows there are, and the bytes of a link: a row has two such
+// numbers, its measure (the depth of its term, or its width) and a link to an earlier row.
 //
 // To read: layout (sizes), bytes (numbers), and here the parts of a row.
 pub mod bytes;
 pub mod layout;
 
 ghost use mathlib.Core.Path.{_≡_};
-ghost use Prim.Native.Nat.{_+_, _*_, _≤_};
+ghost use Prim.Native.Nat.{_+_, _*_, _^_, _≤_};
 ghost use lib.ListN.{length};
-ghost use Rattle.theory.specs.Limit.{term-bytes, max-job};
-ghost use Rattle.rows.specs.Layout.{Bounded, number-end, offset-at, depth-at, width-at};
-ghost use Rattle.rows.specs.Rows.{kept, Rows, place-of, stored-row};
+ghost use Rattle.theory.specs.Limit.{max-job};
+ghost use Rattle.terms.specs.Bodies.{Length};
+ghost use Rattle.rows.specs.Layout.{Bounded, link-bytes, link-size, row-size, offset-at, measure-at, link-at};
+ghost use Rattle.rows.specs.Rows.{stored-row};
 use crate::bytes::number;
-use crate::bytes::offset;
 use crate::bytes::put_number;
-use crate::bytes::wide;
-use crate::layout::DEPTH_BYTE;
+use crate::layout::LONG_LINK_BYTES;
 use crate::layout::OFFSET_BYTES;
-use crate::layout::ROW_BYTES;
-use crate::layout::WIDTH_BYTE;
-use crate::layout::WIDTH_BYTES;
 pub use layout::FIRST_PLACE;
 pub use layout::MISSING;
 use terms::Term;
 
-// Where row k's record stands in the job.
-pub fn offset_at(work: &[u8], k: usize) -> usize
-    requires { ⌜ k * term-bytes + term-bytes ≤ length (now work) ⌝ }
-    ensures { λ r. ⌜ Bounded r (offset-at (now (work .entry)) k) max-job ⌝ }
+// The bytes of a link, by the bytes of a term's number: three can count the most terms.
+pub fn link_bytes(bytes: usize) -> usize
+    ensures { λ r. ⌜ r ≡ link-bytes bytes ⌝ }
 {
-    offset(work, k * ROW_BYTES)
-}
-
-// The depth of row k.
-pub fn depth_at(work: &[u8], k: usize) -> usize
-    requires { ⌜ k * term-bytes + term-bytes ≤ length (now work) ⌝ }
-    ensures { λ r. ⌜ Bounded r (depth-at (now (work .entry)) k) number-end ⌝ }
-{
-    number(work, k * ROW_BYTES + DEPTH_BYTE)
-}
-
-// The width of row k, 0 for a Bool.
-pub fn width_at(work: &[u8], k: usize) -> usize
-    requires { ⌜ k * term-bytes + term-bytes ≤ length (now work) ⌝ }
-    ensures { λ r. ⌜ Bounded r (width-at (now (work .entry)) k) 256 ⌝ }
-{
-    wide(work[k * ROW_BYTES + WIDTH_BYTE])
-}
-
-// Stores row n; the slot in its bytes stays as it is.
-pub fn put_row(work: &mut [u8], n: usize, offset: usize, depth: usize, width: usize)
-    requires { ⌜ n * term-bytes + term-bytes ≤ length (now work) ⌝ }
-    ensures { λ _. ⌜ now (work .exit) ≡ stored-row (now (work .entry)) n offset depth width ⌝ }
-{
-    let at = n * ROW_BYTES;
-    put_number(work, at, OFFSET_BYTES, offset);
-    put_number(work, at + DEPTH_BYTE, Term::NUMBER_BYTES, depth);
-    put_number(work, at + WIDTH_BYTE, WIDTH_BYTES, width);
-}
-
-// The place of the record `wanted` among the first n rows, or MISSING: row by row, and byte by byte from the last, where records differ
-// most often.
-pub fn find(job: &[u8], work: &[u8], n: usize, wanted: &[u8]) -> u32
-    requires { ⌜ Rows (now job) (now work) n ⌝ }
-    ensures { λ r. ⌜ r ≡ place-of (now (wanted .entry)) (kept (now (job .entry)) (now (work .entry)) n) ⌝ }
-{
-    let mut row: usize = 0;
-    'rows: loop {
-        if n <= row {
-            break MISSING;
-        }
-        let at = offset_at(work, row);
-        let place = row + FIRST_PLACE;
-        row += 1;
-        if number(job, at) + Term::NUMBER_BYTES != wanted.len() {
-            continue 'rows;
-        }
-        let mut left = wanted.len();
-        while 0 < left {
-            left -= 1;
-            if job[at + left] != wanted[left] {
-                continue 'rows;
-            }
-        }
-        break place as u32;
+    if bytes == Term::LONG_BYTES {
+        LONG_LINK_BYTES
+    } else {
+        bytes
     }
+}
+
+// Where row k's record stands in the job.
+pub fn offset_as(work: &[u8], bytes: usize, k: usize) -> usize
+    requires { ⌜ (k * row-size bytes + row-size bytes ≤ length (now work)) × Length bytes ⌝ }
+    ensures { λ r. ⌜ Bounded r (offset-at bytes (now (work .entry)) k) max-job ⌝ }
+{
+    number(work, k * (OFFSET_BYTES + 2 * bytes), OFFSET_BYTES)
+}
+
+// The measure of row k.
+pub fn measure_as(work: &[u8], bytes: usize, k: usize) -> usize
+    requires { ⌜ (k * row-size bytes + row-size bytes ≤ length (now work)) × Length bytes ⌝ }
+    ensures { λ r. ⌜ Bounded r (measure-at bytes (now (work .entry)) k) (256 ^ bytes) ⌝ }
+{
+    number(work, k * (OFFSET_BYTES + 2 * bytes) + OFFSET_BYTES, bytes)
+}
+
+// The link of row k: 0, or one more than the index of an earlier row.
+pub fn link_at(work: &[u8], bytes: usize, k: usize) -> usize
+    requires { ⌜ (k * row-size bytes + row-size bytes ≤ length (now work)) × Length bytes ⌝ }
+    ensures { λ r. ⌜ Bounded r (link-at bytes (now (work .entry)) k) (256 ^ bytes) ⌝ }
+{
+    number(
+        work,
+        k * (OFFSET_BYTES + 2 * bytes) + OFFSET_BYTES + bytes,
+        bytes,
+    )
+}
+
+// Stores row n.
+pub fn put_row(work: &mut [u8], bytes: usize, n: usize, offset: usize, measure: usize, link: usize)
+    requires { ⌜ (n * row-size bytes + row-size bytes ≤ length (now work)) × Length bytes ⌝ }
+    ensures { λ _. ⌜ now (work .exit) ≡ stored-row bytes (now (work .entry)) n offset measure link ⌝ }
+{
+    let at = n * (OFFSET_BYTES + 2 * bytes);
+    put_number(work, at, OFFSET_BYTES, offset);
+    put_number(work, at + OFFSET_BYTES, bytes, measure);
+    put_number(work, at + OFFSET_BYTES + bytes, bytes, link);
+}
+
+// Where row k's record stands, in the job's own number length.
+pub fn offset_at(job: &[u8], work: &[u8], k: usize) -> usize
+    requires { ⌜ k * row-size (link-size (now job)) + row-size (link-size (now job)) ≤ length (now work) ⌝ }
+    ensures { λ r. ⌜ Bounded r (offset-at (link-size (now (job .entry))) (now (work .entry)) k) max-job ⌝ }
+{
+    let link = link_bytes(Term::number_length(job));
+    offset_as(work, link, k)
+}
+
+// The measure of row k, in the job's own number length.
+pub fn measure_at(job: &[u8], work: &[u8], k: usize) -> usize
+    requires { ⌜ k * row-size (link-size (now job)) + row-size (link-size (now job)) ≤ length (now work) ⌝ }
+    ensures { λ r. ⌜ Bounded r (measure-at (link-size (now (job .entry))) (now (work .entry)) k) (256 ^ link-size (now (job .entry))) ⌝ }
+{
+    let link = link_bytes(Term::number_length(job));
+    measure_as(work, link, k)
 }

@@ -10,7 +10,7 @@ use lib.Dec.{leb, ltb}
 use lib.ListN.{length, take, drop, length-drop, length-take, length-append}
 use lib.Seq.{length-take-le}
 use borrow.Author.Tests.{le-leb}
-use Rattle.theory.specs.Limit.{Limits, capped, max-job, first-terms, term-bytes}
+use Rattle.theory.specs.Limit.{number-bytes, Limits, capped, max-job, first-terms, term-bytes}
 use Rattle.theory.specs.Term.{Term}
 use Rattle.theory.specs.Record.{Bytes, extent, whole, cut, records-of, ending, Item, term, step, chain, back, unknown, misfit, read}
 use Rattle.theory.specs.Plain.{Plain, entry, start, term-of, has, put, feed-item, feed, repeat-of}
@@ -37,9 +37,9 @@ few-cut (suc fuel) bs =
     next-few (whole bs) n (take n bs) (cut fuel (drop n bs)) (length bs) (λ w. let p = whole-parts bs w in (let a = p .low in omega arith, p .fit)) (omega arith)
 
 -- ---- one record
-room-same : (limits : Limits) (more less : ℕ) (list : Plain) → term-bytes * (suc (length list) - first-terms) ≤ less → less ≤ more → room limits less list ≡ room limits more list
+room-same : (limits : Limits) (more less : ℕ) (list : Plain) → term-bytes number-bytes * (suc (length list) - first-terms) ≤ less → less ≤ more → room limits less list ≡ room limits more list
 room-same limits more less list h k =
-    ap (λ (b : Bool). b && ltb (length list) (limits .terms)) (le-leb (term-bytes * (suc (length list) - first-terms)) less h ∙ sym (le-leb (term-bytes * (suc (length list) - first-terms)) more (omega arith)))
+    ap (λ (b : Bool). b && ltb (length list) (limits .terms)) (le-leb (term-bytes number-bytes * (suc (length list) - first-terms)) less h ∙ sym (le-leb (term-bytes number-bytes * (suc (length list) - first-terms)) more (omega arith)))
 
 fault-same : (limits : Limits) (more less space : ℕ) (list : Plain) (n : ℕ) (r : Bytes) → room (capped limits) less list ≡ room (capped limits) more list → fault limits less space list n r ≡ fault limits more space list n r
 unfolding fault
@@ -80,7 +80,7 @@ by-fault zero f e = e
 by-fault (suc code) f e = refl
 
 run-from-same : (limits : Limits) (more less space end : ℕ) → less ≤ more → (rs : List Bytes) (done repeats : ℕ) (earlier : Earlier) (list : Plain) (given : List Answer)
-    → term-bytes * (length list + length rs - first-terms) ≤ less → run-from limits less space end done repeats earlier list given rs ≡ run-from limits more space end done repeats earlier list given rs
+    → term-bytes number-bytes * (length list + length rs - first-terms) ≤ less → run-from limits less space end done repeats earlier list given rs ≡ run-from limits more space end done repeats earlier list given rs
 unfolding run-from
 run-from-same limits more less space end k [] done repeats earlier list given h = refl
 run-from-same limits more less space end k (r ∷ rs) done repeats earlier list given h =
@@ -103,8 +103,10 @@ run-same limits job more less space k h =
     by-length (leb (length job) max-job) (outcome 2 0 0 [] start) (run-from-same limits more less space (ending job) k (records-of job) 0 0 [] start [] (omega arith))
 
 -- the first bytes of a work memory, where they are enough
-pub run-enough : (limits : Limits) (job work : Bytes) (used space : ℕ) → Enough (length job) (length work) used → run limits job (length (take used work)) space ≡ run limits job (length work) space
-run-enough limits job work used space e = ap (λ (n : ℕ). run limits job n space) (length-take-le used work (e .within)) ∙ go (decLt used (length work))
+pub run-enough : (limits : Limits) (job work : Bytes) (used space : ℕ) → Enough (length job) (length work) used → (lent : Bytes) → length lent ≡ length work
+    → run limits job (length (take used lent)) space ≡ run limits job (length work) space
+run-enough limits job work used space e lent same =
+    ap (λ (n : ℕ). run limits job n space) (length-take-le used lent (let w = e .within in omega arith)) ∙ go (decLt used (length work))
   where
     go : Dec (used < length work) → run limits job used space ≡ run limits job (length work) space
     go (yes h) = run-same limits job (length work) used space (e .within) (e .enough h)

@@ -24,6 +24,9 @@ use Rattle.terms.specs.Framing.{record-at}
 use Rattle.terms.proofs.Reading.{stands}
 use Rattle.rows.specs.Rows.{column, offsets}
 use Rattle.store.specs.Store.{Store, listed}
+use Rattle.rows.specs.Layout.{link-bytes}
+use Rattle.table.specs.Promise.{cleared}
+use Rattle.table.proofs.MemoryLaws.{length-cleared}
 use Rattle.intern.specs.Interning.{Started}
 use Rattle.records.specs.declared.Turn.{Turn}
 use Rattle.runs.specs.declared.walk.State.{State}
@@ -107,22 +110,22 @@ total-snoc [] r = omega arith
 total-snoc (x ∷ xs) r = let q = total-snoc xs r in omega arith
 
 -- where they end, and what they made of the list and of the work memory
-pub record Done (job : Bytes) (size : ℕ) (work : Bytes) (at records rows : ℕ) : Type 0 where
+pub record Done (job from work : Bytes) (at records rows : ℕ) : Type 0 where
   pub at-is : at ≡ total-length (take records (records-of job))
   pub listed-is : listed job work rows ≡ plain-after records job
-  pub memory-is : work ≡ memory-run job size records
+  pub memory-is : work ≡ memory-run job from records
 
 -- one more is done
-module _ {job work : Bytes} {size at m rows : ℕ} (d : Done job size work at m rows) (count : length (listed job work rows) ≡ first-terms + rows)
+module _ {job from work : Bytes} {at m rows : ℕ} (d : Done job from work at m rows) (count : length (listed job work rows) ≡ first-terms + rows)
     {r : Bytes} {rs : List Bytes} (e : drop m (records-of job) ≡ r ∷ rs) where
-  memory-more : memory-at job work rows at ≡ memory-run job size (m + 1)
+  memory-more : memory-at job work rows at ≡ memory-run job from (m + 1)
   unfolding memory-run
   memory-more =
       let k : rows ≡ length (plain-after m job) - first-terms = let z = ap length (d .listed-is) in omega arith in
-      ap (λ (w : Bytes). memory-at job w rows at) (d .memory-is) ∙ ap₂ (λ (i j : ℕ). memory-at job (memory-run job size m) i j) k (d .at-is) ∙ ap (memory-run job size) (sym (add-one m))
+      ap (λ (w : Bytes). memory-at job w rows at) (d .memory-is) ∙ ap₂ (λ (i j : ℕ). memory-at job (memory-run job from m) i j) k (d .at-is) ∙ ap (memory-run job from) (sym (add-one m))
 
   done-more : {work′ : Bytes} {rows′ n : ℕ} → length r ≡ n → listed job work′ rows′ ≡ feed (listed job work rows) r → work′ ≡ memory-at job work rows at
-      → Done job size work′ (at + n) (m + 1) rows′
+      → Done job from work′ (at + n) (m + 1) rows′
   done-more {work′} {rows′} {n} l f w =
       let q = take-next m (records-of job) e .0 in
       let t : take (m + 1) (records-of job) ≡ take m (records-of job) ++ (r ∷ []) = ap (λ (i : ℕ). take i (records-of job)) (add-one m) ∙ q in
@@ -136,10 +139,10 @@ module _ {job work : Bytes} {size at m rows : ℕ} (d : Done job size work at m 
   left-more = ap (λ (i : ℕ). drop i (records-of job)) (add-one m) ∙ take-next m (records-of job) e .1
 
 -- ---- what holds between two records
--- of the job, the length of its work memory and the old bytes of its answers' memory: the answers given, what both memories hold, and the counts
-pub record Holding (job : Bytes) (size : ℕ) (old work answers : Bytes) (s : State) (ms : List Note) : Type 0 where
+-- of the job, its work memory before it and the old bytes of its answers' memory: the answers given, what both memories hold, and the counts
+pub record Holding (job from old work answers : Bytes) (s : State) (ms : List Note) : Type 0 where
   pub store : Store job work (s .rows)
-  pub same-work : length work ≡ size
+  pub same-work : length work ≡ length from
   pub same-answers : length answers ≡ length old
   pub written : answers ≡ notes-after ms old
   pub counted : s .answers ≡ length ms
@@ -151,22 +154,22 @@ pub record Holding (job : Bytes) (size : ℕ) (old work answers : Bytes) (s : St
   pub rarer : s .repeats ≤ s .records
 
 -- the run goes on from here with the records that are left, and those before are the bytes before
-pub record Between (limits : Limits) (job : Bytes) (size : ℕ) (old work answers : Bytes) (s : State) : Type 0 where
+pub record Between (limits : Limits) (job from old work answers : Bytes) (s : State) : Type 0 where
   pub given : List Note
-  pub holding : Holding job size old work answers s given
-  pub tracks : Tracks (s .at) (origins work (s .rows)) (marks-in job answers (s .answers)) (earlier-in job work answers (s .rows) (s .answers)) (listed job work (s .rows))
-  pub done : Done job size work (s .at) (s .records) (s .rows)
+  pub holding : Holding job from old work answers s given
+  pub tracks : Tracks (s .at) (origins job work (s .rows)) (marks-in job answers (s .answers)) (earlier-in job work answers (s .rows) (s .answers)) (listed job work (s .rows))
+  pub done : Done job from work (s .at) (s .records) (s .rows)
   pub left : drop (s .records) (records-of job) ≡ records-of (drop (s .at) job)
   pub before : total-length (records-of job) ≡ s .at + total-length (records-of (drop (s .at) job))
-  pub leads : run limits job size (length old)
-      ≡ run-from limits size (length old) (ending job) (s .records) (s .repeats) (earlier-in job work answers (s .rows) (s .answers)) (listed job work (s .rows)) (answers-of given) (records-of (drop (s .at) job))
+  pub leads : run limits job (length from) (length old)
+      ≡ run-from limits (length from) (length old) (ending job) (s .records) (s .repeats) (earlier-in job work answers (s .rows) (s .answers)) (listed job work (s .rows)) (answers-of given) (records-of (drop (s .at) job))
 
 -- the run ends here
-pub record Stopped (limits : Limits) (job : Bytes) (size : ℕ) (old work answers : Bytes) (s : State) : Type 0 where
+pub record Stopped (limits : Limits) (job from old work answers : Bytes) (s : State) : Type 0 where
   pub given : List Note
-  pub holding : Holding job size old work answers s given
-  pub done : Done job size work (s .at) (s .records) (s .rows)
-  pub ended : run limits job size (length old) ≡ outcome (s .stop) (s .records) (s .repeats) (answers-of given) (listed job work (s .rows))
+  pub holding : Holding job from old work answers s given
+  pub done : Done job from work (s .at) (s .records) (s .rows)
+  pub ended : run limits job (length from) (length old) ≡ outcome (s .stop) (s .records) (s .repeats) (answers-of given) (listed job work (s .rows))
 
 -- before the first record no step is there, and `true` and `false` are the only terms
 none-earlier : (job work answers : Bytes) → earlier-in job work answers 0 0 ≡ []
@@ -174,16 +177,16 @@ unfolding marks-in column
 none-earlier job work answers = refl
 
 start-tracks : {job work after : Bytes} (old : Bytes) → length job ≤ max-job → Started job work after
-    → Tracks 0 (origins after 0) (marks-in job old 0) (earlier-in job after old 0 0) (listed job after 0)
+    → Tracks 0 (origins job after 0) (marks-in job old 0) (earlier-in job after old 0 0) (listed job after 0)
 unfolding marks-in origins offsets column
 start-tracks {job} {work} {after} old h s = subst (Tracks 0 (0 ∷ 0 ∷ []) [] []) (sym (s .listed-is)) tracks-start
 
-start-memory : (job work : Bytes) {after : Bytes} → after ≡ replicate (length work) 0 → after ≡ memory-run job (length after) 0
+start-memory : (job from : Bytes) → from ≡ memory-run job from 0
 unfolding memory-run
-start-memory job work e = e ∙ ap (λ (n : ℕ). replicate n 0) (sym (ap length e ∙ length-replicate {A = ℕ} (length work) 0))
+start-memory job from = refl
 
 -- at the first record
-pub begins : (limits : Limits) {job work after : Bytes} (old : Bytes) → length job ≤ max-job → Started job work after → Between limits job (length after) old after old (state 0 0 0 0 0 0)
+pub begins : (limits : Limits) {job work after : Bytes} (old : Bytes) → length job ≤ max-job → Started job work after → Between limits job after old after old (state 0 0 0 0 0 0)
 begins limits {job} {work} {after} old h s = record {
   given = [];
   tracks = start-tracks old h s;
@@ -203,7 +206,7 @@ begins limits {job} {work} {after} old h s = record {
   done = record {
     at-is = refl;
     listed-is = s .listed-is;
-    memory-is = start-memory job work (s .all-zero);
+    memory-is = start-memory job after;
   };
   left = refl;
   before = omega arith;
@@ -212,7 +215,7 @@ begins limits {job} {work} {after} old h s = record {
 }
 
 -- what the next record may take for granted
-pub standing : {limits : Limits} {job old work answers : Bytes} {size : ℕ} {s : State} → Between limits job size old work answers s → Standing job work answers s
+pub standing : {limits : Limits} {job from old work answers : Bytes} {s : State} → Between limits job from old work answers s → Standing job work answers s
 standing b =
     let h = b .holding in
     let l = h .same-answers in
@@ -220,15 +223,15 @@ standing b =
     record { noted = record { store = h .store; roomy = omega arith; places = h .places }; counted = h .few; repeated = h .rarer }
 
 -- no record is left: the run ends with the ending's code
-last : {limits : Limits} {job old work answers : Bytes} {size : ℕ} {s : State} (b : Between limits job size old work answers s) → records-of (drop (s .at) job) ≡ [] → {c : ℕ} → ending job ≡ c
-    → run limits job size (length old) ≡ outcome c (s .records) (s .repeats) (answers-of (b .given)) (listed job work (s .rows))
-last {limits} {job} {old} {work} {answers} {size} {s} b none e =
-    b .leads ∙ run-ends limits size (length old) (ending job) (s .records) (s .repeats) (earlier-in job work answers (s .rows) (s .answers)) (listed job work (s .rows)) (answers-of (b .given)) none
+last : {limits : Limits} {job from old work answers : Bytes} {s : State} (b : Between limits job from old work answers s) → records-of (drop (s .at) job) ≡ [] → {c : ℕ} → ending job ≡ c
+    → run limits job (length from) (length old) ≡ outcome c (s .records) (s .repeats) (answers-of (b .given)) (listed job work (s .rows))
+last {limits} {job} {from} {old} {work} {answers} {s} b none e =
+    b .leads ∙ run-ends limits (length from) (length old) (ending job) (s .records) (s .repeats) (earlier-in job work answers (s .rows) (s .answers)) (listed job work (s .rows)) (answers-of (b .given)) none
     ∙ ap (λ (x : ℕ). outcome x (s .records) (s .repeats) (answers-of (b .given)) (listed job work (s .rows))) e
 
 -- the job ends where nothing is left
-pub ends : {limits : Limits} {job old work answers : Bytes} {size : ℕ} {s : State} → Between limits job size old work answers s → s .stop ≡ 0 → length job ≤ s .at → Stopped limits job size old work answers s
-ends {limits} {job} {old} {work} {answers} {size} {s} b z h =
+pub ends : {limits : Limits} {job from old work answers : Bytes} {s : State} → Between limits job from old work answers s → s .stop ≡ 0 → length job ≤ s .at → Stopped limits job from old work answers s
+ends {limits} {job} {from} {old} {work} {answers} {s} b z h =
     let w = b .holding .within in
     let l = length-drop (s .at) job in
     let none : records-of (drop (s .at) job) ≡ [] = records-broken (drop (s .at) job) (none-left (drop (s .at) job) (omega arith)) in
@@ -236,8 +239,10 @@ ends {limits} {job} {old} {work} {answers} {size} {s} b z h =
     record { given = b .given; holding = b .holding; done = b .done; ended = last b none (ends-whole job total ∙ sym z) }
 
 -- what the host is told of a job that stopped
-pub walked : {limits : Limits} {job old work answers : Bytes} {size : ℕ} {s : State} → length job ≤ max-job → Stopped limits job size old work answers s → {given-size : ℕ} → size ≡ given-size → Walked limits job given-size old work answers s
-walked {limits} {job} {old} {work} {answers} {size} {s} short t {given-size} same =
+pub walked : {limits : Limits} {job from old work answers : Bytes} {s : State} → length job ≤ max-job → Stopped limits job from old work answers s
+    → {lent : Bytes} → from ≡ cleared lent → Walked limits job lent old work answers s
+unfolding link-bytes
+walked {limits} {job} {from} {old} {work} {answers} {s} short t {lent} same =
     let h = t .holding in
     let c = h .counted in
     let n = h .store .count in
@@ -245,16 +250,16 @@ walked {limits} {job} {old} {work} {answers} {size} {s} short t {given-size} sam
     let b = h .few in
     let d = h .fewer in
     let q = h .rarer in
-    let f = h .store .table .slots .rows .few in
+    let f = h .store .table .rows .few in
     let m : length (answers-of (t .given)) ≡ length (t .given) = length-map (t .given) (λ (x : Note). x .1) in
     let y = h .roomy in
     let z = h .same-answers in
-    let e : run limits job given-size (length old) ≡ outcome (s .stop) (s .records) (s .repeats) (answers-of (t .given)) (listed job work (s .rows)) = ap (λ (m : ℕ). run limits job m (length old)) (sym same) ∙ t .ended in
+    let e : run limits job (length lent) (length old) ≡ outcome (s .stop) (s .records) (s .repeats) (answers-of (t .given)) (listed job work (s .rows)) = ap (λ (m : ℕ). run limits job m (length old)) (sym (ap length same ∙ length-cleared lent)) ∙ t .ended in
     let terms : s .rows + first-terms ≡ length (listed job work (s .rows)) = omega arith in
     record {
       result-is = ap₂ (λ (x y : ℕ). told-of x y) (c ∙ sym m) terms ∙ ap returned (sym e);
       at-is = t .done .at-is;
-      memory-is = t .done .memory-is ∙ ap (λ (m : ℕ). memory-run job m (s .records)) same;
+      memory-is = t .done .memory-is ∙ ap (λ (m : Bytes). memory-run job m (s .records)) same;
       roomy = omega arith;
       answers-are = ap (sealed (s .answers)) (h .written) ∙ notes-sealed old (t .given) c ∙ ap (λ (o : Outcome). answers-after (o .answers) old) (sym e);
       few-records = omega arith;
@@ -270,18 +275,18 @@ walked {limits} {job} {old} {work} {answers} {size} {s} short t {given-size} sam
 
 -- ---- the work memory that a job leaves, by the test of its length
 module _ (limits : Limits) (job work : Bytes) (space : ℕ) where
-  by-test : {b : Bool} → leb (length job) max-job ≡ b → cond b (memory-run job (length work) (run limits job (length work) space .records)) work ≡ memory-left limits job work space
+  by-test : {b : Bool} → leb (length job) max-job ≡ b → cond b (memory-run job (cleared work) (run limits job (length work) space .records)) work ≡ memory-left limits job work space
   unfolding memory-left
-  by-test e = sym (ap (λ (x : Bool). cond x (memory-run job (length work) (run limits job (length work) space .records)) work) e)
+  by-test e = sym (ap (λ (x : Bool). cond x (memory-run job (cleared work) (run limits job (length work) space .records)) work) e)
 
   -- a job that is too long
   pub left-long : max-job < length job → work ≡ memory-left limits job work space
   left-long h = by-test (lt-leb (length job) max-job h)
 
   -- a job that is read
-  pub left-short : length job ≤ max-job → {work′ : Bytes} {m : ℕ} → work′ ≡ memory-run job (length work) m → m ≡ run limits job (length work) space .records
+  pub left-short : length job ≤ max-job → {work′ : Bytes} {m : ℕ} → work′ ≡ memory-run job (cleared work) m → m ≡ run limits job (length work) space .records
       → work′ ≡ memory-left limits job work space
-  left-short h e k = e ∙ ap (memory-run job (length work)) k ∙ by-test (le-leb (length job) max-job h)
+  left-short h e k = e ∙ ap (memory-run job (cleared work)) k ∙ by-test (le-leb (length job) max-job h)
 
 -- ---- one record: the state after it, by the code
 module _ (size : ℕ) (s : State) (t : Turn) where
@@ -298,17 +303,17 @@ module _ (size : ℕ) (s : State) (t : Turn) where
       go zero k = absurd (k refl)
       go (suc c) k = refl
 
-module _ {limits : Limits} {job old work answers : Bytes} {size : ℕ} {s : State} (b : Between limits job size old work answers s) (more : s .at < length job) (work′ answers′ : Bytes)
+module _ {limits : Limits} {job from old work answers : Bytes} {s : State} (b : Between limits job from old work answers s) (more : s .at < length job) (work′ answers′ : Bytes)
     (lw : length work′ ≡ length work) (la : length answers′ ≡ length answers) where
   -- no whole record: code 3
   broke : whole (drop (s .at) job) ≡ false → work′ ≡ work → answers′ ≡ answers
-      → Stopped limits job size old work′ answers′ (state (s .at) 3 (s .records) (s .answers) (s .rows) (s .repeats))
+      → Stopped limits job from old work′ answers′ (state (s .at) 3 (s .records) (s .answers) (s .rows) (s .repeats))
   broke w p q =
       let h = b .holding in
       let none : records-of (drop (s .at) job) ≡ [] = records-broken (drop (s .at) job) w in
       let total : total-length (records-of job) ≡ s .at + 0 = b .before ∙ ap (λ (rs : List Bytes). s .at + total-length rs) none in
-      subst (λ (x : Bytes). Stopped limits job size old x answers′ (state (s .at) 3 (s .records) (s .answers) (s .rows) (s .repeats))) (sym p)
-      (subst (λ (x : Bytes). Stopped limits job size old work x (state (s .at) 3 (s .records) (s .answers) (s .rows) (s .repeats))) (sym q) (record {
+      subst (λ (x : Bytes). Stopped limits job from old x answers′ (state (s .at) 3 (s .records) (s .answers) (s .rows) (s .repeats))) (sym p)
+      (subst (λ (x : Bytes). Stopped limits job from old work x (state (s .at) 3 (s .records) (s .answers) (s .rows) (s .repeats))) (sym q) (record {
         given = b .given;
         holding = record {
           store = h .store;
@@ -345,15 +350,15 @@ module _ {limits : Limits} {job old work answers : Bytes} {size : ℕ} {s : Stat
 
   module _ (w : whole (drop (s .at) job) ≡ true) (t : Turn) (turned : Turned limits job work answers (s .rows) (s .answers) (s .at) work′ answers′ t) where
     -- it is the run's next record
-    here : run limits job size (length old) ≡ run-from limits size (length old) (ending job) (s .records) (s .repeats) E list (answers-of (b .given)) (r ∷ left)
-    here = b .leads ∙ ap (run-from limits size (length old) (ending job) (s .records) (s .repeats) E list (answers-of (b .given))) (records-whole (drop (s .at) job) w)
+    here : run limits job (length from) (length old) ≡ run-from limits (length from) (length old) (ending job) (s .records) (s .repeats) E list (answers-of (b .given)) (r ∷ left)
+    here = b .leads ∙ ap (run-from limits (length from) (length old) (ending job) (s .records) (s .repeats) E list (answers-of (b .given))) (records-whole (drop (s .at) job) w)
 
     -- as many answers as the code counts
     counts : s .answers ≡ length (answers-of (b .given))
     counts = b .holding .counted ∙ sym (length-map (b .given) (λ (x : Note). x .1))
 
     -- its code
-    test : fault limits size (length old) list (length (answers-of (b .given))) r ≡ t .code
+    test : fault limits (length from) (length old) list (length (answers-of (b .given))) r ≡ t .code
     test =
         let h = b .holding in
         sym (turned .code-is ∙ ap (λ (k : ℕ). fault limits (length work) (length answers) list k r) counts
@@ -402,13 +407,13 @@ module _ {limits : Limits} {job old work answers : Bytes} {size : ℕ} {s : Stat
 
       -- what holds at a state after it
       near : s .at < 16777216
-      near = let z = b .holding .store .table .slots .rows .short in omega arith
+      near = let z = b .holding .store .table .rows .short in omega arith
 
       room : answer-bytes * s .answers ≤ length answers
       room = let x = b .holding .same-answers in let y = b .holding .roomy in omega arith
 
       held : (at records repeats : ℕ) (stop : ℕ) → at ≤ length job → records ≤ at → t .answers ≤ records → repeats ≤ records
-          → Holding job size old work′ answers′ (state at stop records (t .answers) (t .rows) repeats) (b .given ++ at-record (s .at) new)
+          → Holding job from old work′ answers′ (state at stop records (t .answers) (t .rows) repeats) (b .given ++ at-record (s .at) new)
       held at records repeats stop p q o v =
           let h = b .holding in
           record {
@@ -428,29 +433,30 @@ module _ {limits : Limits} {job old work answers : Bytes} {size : ℕ} {s : Stat
 
     -- no code: the run goes on after the record
     -- the earlier steps after it
-    tracked : t .code ≡ 0 → Tracks (s .at + n) (origins work′ (t .rows)) (marks-in job answers′ (t .answers)) (recall E list r) (listed job work′ (t .rows))
+    tracked : t .code ≡ 0 → Tracks (s .at + n) (origins job work′ (t .rows)) (marks-in job answers′ (t .answers)) (recall E list r) (listed job work′ (t .rows))
+    unfolding link-bytes
     tracked e =
         let h = b .holding in
         let st = stands job (s .at) w in
         let p = st .low in
-        let few = h .store .table .slots .rows .few in
+        let few = h .store .table .rows .few in
         let c = h .store .count in
         let f = test ∙ e in
-        let small = new-small limits size (length old) E list (length (answers-of (b .given))) r f (h .store .well) (omega arith) in
-        let os : origins-item (origins work (s .rows)) list (s .at) r (read r) ≡ origins work′ (t .rows)
-        = sym (turned .origins-are ∙ ap (λ (x : ℕ). passed x (origins-item (origins work (s .rows)) list (s .at) r (read r)) (origins work (s .rows))) e) in
+        let small = new-small limits (length from) (length old) E list (length (answers-of (b .given))) r f (h .store .well) (omega arith) in
+        let os : origins-item (origins job work (s .rows)) list (s .at) r (read r) ≡ origins job work′ (t .rows)
+        = sym (turned .origins-are ∙ ap (λ (x : ℕ). passed x (origins-item (origins job work (s .rows)) list (s .at) r (read r)) (origins job work (s .rows))) e) in
         let ms : marks-item (marks-in job answers (s .answers)) (s .at) (read r) (answers-to E list r) ≡ marks-in job answers′ (t .answers)
         = sym (ap₂ (marks-in job) (wrote-new 0 e) (count 0 e) ∙ marks-more job answers (s .answers) (s .at) (room 0 e) (near 0 e) E list small) in
         let ls : feed list r ≡ listed job work′ (t .rows) = sym (turned .listed-is ∙ ap (λ (x : ℕ). passed x (feed list r) list) e) in
-        subst (λ (l : Plain). Tracks (s .at + n) (origins work′ (t .rows)) (marks-in job answers′ (t .answers)) (recall E list r) l) ls
+        subst (λ (l : Plain). Tracks (s .at + n) (origins job work′ (t .rows)) (marks-in job answers′ (t .answers)) (recall E list r) l) ls
         (subst₂ (λ (o : List ℕ) (m : List Mark). Tracks (s .at + n) o m (recall E list r) (feed list r)) os ms
-        (tracks-next limits size (length old) (length (answers-of (b .given))) (s .at) (s .at + n) r (origins work (s .rows)) (marks-in job answers (s .answers)) E list (b .tracks) (omega arith) f))
+        (tracks-next limits (length from) (length old) (length (answers-of (b .given))) (s .at) (s .at + n) r (origins job work (s .rows)) (marks-in job answers (s .answers)) E list (b .tracks) (omega arith) f))
 
     -- the repeats that it adds
     counted-repeats : t .code ≡ 0 → t .repeats ≡ repeat-of list r
     counted-repeats e = turned .repeats-is ∙ ap (λ (x : ℕ). passed x (repeat-of list r) 0) e
 
-    took : t .code ≡ 0 → Between limits job size old work′ answers′ (state (s .at + n) 0 (s .records + 1) (t .answers) (t .rows) (s .repeats + t .repeats))
+    took : t .code ≡ 0 → Between limits job from old work′ answers′ (state (s .at + n) 0 (s .records + 1) (t .answers) (t .rows) (s .repeats + t .repeats))
     took e =
         let h = b .holding in
         let st = stands job (s .at) w in
@@ -468,28 +474,28 @@ module _ {limits : Limits} {job old work answers : Bytes} {size : ℕ} {s : Stat
         let len : length r ≡ n = length-take-le n (drop (s .at) job) (let m = length-drop (s .at) job in omega arith) in
         record {
           given = b .given ++ at-record (s .at) (answers-to E list r);
-          tracks = subst (λ (x : Earlier). Tracks (s .at + n) (origins work′ (t .rows)) (marks-in job answers′ (t .answers)) x (listed job work′ (t .rows))) (tracked e .is) (tracked e);
+          tracks = subst (λ (x : Earlier). Tracks (s .at + n) (origins job work′ (t .rows)) (marks-in job answers′ (t .answers)) x (listed job work′ (t .rows))) (tracked e .is) (tracked e);
           holding = held 0 e (s .at + n) (s .records + 1) (s .repeats + t .repeats) 0 (omega arith) (omega arith) (omega arith) (omega arith);
           done = done-more (b .done) (h .store .count) next-left len (turned .listed-is ∙ ap (λ (x : ℕ). passed x (feed list r) list) e)
               (turned .memory-is ∙ ap (λ (x : ℕ). passed x (memory-at job work (s .rows) (s .at)) work) e);
           left = left-more (b .done) (h .store .count) next-left ∙ ap records-of d;
           before = b .before ∙ ap (λ (rs : List Bytes). s .at + total-length rs) (records-whole (drop (s .at) job) w)
               ∙ ap (λ (m : ℕ). s .at + (m + total-length left)) len ∙ ap (λ (bs : Bytes). s .at + (n + total-length (records-of bs))) d ∙ omega arith;
-          leads = here ∙ run-record limits size (length old) (ending job) (s .records) (s .repeats) E list (answers-of (b .given)) r left (test ∙ e)
-              ∙ ap₂ (λ (x : Earlier) (l : Plain). run-from limits size (length old) (ending job) (suc (s .records)) (s .repeats + repeat-of list r) x l (answers-of (b .given) ++ answers-to E list r) left)
+          leads = here ∙ run-record limits (length from) (length old) (ending job) (s .records) (s .repeats) E list (answers-of (b .given)) r left (test ∙ e)
+              ∙ ap₂ (λ (x : Earlier) (l : Plain). run-from limits (length from) (length old) (ending job) (suc (s .records)) (s .repeats + repeat-of list r) x l (answers-of (b .given) ++ answers-to E list r) left)
               (tracked e .is) (sym (turned .listed-is ∙ ap (λ (x : ℕ). passed x (feed list r) list) e))
-              ∙ ap (λ (xs : List Answer). run-from limits size (length old) (ending job) (suc (s .records)) (s .repeats + repeat-of list r) (earlier-in job work′ answers′ (t .rows) (t .answers)) (listed job work′ (t .rows)) xs left)
+              ∙ ap (λ (xs : List Answer). run-from limits (length from) (length old) (ending job) (suc (s .records)) (s .repeats + repeat-of list r) (earlier-in job work′ answers′ (t .rows) (t .answers)) (listed job work′ (t .rows)) xs left)
               (sym (answers-more (b .given) (s .at) (answers-to E list r)))
-              ∙ ap₂ (λ (m : ℕ) (bs : Bytes). run-from limits size (length old) (ending job) m (s .repeats + repeat-of list r) (earlier-in job work′ answers′ (t .rows) (t .answers)) (listed job work′ (t .rows))
+              ∙ ap₂ (λ (m : ℕ) (bs : Bytes). run-from limits (length from) (length old) (ending job) m (s .repeats + repeat-of list r) (earlier-in job work′ answers′ (t .rows) (t .answers)) (listed job work′ (t .rows))
               (answers-of (b .given ++ at-record (s .at) (answers-to E list r))) (records-of bs))
               (sym (add-one (s .records))) d
-              ∙ ap (λ (i : ℕ). run-from limits size (length old) (ending job) (s .records + 1) (s .repeats + i) (earlier-in job work′ answers′ (t .rows) (t .answers)) (listed job work′ (t .rows))
+              ∙ ap (λ (i : ℕ). run-from limits (length from) (length old) (ending job) (s .records + 1) (s .repeats + i) (earlier-in job work′ answers′ (t .rows) (t .answers)) (listed job work′ (t .rows))
               (answers-of (b .given ++ at-record (s .at) (answers-to E list r))) (records-of (drop (s .at + n) job)))
               (sym (counted-repeats e));
         }
 
     -- a code: the run stops at the record
-    halted : (c : ℕ) → t .code ≡ suc c → Stopped limits job size old work′ answers′ (state (s .at) (suc c) (s .records) (t .answers) (t .rows) (s .repeats))
+    halted : (c : ℕ) → t .code ≡ suc c → Stopped limits job from old work′ answers′ (state (s .at) (suc c) (s .records) (t .answers) (t .rows) (s .repeats))
     halted c e =
         let h = b .holding in
         let o = h .fewer in
@@ -502,13 +508,13 @@ module _ {limits : Limits} {job old work answers : Bytes} {size : ℕ} {s : Stat
             listed-is = turned .listed-is ∙ ap (λ (x : ℕ). passed x (feed list r) list) e ∙ b .done .listed-is;
             memory-is = turned .memory-is ∙ ap (λ (x : ℕ). passed x (memory-at job work (s .rows) (s .at)) work) e ∙ b .done .memory-is;
           };
-          ended = here ∙ run-record limits size (length old) (ending job) (s .records) (s .repeats) E list (answers-of (b .given)) r left (test ∙ e)
+          ended = here ∙ run-record limits (length from) (length old) (ending job) (s .records) (s .repeats) E list (answers-of (b .given)) r left (test ∙ e)
               ∙ ap₂ (outcome (suc c) (s .records) (s .repeats)) (ap answers-of (sym (append-nil (b .given)))) (sym (turned .listed-is ∙ ap (λ (x : ℕ). passed x (feed list r) list) e));
         }
 
   -- the next state: it has no code and stands further on, between two records, or it has one and the run ends there
   abbrev After : State → Type 0
-  After s′ = ((s′ .stop ≡ 0) × (Between limits job size old work′ answers′ s′ × (s .at < s′ .at))) ⊎ ((s′ .stop ≡ 0 → ⊥) × Stopped limits job size old work′ answers′ s′)
+  After s′ = ((s′ .stop ≡ 0) × (Between limits job from old work′ answers′ s′ × (s .at < s′ .at))) ⊎ ((s′ .stop ≡ 0 → ⊥) × Stopped limits job from old work′ answers′ s′)
 
   -- each way that a record can take
   after : {s′ : State} → Next limits job work answers s work′ answers′ s′ → After s′
@@ -521,9 +527,9 @@ module _ {limits : Limits} {job old work answers : Bytes} {size : ℕ} {s : Stat
       go (suc c) f = inr (λ z. omega arith, halted w t turned c f)
 
   -- the loop goes on
-  pub goes : {s′ : State} → Next limits job work answers s work′ answers′ s′ → s′ .stop ≡ 0 → Between limits job size old work′ answers′ s′ × (s .at < s′ .at)
+  pub goes : {s′ : State} → Next limits job work answers s work′ answers′ s′ → s′ .stop ≡ 0 → Between limits job from old work′ answers′ s′ × (s .at < s′ .at)
   goes x z = ⊎-elim (λ p. p .1) (λ p. absurd (p .0 z)) (after x)
 
   -- the loop stops
-  pub stops : {s′ : State} → Next limits job work answers s work′ answers′ s′ → (s′ .stop ≡ 0 → ⊥) → Stopped limits job size old work′ answers′ s′
+  pub stops : {s′ : State} → Next limits job work answers s work′ answers′ s′ → (s′ .stop ≡ 0 → ⊥) → Stopped limits job from old work′ answers′ s′
   stops x f = ⊎-elim (λ p. absurd (f (p .0))) (λ p. p .1) (after x)

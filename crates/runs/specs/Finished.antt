@@ -7,7 +7,7 @@ use Rattle.theory.specs.Record.{Bytes}
 use Rattle.theory.specs.Plain.{plain-after}
 use Rattle.theory.specs.Job.{returned, run, answers-after}
 use Rattle.store.specs.Store.{listed}
-use Rattle.shelf.specs.Shelf.{Shelf}
+use Rattle.store.specs.Shelf.{Shelf}
 use Rattle.runs.specs.declared.walk.State.{State}
 use Rattle.runs.specs.Walking.{reached, memory-left}
 

@@ -3,7 +3,7 @@ use mathlib.Core.Path.{_≡_}
 use mathlib.Core.Bool.{true, false, cond}
 use Prim.Native.Nat.{ℕ, zero, suc, _+_, _-_, _*_, _≤_, _<_}
 use lib.Dec.{leb}
-use lib.ListN.{length, take, drop, replicate}
+use lib.ListN.{length, take, drop}
 use Rattle.theory.specs.Limit.{Limits, first-terms, max-terms, max-job, answer-bytes}
 use Rattle.theory.specs.Record.{Bytes, extent, whole, records-of, total-length}
 use Rattle.theory.specs.Plain.{plain-after}
@@ -12,6 +12,7 @@ use Rattle.terms.specs.declared.Frame.the-variants.{Broken}
 use Rattle.terms.specs.Framing.{frame-code}
 use Rattle.steps.specs.Answering.{sealed}
 use Rattle.chains.specs.Premises.{Noted}
+use Rattle.table.specs.Promise.{cleared}
 use Rattle.store.specs.Store.{Store, listed}
 use Rattle.runs.specs.declared.Outcome.{Outcome}
 use Rattle.records.specs.declared.Turn.{Turn}
@@ -56,26 +57,26 @@ pub record Enough (job work used : ℕ) : Type 0 where
   pub enough : used < work → 4 * job ≤ used
 
 -- ---- the work memory
--- after the first m records of a job, in so many bytes: all zero before the first, then as each record leaves it
-unfoldable pub memory-run : Bytes → ℕ → ℕ → Bytes
-memory-run job size zero = replicate size 0
-memory-run job size (suc m) =
-    memory-at job (memory-run job size m) (length (plain-after m job) - first-terms) (total-length (take m (records-of job)))
+-- after the first m records of a job, by what it was before them: as each record leaves it
+unfoldable pub memory-run : Bytes → Bytes → ℕ → Bytes
+memory-run job from zero = from
+memory-run job from (suc m) =
+    memory-at job (memory-run job from m) (length (plain-after m job) - first-terms) (total-length (take m (records-of job)))
 
--- as a job leaves it: untouched where the job is too long to be read, else as the records done leave it
+-- as a job leaves it: untouched where the job is too long to be read, else cleared, and then as the records done leave it
 unfoldable pub memory-left : Limits → Bytes → Bytes → ℕ → Bytes
 memory-left limits job work space =
-    cond (leb (length job) max-job) (memory-run job (length work) (run limits job (length work) space .records)) work
+    cond (leb (length job) max-job) (memory-run job (cleared work) (run limits job (length work) space .records)) work
 
 -- ---- the whole job
 -- what the host is to be told of it, and the answers' memory once its answers have their length and kind; where the records done end, the work
 -- memory after them, and the terms that are kept then; the numbers fit into 32 bits
-pub record Walked (limits : Limits) (job : Bytes) (size : ℕ) (old work answers : Bytes) (s : State) : Type 0 where
-  pub result-is : reached s ≡ returned (run limits job size (length old))
+pub record Walked (limits : Limits) (job lent old work answers : Bytes) (s : State) : Type 0 where
+  pub result-is : reached s ≡ returned (run limits job (length lent) (length old))
   pub at-is : s .at ≡ total-length (take (s .records) (records-of job))
-  pub memory-is : work ≡ memory-run job size (s .records)
+  pub memory-is : work ≡ memory-run job (cleared lent) (s .records)
   pub roomy : answer-bytes * s .answers ≤ length answers
-  pub answers-are : sealed (s .answers) answers ≡ answers-after (run limits job size (length old) .answers) old
+  pub answers-are : sealed (s .answers) answers ≡ answers-after (run limits job (length lent) (length old) .answers) old
   pub few-records : s .records ≤ max-job
   pub few-answers : s .answers ≤ max-job
   pub few-terms : s .rows + first-terms ≤ max-terms

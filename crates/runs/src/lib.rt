@@ -5,6 +5,7 @@ pub mod walk;
 ghost use mathlib.Core.Path.{_≡_};
 ghost use lib.ListN.{length};
 ghost use Rattle.theory.specs.Job.{call};
+ghost use Rattle.table.specs.Promise.{carried};
 ghost use Rattle.intern.specs.Interning.{limits-of};
 ghost use Rattle.runs.specs.Walking.{told, Enough, memory-left};
 use crate::finished::outcome_of;
@@ -42,4 +43,14 @@ pub fn used(size: usize, lent: usize) -> usize
     ensures { λ r. ⌜ Enough size lent r ⌝ }
 {
     if size < lent / 4 { 4 * size } else { lent }
+}
+
+// Gives a job its part of the work memory, the first bytes of it, with the seed at their end.
+pub fn lend(size: usize, work: &mut [u8]) -> usize
+    ensures part { λ r. ⌜ Enough size (length (now (work .entry))) r ⌝ }
+    ensures memory { λ r. ⌜ now (work .exit) ≡ carried (now (work .entry)) r ⌝ }
+{
+    let n = used(size, work.len());
+    table::carry_seed(work, n);
+    n
 }

@@ -61,7 +61,7 @@ fn next(job: &[u8], work: &mut [u8], answers: &mut [u8], limits: Limits, s: Stat
 // Takes all records of a job, under limits that the caller states.
 pub fn walk(job: &[u8], work: &mut [u8], answers: &mut [u8], limits: Limits) -> State
     requires { ⌜ length (now job) ≤ max-job ⌝ }
-    ensures { λ r. ⌜ Walked (limits-of limits) (now (job .entry)) (length (now (work .entry))) (now (answers .entry))
+    ensures { λ r. ⌜ Walked (limits-of limits) (now (job .entry)) (now (work .entry)) (now (answers .entry))
         (now (work .exit)) (now (answers .exit)) r ⌝ }
 {
     intern::start(job, work);

@@ -19,7 +19,7 @@ ghost use lib.ListN.{take, drop, getD};
 ghost use Rattle.theory.specs.Limit.{max-width};
 ghost use Rattle.theory.specs.Circuit.{drop-top, next-carry, all-false, next-remainder, no-carry, reduced, divide-step, bitblast-udiv-urem-rec, is-zero, udiv, urem};
 ghost use Rattle.rows.specs.Rows.{kept};
-ghost use Rattle.table.specs.Slots.{Table};
+ghost use Rattle.table.specs.Buckets.{Table};
 ghost use Rattle.store.specs.Numbers.{numbers, false-number, is-false-number};
 
 // Whether every bit of x is literally `false`, where bitblast_udiv_urem_rec stops. No gate is read.

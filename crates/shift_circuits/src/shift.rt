@@ -12,7 +12,7 @@ ghost use lib.ListN.{take};
 ghost use Rattle.theory.specs.Limit.{max-width};
 ghost use Rattle.theory.specs.Circuit.{shl-stage, shl-stages, shr-stage, shr-stages, clog2, bounded, shl, lshr, ashr};
 ghost use Rattle.rows.specs.Rows.{kept};
-ghost use Rattle.table.specs.Slots.{Table};
+ghost use Rattle.table.specs.Buckets.{Table};
 ghost use Rattle.store.specs.Numbers.{numbers};
 
 // bitblast_shift_op, stage s to the left: where y is true, bit i is bit i - 2^s of p, and `false` where there is none.

@@ -13,7 +13,7 @@ use Rattle.theory.specs.Chain.{sides}
 use Rattle.theory.specs.Record.{Bytes, bytes-of, word-bytes}
 use Rattle.theory.specs.Codes.{all-below}
 use Rattle.theory.specs.Answer.{Answer, answer-kind}
-use Rattle.rows.specs.Layout.{number-at, offset-number}
+use Rattle.rows.specs.Layout.{number-at, offset-bytes}
 use Rattle.terms.specs.declared.Args.{Args}
 use Rattle.terms.specs.Decoded.{Inside, words-in}
 use Rattle.store.specs.Store.{Store}
@@ -51,11 +51,11 @@ with-notes old k place new = take (answer-bytes * k) old ++ (notes place new ++ 
 
 -- the place of the record of answer k's step
 abbrev pub step-place : Bytes → ℕ → ℕ
-step-place memory k = offset-number memory (answer-bytes * k)
+step-place memory k = number-at memory (answer-bytes * k) offset-bytes
 
 -- the code of answer k
 abbrev pub step-code : Bytes → ℕ → ℕ
-step-code memory k = number-at memory (answer-bytes * k + (head-bytes + number-bytes))
+step-code memory k = number-at memory (answer-bytes * k + (head-bytes + number-bytes)) number-bytes
 
 -- an answer's length and kind
 abbrev pub encode-head : Bytes

@@ -8,8 +8,8 @@ ghost use Rattle.theory.specs.Limit.{answer-bytes, max-job};
 ghost use Rattle.rows.specs.Layout.{Bounded, number-end};
 ghost use Rattle.steps.specs.Answering.{given, step-place, step-code, with-notes, sealed};
 use rows::bytes::number;
-use rows::bytes::offset;
 use rows::bytes::put_number;
+use rows::layout::OFFSET_BYTES;
 use terms::ANSWER_BYTES;
 use terms::ANSWER_KIND_AT;
 use terms::CODE_AT;
@@ -45,7 +45,7 @@ pub fn place_at(d: &[u8], k: usize) -> usize
     requires { ⌜ answer-bytes * suc k ≤ length (now d) ⌝ }
     ensures { λ r. ⌜ Bounded r (step-place (now (d .entry)) k) max-job ⌝ }
 {
-    offset(d, ANSWER_BYTES * k)
+    number(d, ANSWER_BYTES * k, OFFSET_BYTES)
 }
 
 // The code of answer k.
@@ -53,7 +53,7 @@ pub fn code_at(d: &[u8], k: usize) -> usize
     requires { ⌜ answer-bytes * suc k ≤ length (now d) ⌝ }
     ensures { λ r. ⌜ Bounded r (step-code (now (d .entry)) k) number-end ⌝ }
 {
-    number(d, ANSWER_BYTES * k + CODE_AT)
+    number(d, ANSWER_BYTES * k + CODE_AT, Term::NUMBER_BYTES)
 }
 
 // Writes the length and the kind of the first n answers.

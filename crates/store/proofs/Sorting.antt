@@ -1,27 +1,44 @@
 -- The sort and the depth of the term at a place, by its row.
-use mathlib.Core.Path.{_≡_, refl, sym, ap, _∙_}
-use Prim.Native.Nat.{ℕ, zero, suc, _+_, _-_, _<_, _≤_}
+use mathlib.Core.Path.{_≡_, refl, sym, ap, subst, _∙_}
+use mathlib.Core.List.{[], map}
+use native.Mathlib.Nat.{add-zero}
+use Prim.Native.Nat.{ℕ, zero, suc, _+_, _-_, _*_, _<_, _≤_}
 use native.Mathlib.Omega.{arith}
 use lib.Dec.{T, leb, leb→le}
-use lib.Ieee.Fits.{and-l}
+use lib.Ieee.Fits.{and-l, and-r}
+use lib.ListN.{drop, length, take}
+use lib.Seq.{drop-drop, getD-take}
 use Rattle.theory.specs.Limit.{first-terms}
-use Rattle.theory.specs.Term.{fold}
-use Rattle.theory.specs.Sort.{Sort, bool, bv, guard, good, sort-width, sort-of}
+use Rattle.rows.proofs.RowLaws.{length-record, number-same}
+use Rattle.theory.specs.Kind.{kind}
+use Rattle.theory.specs.Term.{Term, fold, from-list}
+use Rattle.theory.specs.Sort.{Sort, bad, bool, bv, guard, good, sort-width, sort-of}
 use Rattle.theory.specs.Depth.{depth}
-use Rattle.theory.specs.Record.{Bytes}
-use Rattle.theory.proofs.Places.{tree-at}
+use Rattle.theory.specs.Record.{Bytes, extent, little-endian, number-length, read, term, word}
+use Rattle.theory.specs.Places.{tree-at, tree-of}
+use Rattle.theory.proofs.Bytes.{Sound, term-kind}
 use Rattle.theory.proofs.Run.{good-at}
 use Rattle.theory.proofs.Sorts.{sized, sorts-sized}
 use Rattle.theory.proofs.Distinct.{tree-0, tree-1}
-use Rattle.rows.specs.Layout.{depth-at, width-at}
-use Rattle.store.specs.Store.{Store, listed}
+use Rattle.rows.specs.Layout.{Bounded, link-size, measure-at, number-at, offset-at}
+use Rattle.terms.specs.Framing.{record-at}
+use Rattle.store.specs.Measure.{measure, depth-in, width-in}
+use Rattle.store.specs.Store.{listed}
+use Rattle.store.specs.Shelf.{Shelf}
+use Rattle.store.proofs.Measuring.{depth-is, width-is}
+use Rattle.store.proofs.Keeping.{row-kept, row-says, row-sound}
 
 -- ---- the sort of a term, by its width
 by-width : (s : Sort) → T (good s) → T (sized s) → (sort-width s ≡ 0 → bool ≡ s) × ((sort-width s ≡ 0 → ⊥) → bv (sort-width s) ≡ s)
 by-width bool g z = (λ e. refl, λ f. absurd (f refl))
 by-width (bv n) g z = (λ e. absurd (let h = leb→le 1 n (and-l (leb 1 n) _ z) in omega arith), λ f. refl)
 
-module _ {job work : Bytes} {n : ℕ} (s : Store job work n) where
+width-least : (s : Sort) → T (sized s) → sort-width s ≤ 64
+width-least bad h = omega arith
+width-least bool h = omega arith
+width-least (bv n) h = leb→le n 64 (and-r (leb 1 n) _ h)
+
+module _ {job work : Bytes} {n : ℕ} (s : Shelf job work n) where
   -- `true` and `false`
   pub low-sort : (p : ℕ) → p < first-terms → bool ≡ sort-of (tree-at (listed job work n) p)
   unfolding fold guard
@@ -29,29 +46,84 @@ module _ {job work : Bytes} {n : ℕ} (s : Store job work n) where
   low-sort (suc zero) h = ap sort-of (sym (tree-1 (listed job work n) (s .well)))
   low-sort (suc (suc p)) h = absurd (omega arith)
 
+  pub low-width : (p : ℕ) → p < first-terms → 0 ≡ sort-width (sort-of (tree-at (listed job work n) p))
+  low-width p h = ap sort-width (low-sort p h)
+
   pub low-depth : (p : ℕ) → p < first-terms → 0 ≡ depth (tree-at (listed job work n) p)
   unfolding depth
   low-depth zero h = ap depth (sym (tree-0 (listed job work n) (s .well)))
   low-depth (suc zero) h = ap depth (sym (tree-1 (listed job work n) (s .well)))
   low-depth (suc (suc p)) h = absurd (omega arith)
 
-  -- the term of a row
+  -- the term of row k, and what stands in its record
+  module _ (k : ℕ) (h : k < n) {at : ℕ} (e : at ≡ offset-at (link-size job) work k) where
+    -- the record lies in the job, and has a length and a kind
+    pub row-stands : (at + extent (drop at job) ≤ length job) × (4 ≤ extent (drop at job))
+    row-stands = (inside, let z = row-sound s k h .long in let l = length-record job [] (offset-at (link-size job) work k) (s .rows .inside k h) in rw e (omega arith))
+      where
+        inside : at + extent (drop at job) ≤ length job
+        inside = rw e (s .rows .inside k h)
+
+    record-number : (i : ℕ) → i + 2 ≤ 4 → number-at (record-at job at) i 2 ≡ number-at job (at + i) 2
+    record-number i l =
+        number-same 2 (record-at job at) (drop at job) i (λ j b. getD-take (extent (drop at job)) (drop at job) (i + j) 0 (let z = row-stands .1 in omega arith))
+        ∙ ap (λ (bs : Bytes). little-endian (take 2 bs)) (drop-drop i at job)
+
+    row-tree : tree-at (listed job work n) (first-terms + k) ≡ tree-of (listed job work n) (row-kept s k h .op) (row-kept s k h .args)
+    row-tree = row-kept s k h .made
+
+    row-read : read (record-at job at) ≡ term (row-kept s k h .op) (row-kept s k h .args)
+    row-read = ap (λ (o : ℕ). read (record-at job o)) e ∙ row-says s k h
+
+    row-sound-at : Sound (record-at job at)
+    row-sound-at = subst (λ (o : ℕ). Sound (record-at job o)) (sym e) (row-sound s k h)
+
+    kind-is : {c : ℕ} → c ≡ number-at job (at + 2) 2 → c ≡ kind (row-kept s k h .op)
+    kind-is f = f ∙ sym (record-number 2 (omega arith)) ∙ term-kind (record-at job at) (row-kept s k h .op) (row-kept s k h .args) row-read
+
+    size-is : {z : ℕ} → z ≡ number-at job at 2 → z ≡ word (record-at job at)
+    size-is f = f ∙ ap (λ (i : ℕ). number-at job i 2) (sym (add-zero at)) ∙ sym (record-number 0 (omega arith))
+
+    row-width-in : {b c z m : ℕ} → b ≡ number-length job → c ≡ number-at job (at + 2) 2 → z ≡ number-at job at 2 → m ≡ measure-at (link-size job) work k
+        → width-in b c z m ≡ sort-width (sort-of (tree-at (listed job work n) (first-terms + k)))
+    row-width-in {b} {c} {z} {m} be ce ze me =
+        let q = row-kept s k h in
+        let list = listed job work n in
+        let fine = subst (λ (t : Term). T (good (sort-of t))) row-tree (good-at list (first-terms + k) (s .sorted) (omega (arith, s .count))) in
+        rw (be, kind-is ce, size-is ze, me ∙ s .measures-are k h ∙ ap measure row-tree, row-tree)
+        (width-is (record-at job at) (q .op) (q .args) (tree-at list) row-read row-sound-at fine)
+
+    pub row-width : {w b c z m : ℕ} → w ≡ width-in b c z m → b ≡ number-length job → c ≡ number-at job (at + 2) 2 → z ≡ number-at job at 2
+        → m ≡ measure-at (link-size job) work k → Bounded w (sort-width (sort-of (tree-at (listed job work n) (first-terms + k)))) 256
+    row-width {w} we be ce ze me =
+        let t = tree-at (listed job work n) (first-terms + k) in
+        let e = we ∙ row-width-in be ce ze me in
+        record { value = e; below = let z = width-least (sort-of t) (sorts-sized t) in omega arith }
+
+    pub row-depth : {c m : ℕ} → c ≡ number-at job (at + 2) 2 → m ≡ measure-at (link-size job) work k
+        → depth-in c m ≡ depth (tree-at (listed job work n) (first-terms + k))
+    row-depth {c} {m} ce me =
+        let q = row-kept s k h in
+        rw (kind-is ce, me ∙ s .measures-are k h ∙ ap measure row-tree, row-tree)
+        (depth-is (q .op) (from-list (map (tree-at (listed job work n)) (q .args))))
+
+  -- the sort of a row's term, by its width
   module _ (p : ℕ) (h : first-terms ≤ p) (l : p < first-terms + n) where
     row-place : first-terms + (p - first-terms) ≡ p
     row-place = omega arith
-
-    row-width : width-at work (p - first-terms) ≡ sort-width (sort-of (tree-at (listed job work n) p))
-    row-width = s .widths-are (p - first-terms) (omega arith) ∙ ap (λ (k : ℕ). sort-width (sort-of (tree-at (listed job work n) k))) row-place
 
     row-by : (sort-width (sort-of (tree-at (listed job work n) p)) ≡ 0 → bool ≡ sort-of (tree-at (listed job work n) p))
         × ((sort-width (sort-of (tree-at (listed job work n) p)) ≡ 0 → ⊥) → bv (sort-width (sort-of (tree-at (listed job work n) p))) ≡ sort-of (tree-at (listed job work n) p))
     row-by = by-width _ (good-at (listed job work n) p (s .sorted) (omega (arith, s .count))) (sorts-sized (tree-at (listed job work n) p))
 
-    pub row-bool : {w : ℕ} → w ≡ width-at work (p - first-terms) → w ≡ 0 → bool ≡ sort-of (tree-at (listed job work n) p)
-    row-bool e z = row-by .0 (sym row-width ∙ sym e ∙ z)
+    pub at-place : {w : ℕ} → w ≡ sort-width (sort-of (tree-at (listed job work n) (first-terms + (p - first-terms)))) → w ≡ sort-width (sort-of (tree-at (listed job work n) p))
+    at-place e = e ∙ ap (λ (i : ℕ). sort-width (sort-of (tree-at (listed job work n) i))) row-place
 
-    pub row-bv : {w : ℕ} → w ≡ width-at work (p - first-terms) → (w ≡ 0 → ⊥) → bv w ≡ sort-of (tree-at (listed job work n) p)
-    row-bv e f = ap bv (e ∙ row-width) ∙ row-by .1 (λ z. f (e ∙ row-width ∙ z))
+    pub row-bool : {w : ℕ} → w ≡ sort-width (sort-of (tree-at (listed job work n) (first-terms + (p - first-terms)))) → w ≡ 0 → bool ≡ sort-of (tree-at (listed job work n) p)
+    row-bool e z = row-by .0 (sym (at-place e) ∙ z)
 
-    pub row-depth : {d : ℕ} → d ≡ depth-at work (p - first-terms) → d ≡ depth (tree-at (listed job work n) p)
-    row-depth e = e ∙ s .depths-are (p - first-terms) (omega arith) ∙ ap (λ (k : ℕ). depth (tree-at (listed job work n) k)) row-place
+    pub row-bv : {w : ℕ} → w ≡ sort-width (sort-of (tree-at (listed job work n) (first-terms + (p - first-terms)))) → (w ≡ 0 → ⊥) → bv w ≡ sort-of (tree-at (listed job work n) p)
+    row-bv e f = ap bv (at-place e) ∙ row-by .1 (λ z. f (at-place e ∙ z))
+
+    pub row-deep : {d : ℕ} → d ≡ depth (tree-at (listed job work n) (first-terms + (p - first-terms))) → d ≡ depth (tree-at (listed job work n) p)
+    row-deep e = e ∙ ap (λ (i : ℕ). depth (tree-at (listed job work n) i)) row-place

@@ -4,15 +4,14 @@ use mathlib.Core.List.{List, map, foldl}
 use Prim.Native.Nat.{ℕ, _+_, _<_}
 use lib.ListN.{length, drop}
 use Rattle.theory.specs.Limit.{first-terms}
-use Rattle.theory.specs.Sort.{sort-of, sort-width}
-use Rattle.theory.specs.Depth.{depth}
 use Rattle.theory.specs.Record.{Bytes}
 use Rattle.theory.specs.Plain.{Entry, Plain, start, feed}
 use Rattle.theory.specs.Places.{tree-at}
 use Rattle.theory.specs.Listed.{AllGood, WellKept}
-use Rattle.rows.specs.Layout.{depth-at, width-at}
+use Rattle.rows.specs.Layout.{link-size, measure-at}
 use Rattle.rows.specs.Rows.{kept}
-use Rattle.table.specs.Slots.{Table}
+use Rattle.table.specs.Buckets.{Table}
+use Rattle.store.specs.Measure.{measure}
 
 -- the plain list that these records build
 abbrev pub stored : List Bytes → Plain
@@ -26,12 +25,11 @@ listed job work n = stored (kept job work n)
 abbrev pub records : Plain → List Bytes
 records list = map (λ (e : Entry). e .bytes) (drop first-terms list)
 
--- THE INVARIANT: the rows are kept as they should be, each builds a term of its own, and has that term's depth and width
+-- THE INVARIANT: the rows are kept as they should be, each builds a term of its own, and has that term's measure
 pub record Store (job work : Bytes) (n : ℕ) : Type 0 where
   pub table : Table job work n
   pub well : WellKept (listed job work n)
   pub sorted : AllGood (listed job work n)
   pub count : length (listed job work n) ≡ first-terms + n
   pub records-are : records (listed job work n) ≡ kept job work n
-  pub depths-are : (k : ℕ) → k < n → depth-at work k ≡ depth (tree-at (listed job work n) (first-terms + k))
-  pub widths-are : (k : ℕ) → k < n → width-at work k ≡ sort-width (sort-of (tree-at (listed job work n) (first-terms + k)))
+  pub measures-are : (k : ℕ) → k < n → measure-at (link-size job) work k ≡ measure (tree-at (listed job work n) (first-terms + k))

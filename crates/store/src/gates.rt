@@ -4,7 +4,7 @@ ghost use Prim.Native.Nat.{_≤_};
 ghost use lib.ListN.{length};
 ghost use Rattle.theory.specs.Limit.{max-arguments};
 ghost use Rattle.rows.specs.Rows.{kept};
-ghost use Rattle.table.specs.Slots.{Table};
+ghost use Rattle.table.specs.Buckets.{Table};
 ghost use Rattle.store.specs.Numbers.{numbers, bit-number, bb-number, constant-number};
 
 // The numbers of the terms `true` and `false`.

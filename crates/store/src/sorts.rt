@@ -8,6 +8,8 @@ ghost use Rattle.theory.specs.Places.{tree-at};
 ghost use Rattle.rows.specs.Layout.{Bounded, number-end};
 ghost use Rattle.store.specs.Store.{Store, listed};
 ghost use Rattle.store.specs.Sorts.{sort-read};
+use super::shelf::row_depth;
+use super::shelf::row_width;
 
 // The sort of a term: Bad where it does not fit, else Bool or a bit-vector of a width.
 pub enum Sort {
@@ -36,7 +38,7 @@ pub fn sort_at(job: &[u8], work: &[u8], n: usize, place: u32) -> Sort
     if k < rows::FIRST_PLACE {
         return Sort::Bool;
     }
-    let width = rows::width_at(work, k - rows::FIRST_PLACE);
+    let width = row_width(job, work, n, k - rows::FIRST_PLACE);
     if width == 0 {
         return Sort::Bool;
     }
@@ -52,5 +54,5 @@ pub fn depth_at(job: &[u8], work: &[u8], n: usize, place: u32) -> usize
     if k < rows::FIRST_PLACE {
         return 0;
     }
-    rows::depth_at(work, k - rows::FIRST_PLACE)
+    row_depth(job, work, n, k - rows::FIRST_PLACE)
 }

@@ -5,29 +5,25 @@ use mathlib.Core.List.{List, [], _∷_}
 use Prim.Native.Nat.{ℕ, zero, suc, _+_, _≤_, _<_}
 use native.Mathlib.Nat.{not-suc-le-zero, le-of-suc-le-suc}
 use native.Mathlib.Omega.{arith}
-use lib.ListN.{getD, length, replicate, length-replicate}
+use lib.ListN.{getD, length, length-replicate, replicate}
 use Rattle.theory.specs.Limit.{first-terms}
 use Rattle.theory.specs.Record.{Bytes}
 use Rattle.terms.specs.Framing.{record-at}
-use Rattle.rows.specs.Layout.{depth-at, max-rows, missing, offset-at, width-at}
-use Rattle.rows.specs.Rows.{depths, kept, place-from, place-of, widths}
+use Rattle.rows.specs.Layout.{measure-at, missing, offset-at}
+use Rattle.rows.specs.Rows.{kept-as, measures, place-from, place-of}
 use Rattle.rows.proofs.RowLaws.{getD-column, getD-kept, same-refl, same-sound}
-use Rattle.table.specs.Promise.{Wiped}
 use Rattle.theory.specs.Term.{same-numbers}
+use Rattle.table.specs.Promise.{Wiped}
 
 -- ---- the entries of the lists
 
-module _ (job work : Bytes) (n : ℕ) where
-  pub kept-at : (k : ℕ) → k < n → getD (kept job work n) k [] ≡ record-at job (offset-at work k)
-  kept-at k h = getD-kept job work n k h
+module _ (nb : ℕ) (job work : Bytes) (n : ℕ) where
+  pub kept-at : (k : ℕ) → k < n → getD (kept-as nb job work n) k [] ≡ record-at job (offset-at nb work k)
+  kept-at k h = getD-kept nb job work n k h
 
-  pub depths-at : (k : ℕ) → k < n → getD (depths work n) k 0 ≡ depth-at work k
-  unfolding depths
-  depths-at k h = getD-column (depth-at work) 0 n k h
-
-  pub widths-at : (k : ℕ) → k < n → getD (widths work n) k 0 ≡ width-at work k
-  unfolding widths
-  widths-at k h = getD-column (width-at work) 0 n k h
+  pub measures-at : (k : ℕ) → k < n → getD (measures nb work n) k 0 ≡ measure-at nb work k
+  unfolding measures
+  measures-at k h = getD-column (measure-at nb work) 0 n k h
 
 -- ---- places
 
@@ -70,9 +66,9 @@ absent-from first x (y ∷ ys) few e k h q = go (same-numbers x y) refl (absent-
     go false s ih (suc k) h q = ih (rw s at e) k (le-of-suc-le-suc h) q
 
 -- where the place is missing, no record is equal
-pub place-absent : (x : Bytes) (rows : List Bytes) → length rows ≤ max-rows → place-of x rows ≡ missing
+pub place-absent : (x : Bytes) (rows : List Bytes) → first-terms + length rows ≤ missing → place-of x rows ≡ missing
     → (k : ℕ) → k < length rows → getD rows k [] ≡ x → ⊥
-place-absent x rows few e k h q = absent-from first-terms x rows (omega arith) e k h q
+place-absent x rows few e k h q = absent-from first-terms x rows few e k h q
 
 -- ---- wiping
 -- a memory that is all zero, by its length before

@@ -1,7 +1,6 @@
-pub mod Pigeon
-pub mod SlotLaws
+pub mod BucketLaws
 pub mod TableLaws
 pub mod MemoryLaws
+pub mod Face
 pub mod AddLaws
 pub mod KeyLaws
-pub mod Face

@@ -1,425 +1,496 @@
--- What a stored row and a stored slot do to the table and to the lists of what the rows keep.
+-- What a stored row and a stored head do to the table and to the lists of what the rows keep.
+use mathlib.Core.Path.{_≡_, refl, sym, ap, ap₂, _∙_, subst}
 use mathlib.Core.Bool.{cond}
-use mathlib.Core.Path.{_≡_, refl, sym, ap, _∙_, subst}
-use mathlib.Core.Logic.{_⊎_, inl, inr}
 use mathlib.Core.List.{[], _∷_, _++_}
-use Prim.Native.Nat.{ℕ, zero, suc, _+_, _*_, _-_, _/_, _%_, _≤_, _<_}
-use native.Mathlib.Nat.{not-suc-le-zero, add-zero, sub-zero}
-use native.Mathlib.Numerals.{add-one}
+use Prim.Native.Nat.{ℕ, zero, suc, _+_, _*_, _-_, _/_, _^_, _≤_, _<_}
+use native.Mathlib.Nat.{not-suc-le-zero, add-zero, le-trans, mod-lt, div-add-mod', zero-div, pow-le-pow-right}
 use native.Mathlib.Decide.{decLt}
 use native.Mathlib.Omega.{arith}
 use lib.Dec.{ltb}
-use lib.ListN.{getD-replicate, length-replicate, List·getD-eq-default, drop, getD, length, replicate, take}
-use lib.Seq.{sets, length-sets}
-use borrow.Author.Tests.{eq-eqb, le-ltb, lt-ltb, ne-eqb}
-use Rattle.theory.specs.Limit.{max-job, term-bytes, number-bytes}
-use Rattle.theory.specs.Record.{Bytes, extent, bytes-of}
+use lib.ListN.{List·getD-append, drop, getD, getD-replicate, length, length-append, length-drop, length-replicate, replicate, take}
+use lib.Seq.{sets, length-sets, take-nil, drop-nil}
+use borrow.Author.Tests.{le-ltb, lt-ltb}
+use Rattle.theory.specs.Limit.{max-job, term-bytes, first-terms}
+use Rattle.theory.specs.Record.{Bytes, little-endian, extent, bytes-of, number-length}
 use Rattle.terms.specs.Framing.{record-at}
-use Rattle.rows.specs.Layout.{depth-at, number-at, offset-at, width-at, max-rows}
-use Rattle.rows.specs.Rows.{Rows, column, depths, kept, offsets, row-record, stored-row, widths}
-use Rattle.table.specs.Slots.{max-slots, Reach, Table, TableOf, added-row, dropped-from, dropped-row, holder-from, seek-of, slot-at, slot-count, start-of, stored-slot, turn}
-use Rattle.table.specs.Promise.{Cut, Wiped, dropped-rows}
-use Rattle.rows.proofs.RowLaws.{after-stored, before-stored, column-added, column-same, column-take, depth-before, depth-stored, length-stored, number-is, offset-before, offset-is, offset-stored, rows-stored, sets-after, sets-before, sets-in, width-before, width-stored}
-use Rattle.table.proofs.SlotLaws.{FreeAt, seek-is-free, start-below, turn-below}
+use Rattle.terms.specs.Bodies.{Length}
+use Rattle.terms.proofs.Numbers.{length-of}
+use Rattle.rows.specs.Layout.{link-at, link-bytes, measure-at, number-at, offset-at, row-size}
+use Rattle.rows.specs.Rows.{Rows, column, kept-as, measures, row-record, stored-row}
+use Rattle.rows.specs.Rows as Listed
+use Rattle.table.specs.Buckets.{TableAs, TableOf, added-row, bucket-count, bucket-of, dropped-from, dropped-row, first-in, head-at, head-count, heads-start, most-heads, newest, row-bucket, seed-bytes, seed-in, stored-head}
+use Rattle.table.specs.Promise.{Cleared, Cut, Wiped, carried, cleared, dropped-rows}
+use Rattle.rows.proofs.RowLaws.{column-added, column-same, column-take, length-bytes, length-stored, link-back, link-before, link-cases, link-least, link-stored, link-whole, measure-before, measure-stored, number-after, number-after-stored, number-before, number-same, number-stored, offset-before, offset-stored, row-before, row-least, rows-stored}
+use Rattle.table.proofs.BucketLaws.{first-newest, newest-low}
 use Rattle.table.proofs.TableLaws.{table-less, table-more}
-use Rattle.table.specs.declared.slots.Seek.{Seek}
 
--- ---- a stored row leaves the slots
+-- ---- a stored head
 
-module _ (work : Bytes) (n offset depth width : ℕ) (room : n * term-bytes + term-bytes ≤ length work) where
-  slot-stays : (j i : ℕ) → 6 ≤ i → i < term-bytes → getD (stored-row work n offset depth width) (j * term-bytes + i) 0 ≡ getD work (j * term-bytes + i) 0
-  slot-stays j i a b = go (decLt j n)
+module _ (l : ℕ) (work : Bytes) (start c j v : ℕ) where
+  pub head-in : j < c → stored-head l work start c j v ≡ sets work (start + j * l) (bytes-of l v)
+  unfolding stored-head
+  head-in h = rw (lt-ltb j c h)
+
+  pub head-out : c ≤ j → stored-head l work start c j v ≡ work
+  unfolding stored-head
+  head-out h = rw (le-ltb j c h)
+
+  pub length-head : length (stored-head l work start c j v) ≡ length work
+  length-head = go (decLt j c)
     where
-      go : Dec (j < n) → getD (stored-row work n offset depth width) (j * term-bytes + i) 0 ≡ getD work (j * term-bytes + i) 0
-      go (yes h) = before-stored work n offset depth width room (j * term-bytes + i) (omega arith)
-      go (no h) = after-stored work n offset depth width room (j * term-bytes + i) (omega arith)
+      go : Dec (j < c) → length (stored-head l work start c j v) ≡ length work
+      go (yes h) = ap length (head-in h) ∙ length-sets work (start + j * l) (bytes-of l v)
+      go (no h) = ap length (head-out (omega arith))
 
-  pub slot-row : (j : ℕ) → slot-at (stored-row work n offset depth width) j ≡ slot-at work j
-  unfolding slot-at
-  slot-row j =
-      let e : j * term-bytes + 6 + 1 ≡ j * term-bytes + 7 = omega arith in
-      rw (number-is, number-is work, e, slot-stays j 6 (omega arith) (omega arith), slot-stays j 7 (omega arith) (omega arith))
-
--- ---- a stored slot
-
-module _ (work : Bytes) (t v : ℕ) (room : t * term-bytes + term-bytes ≤ length work) where
-  pub length-slot : length (stored-slot work t v) ≡ length work
-  unfolding stored-slot
-  length-slot = length-sets work (t * term-bytes + 6) (bytes-of number-bytes v)
-
-  other-byte : (j : ℕ) → (j < t * term-bytes + 6) ⊎ (t * term-bytes + term-bytes ≤ j) → getD (stored-slot work t v) j 0 ≡ getD work j 0
-  unfolding stored-slot
-  other-byte j (inl h) = sets-before work (t * term-bytes + 6) (bytes-of number-bytes v) j 0 h
-  other-byte j (inr h) = sets-after work (t * term-bytes + 6) (bytes-of number-bytes v) j 0 (omega arith)
-
-  low-byte : getD (stored-slot work t v) (t * term-bytes + 6) 0 ≡ v % 256
-  unfolding stored-slot
-  low-byte =
-      ap (λ (k : ℕ). getD (sets work (t * term-bytes + 6) (bytes-of number-bytes v)) k 0) (sym (add-zero (t * term-bytes + 6)))
-      ∙ sets-in work (t * term-bytes + 6) (bytes-of number-bytes v) 0 0 (omega arith) (omega arith)
-
-  high-byte : getD (stored-slot work t v) (t * term-bytes + 6 + 1) 0 ≡ v / 256 % 256
-  unfolding stored-slot
-  high-byte = sets-in work (t * term-bytes + 6) (bytes-of number-bytes v) 1 0 (omega arith) (omega arith)
-
-  pub slot-here : v < 65536 → slot-at (stored-slot work t v) t ≡ v
-  unfolding slot-at
-  slot-here h = rw (number-is, low-byte, high-byte) (omega arith)
-
-  -- bytes 0 to 5 of any eight, and all of any other eight, stay
-  far-byte : (j i : ℕ) → i < 6 → getD (stored-slot work t v) (j * term-bytes + i) 0 ≡ getD work (j * term-bytes + i) 0
-  far-byte j i h = go (decLt t j)
+  pub before-head : (at len : ℕ) → at + len ≤ start → number-at (stored-head l work start c j v) at len ≡ number-at work at len
+  before-head at len b = go (decLt j c)
     where
-      go : Dec (t < j) → getD (stored-slot work t v) (j * term-bytes + i) 0 ≡ getD work (j * term-bytes + i) 0
-      go (yes l) = other-byte (j * term-bytes + i) (inr (omega arith))
-      go (no l) = other-byte (j * term-bytes + i) (inl (omega arith))
+      go : Dec (j < c) → number-at (stored-head l work start c j v) at len ≡ number-at work at len
+      go (yes h) = ap (λ (w : Bytes). number-at w at len) (head-in h) ∙ number-before work (start + j * l) (bytes-of l v) at len (omega arith)
+      go (no h) = ap (λ (w : Bytes). number-at w at len) (head-out (omega arith))
 
-  slot-other-byte : (j i : ℕ) → (j ≡ t → ⊥) → 6 ≤ i → i < term-bytes → Dec (t < j) → getD (stored-slot work t v) (j * term-bytes + i) 0 ≡ getD work (j * term-bytes + i) 0
-  slot-other-byte j i h a b (yes l) = other-byte (j * term-bytes + i) (inr (omega arith))
-  slot-other-byte j i h a b (no l) =
-      let m : j < t = omega (arith, h) in
-      other-byte (j * term-bytes + i) (inl (omega arith))
+  pub after-head : (at len : ℕ) → start + c * l ≤ at → number-at (stored-head l work start c j v) at len ≡ number-at work at len
+  after-head at len b = go (decLt j c)
+    where
+      go : Dec (j < c) → number-at (stored-head l work start c j v) at len ≡ number-at work at len
+      go (yes h) =
+          ap (λ (w : Bytes). number-at w at len) (head-in h)
+          ∙ number-after work (start + j * l) (bytes-of l v) at len (let e = length-bytes l v in let r : j * l + l ≤ c * l = row-before l h in omega arith)
+      go (no h) = ap (λ (w : Bytes). number-at w at len) (head-out (omega arith))
 
-  pub slot-other : (j : ℕ) → (j ≡ t → ⊥) → slot-at (stored-slot work t v) j ≡ slot-at work j
-  unfolding slot-at
-  slot-other j h =
-      let e : j * term-bytes + 6 + 1 ≡ j * term-bytes + 7 = omega arith in
-      rw (
-        number-is,
-        number-is work,
-        e,
-        slot-other-byte j 6 h (omega arith) (omega arith) (decLt t j),
-        slot-other-byte j 7 h (omega arith) (omega arith) (decLt t j),
-      )
+  pub head-here : j < c → start + c * l ≤ length work → v < 256 ^ l → head-at l (stored-head l work start c j v) start j ≡ v
+  unfolding head-at
+  head-here h room small =
+      ap (λ (w : Bytes). number-at w (start + j * l) l) (head-in h)
+      ∙ number-stored work (start + j * l) l v (let r : j * l + l ≤ c * l = row-before l h in omega arith) small
 
-  pub offset-slot : (k : ℕ) → offset-at (stored-slot work t v) k ≡ offset-at work k
-  unfolding offset-at
-  offset-slot k =
-      let z : getD (stored-slot work t v) (k * term-bytes) 0 ≡ getD work (k * term-bytes) 0 = rw add-zero at (far-byte k 0 (omega arith)) in
-      rw (offset-is, offset-is work, z, far-byte k 1 (omega arith), far-byte k 2 (omega arith))
+  pub head-other : (i : ℕ) → (i ≡ j → ⊥) → head-at l (stored-head l work start c j v) start i ≡ head-at l work start i
+  unfolding head-at
+  head-other i d = go (decLt j c) (decLt i j)
+    where
+      go : Dec (j < c) → Dec (i < j) → number-at (stored-head l work start c j v) (start + i * l) l ≡ number-at work (start + i * l) l
+      go (no h) t = ap (λ (w : Bytes). number-at w (start + i * l) l) (head-out (omega arith))
+      go (yes h) (yes t) =
+          ap (λ (w : Bytes). number-at w (start + i * l) l) (head-in h)
+          ∙ number-before work (start + j * l) (bytes-of l v) (start + i * l) l (let r : i * l + l ≤ j * l = row-before l t in omega arith)
+      go (yes h) (no t) =
+          ap (λ (w : Bytes). number-at w (start + i * l) l) (head-in h)
+          ∙ number-after work (start + j * l) (bytes-of l v) (start + i * l) l
+          (let e = length-bytes l v in let u : j < i = omega (arith, d) in let r : j * l + l ≤ i * l = row-before l u in omega arith)
 
-  pub depth-slot : (k : ℕ) → depth-at (stored-slot work t v) k ≡ depth-at work k
-  unfolding depth-at
-  depth-slot k =
-      let e : k * term-bytes + 3 + 1 ≡ k * term-bytes + 4 = omega arith in
-      rw (number-is, number-is work, e, far-byte k 3 (omega arith), far-byte k 4 (omega arith))
+  -- the seed stays
+  pub seed-head : start + c * l + 4 ≤ length work → seed-in (stored-head l work start c j v) ≡ seed-in work
+  unfolding seed-in
+  seed-head h = rw length-head (after-head (length work - 4) 4 (omega arith))
 
-  pub width-slot : (k : ℕ) → width-at (stored-slot work t v) k ≡ width-at work k
-  unfolding width-at
-  width-slot k = far-byte k 5 (omega arith)
+  -- the rows stay
+  module _ (n : ℕ) (below : n * row-size l ≤ start) where
+    pub offset-head : (k : ℕ) → k < n → offset-at l (stored-head l work start c j v) k ≡ offset-at l work k
+    unfolding offset-at
+    offset-head k h = before-head (k * row-size l) 3 (omega (arith, row-before (row-size l) h))
 
-  pub rows-slot : (job : Bytes) (n : ℕ) → Rows job work n → Rows job (stored-slot work t v) n
-  rows-slot job n rows = record {
-    short = rows .short;
-    few = rows .few;
-    room = rw length-slot (rows .room);
-    inside = λ k h. rw (offset-slot k) (rows .inside k h);
-  }
+    pub measure-head : (k : ℕ) → k < n → measure-at l (stored-head l work start c j v) k ≡ measure-at l work k
+    unfolding measure-at
+    measure-head k h = before-head (k * row-size l + 3) l (omega (arith, row-before (row-size l) h))
+
+    pub link-head : (k : ℕ) → k < n → link-at l (stored-head l work start c j v) k ≡ link-at l work k
+    unfolding link-at
+    link-head k h = before-head (k * row-size l + 3 + l) l (omega (arith, row-before (row-size l) h))
+
+    pub rows-head : (job : Bytes) → Rows l job work n → Rows l job (stored-head l work start c j v) n
+    rows-head job rows = record {
+      link-length = rows .link-length;
+      short = rows .short;
+      few = rows .few;
+      room = rw length-head (rows .room);
+      inside = λ k h. rw (offset-head k h) (rows .inside k h);
+    }
+
+-- ---- a stored row leaves the heads and the seed
+
+module _ (l : ℕ) (work : Bytes) (n offset measure link start : ℕ) (below : n * row-size l + row-size l ≤ start) (within : start ≤ length work) where
+  row-room : n * row-size l + row-size l ≤ length work
+  row-room = omega arith
+
+  pub head-row : (i : ℕ) → head-at l (stored-row l work n offset measure link) start i ≡ head-at l work start i
+  unfolding head-at
+  head-row i = number-after-stored l work n offset measure link row-room (start + i * l) l (omega arith)
+
+  pub seed-row : start + 4 ≤ length work → seed-in (stored-row l work n offset measure link) ≡ seed-in work
+  unfolding seed-in
+  seed-row h = rw (length-stored l work n offset measure link row-room) (number-after-stored l work n offset measure link row-room (length work - 4) 4 (omega arith))
 
 -- ---- a row is added
 
-module _ (job work : Bytes) (n c t offset depth width : ℕ) (table : TableOf job work n c) (few : n < max-rows) (room : n * term-bytes + term-bytes ≤ length work)
-    (small : offset < 16777216) (inside : offset + extent (drop offset job) ≤ length job)
-    (free : seek-of job work c (record-at job offset) ≡ Seek.Free t) where
-  free-at : FreeAt job work c (record-at job offset) t
-  free-at = seek-is-free job work c (record-at job offset) t free
+module _ (l : ℕ) (job work : Bytes) (n start c offset measure first : ℕ) (table : TableOf l job work n start c) (few : first-terms + suc n < 256 ^ l)
+    (below : n * row-size l + row-size l ≤ start) (small : offset < 16777216) (inside : offset + extent (drop offset job) ≤ length job)
+    (first-is : first ≡ newest (row-bucket l job work c) (bucket-of work c (record-at job offset)) n)
+    (none : (k : ℕ) → k < n → record-at job offset ≡ record-at job (offset-at l work k) → ⊥) where
+  abbrev j : ℕ
+  j = bucket-of work c (record-at job offset)
 
-  slot-below : t < c
-  slot-below =
-      subst (λ (j : ℕ). j < c) (free-at .there)
-      (turn-below c (start-of c (record-at job offset)) (free-at .far) (start-below c (record-at job offset) (omega (arith, free-at .near))) (free-at .near))
+  abbrev mid : Bytes
+  mid = stored-row l work n offset measure first
 
-  slot-room : t * term-bytes + term-bytes ≤ length (stored-row work n offset depth width)
-  slot-room = rw (length-stored work n offset depth width room) (omega (arith, slot-below, table .slots .cells))
+  abbrev last : Bytes
+  last = stored-head l (stored-row l work n offset measure first) start c (bucket-of work c (record-at job offset)) (n + 1)
 
-  pub table-added : TableOf job (added-row work n t offset depth width) (n + 1) c
+  room : n * row-size l + row-size l ≤ length work
+  room = omega (arith, table .within)
+
+  long : length mid ≡ length work
+  long = length-stored l work n offset measure first room
+
+  ends : (n + 1) * row-size l ≤ start
+  ends = omega arith
+
+  cells : 0 < c → start + c * l + 4 ≤ length mid
+  cells h = rw long (table .cells h)
+
+  offsets : (k : ℕ) → k < n → offset-at l last k ≡ offset-at l work k
+  offsets k h = offset-head l mid start c j (n + 1) (n + 1) ends k (omega arith) ∙ offset-before l work n offset measure first room k h
+
+  offset-last : offset-at l last n ≡ offset
+  offset-last = offset-head l mid start c j (n + 1) (n + 1) ends n (omega arith) ∙ offset-stored l work n offset measure first room small
+
+  first-small : first < 256 ^ l
+  first-small = omega (arith, first-is, newest-low (row-bucket l job work c) j n)
+
+  pub table-added : TableOf l job (added-row l work n start c (bucket-of work c (record-at job offset)) offset measure first) (n + 1) start c
   unfolding added-row
   table-added =
-      table-more job work (stored-slot (stored-row work n offset depth width) t (n + 1)) n c t (record-at job offset) table free-at
-      (slot-here (stored-row work n offset depth width) t (n + 1) slot-room (omega arith))
-      (λ j h. slot-other (stored-row work n offset depth width) t (n + 1) slot-room j h ∙ slot-row work n offset depth width room j)
-      (λ k h. offset-slot (stored-row work n offset depth width) t (n + 1) slot-room k ∙ offset-before work n offset depth width room k h)
-      (ap (λ (o : ℕ). record-at job o) (offset-slot (stored-row work n offset depth width) t (n + 1) slot-room n ∙ offset-stored work n offset depth width room small))
-      (rows-slot (stored-row work n offset depth width) t (n + 1) slot-room job (n + 1)
-      (rows-stored work n offset depth width room job (table .slots .rows) few small inside))
-      (rw (length-slot (stored-row work n offset depth width) t (n + 1) slot-room, length-stored work n offset depth width room) (table .slots .cells))
+      table-more l job work last n start c (record-at job offset) table
+      (λ h. seed-head l mid start c j (n + 1) (cells h) ∙ seed-row l work n offset measure first start below (table .within) (omega (arith, table .cells h)))
+      (λ h. head-here l mid start c j (n + 1) h (omega (arith, cells (omega arith))) (omega arith))
+      (λ i h d. head-other l mid start c j (n + 1) i d ∙ head-row l work n offset measure first start below (table .within) i)
+      offsets
+      (ap (λ (o : ℕ). record-at job o) offset-last)
+      (λ k h. link-head l mid start c j (n + 1) (n + 1) ends k (omega arith) ∙ link-before l work n offset measure first room k h)
+      (link-head l mid start c j (n + 1) (n + 1) ends n (omega arith) ∙ link-stored l work n offset measure first room first-small ∙ first-is)
+      none
+      (rows-head l mid start c j (n + 1) (n + 1) ends job (rows-stored l work n offset measure first room job (table .rows) few small inside))
+      ends
+      (length-head l mid start c j (n + 1) ∙ long)
 
-  pub length-added : length (added-row work n t offset depth width) ≡ length work
+  pub length-added : length (added-row l work n start c (bucket-of work c (record-at job offset)) offset measure first) ≡ length work
   unfolding added-row
-  length-added = length-slot (stored-row work n offset depth width) t (n + 1) slot-room ∙ length-stored work n offset depth width room
+  length-added = length-head l mid start c j (n + 1) ∙ long
 
-  -- the lists of the records, where they stand, the depths and the widths have the new row's at the end
-  pub kept-added : kept job (added-row work n t offset depth width) (n + 1) ≡ kept job work n ++ (record-at job offset ∷ [])
-  unfolding added-row kept
+  -- the lists of the records and of the measures have the new row's at the end
+  pub kept-added : kept-as l job (added-row l work n start c (bucket-of work c (record-at job offset)) offset measure first) (n + 1) ≡ kept-as l job work n ++ (record-at job offset ∷ [])
+  unfolding added-row kept-as
   kept-added =
-      column-added (row-record job work) (row-record job (stored-slot (stored-row work n offset depth width) t (n + 1))) n (record-at job offset)
-      (λ k h. ap (λ (o : ℕ). record-at job o)
-      (offset-slot (stored-row work n offset depth width) t (n + 1) slot-room k ∙ offset-before work n offset depth width room k h))
-      (ap (λ (o : ℕ). record-at job o)
-      (offset-slot (stored-row work n offset depth width) t (n + 1) slot-room n ∙ offset-stored work n offset depth width room small))
+      column-added (row-record l job work) (row-record l job last) n (record-at job offset)
+      (λ k h. ap (λ (o : ℕ). record-at job o) (offsets k h)) (ap (λ (o : ℕ). record-at job o) offset-last)
 
-  pub offsets-added : offsets (added-row work n t offset depth width) (n + 1) ≡ offsets work n ++ (offset ∷ [])
-  unfolding added-row offsets
-  offsets-added =
-      column-added (offset-at work) (offset-at (stored-slot (stored-row work n offset depth width) t (n + 1))) n offset
-      (λ k h. offset-slot (stored-row work n offset depth width) t (n + 1) slot-room k ∙ offset-before work n offset depth width room k h)
-      (offset-slot (stored-row work n offset depth width) t (n + 1) slot-room n ∙ offset-stored work n offset depth width room small)
+  pub offsets-added : Listed.offsets l (added-row l work n start c (bucket-of work c (record-at job offset)) offset measure first) (n + 1) ≡ Listed.offsets l work n ++ (offset ∷ [])
+  unfolding added-row Listed.offsets
+  offsets-added = column-added (offset-at l work) (offset-at l last) n offset offsets offset-last
 
-  pub depths-added : depth < 65536 → depths (added-row work n t offset depth width) (n + 1) ≡ depths work n ++ (depth ∷ [])
-  unfolding added-row depths
-  depths-added deep =
-      column-added (depth-at work) (depth-at (stored-slot (stored-row work n offset depth width) t (n + 1))) n depth
-      (λ k h. depth-slot (stored-row work n offset depth width) t (n + 1) slot-room k ∙ depth-before work n offset depth width room k h)
-      (depth-slot (stored-row work n offset depth width) t (n + 1) slot-room n ∙ depth-stored work n offset depth width room deep)
-
-  pub widths-added : width < 256 → widths (added-row work n t offset depth width) (n + 1) ≡ widths work n ++ (width ∷ [])
-  unfolding added-row widths
-  widths-added wide =
-      column-added (width-at work) (width-at (stored-slot (stored-row work n offset depth width) t (n + 1))) n width
-      (λ k h. width-slot (stored-row work n offset depth width) t (n + 1) slot-room k ∙ width-before work n offset depth width room k h)
-      (width-slot (stored-row work n offset depth width) t (n + 1) slot-room n ∙ width-stored work n offset depth width room wide)
+  pub measures-added : measure < 256 ^ l → measures l (added-row l work n start c (bucket-of work c (record-at job offset)) offset measure first) (n + 1) ≡ measures l work n ++ (measure ∷ [])
+  unfolding added-row measures
+  measures-added fits =
+      column-added (measure-at l work) (measure-at l last) n measure
+      (λ k h. measure-head l mid start c j (n + 1) (n + 1) ends k (omega arith) ∙ measure-before l work n offset measure first room k h)
+      (measure-head l mid start c j (n + 1) (n + 1) ends n (omega arith) ∙ measure-stored l work n offset measure first room fits)
 
 -- ---- the last row is dropped
 
--- no row has another offset, depth or width
-pub record Unmoved (work after : Bytes) : Type 0 where
-  pub offset : (k : ℕ) → offset-at after k ≡ offset-at work k
-  pub depth : (k : ℕ) → depth-at after k ≡ depth-at work k
-  pub width : (k : ℕ) → width-at after k ≡ width-at work k
+-- none of the first n rows has another offset or measure
+pub record Unmoved (l : ℕ) (work after : Bytes) (n : ℕ) : Type 0 where
+  pub offset : (k : ℕ) → k < n → offset-at l after k ≡ offset-at l work k
+  pub measure : (k : ℕ) → k < n → measure-at l after k ≡ measure-at l work k
 
-pub unmoved-start : (work : Bytes) → Unmoved work work
-unmoved-start work = record { offset = λ k. refl; depth = λ k. refl; width = λ k. refl }
+pub unmoved-start : (l : ℕ) (work : Bytes) (n : ℕ) → Unmoved l work work n
+unmoved-start l work n = record { offset = λ k h. refl; measure = λ k h. refl }
 
-pub unmoved-more : {work after last : Bytes} → Unmoved work after → Unmoved after last → Unmoved work last
-unmoved-more h g = record {
-  offset = λ k. g .offset k ∙ h .offset k;
-  depth = λ k. g .depth k ∙ h .depth k;
-  width = λ k. g .width k ∙ h .width k;
-}
+rows-less : (l : ℕ) (job work : Bytes) (n : ℕ) → Rows l job work (n + 1) → Rows l job work n
+rows-less l job work n rows = record { link-length = rows .link-length; short = rows .short; few = omega (arith, rows .few); room = omega (arith, rows .room); inside = λ k h. rows .inside k (omega arith) }
 
-module _ (work : Bytes) (c s v d : ℕ) where
-  pub holder-end : c ≤ d → holder-from work c s v d (c - d) ≡ c
-  unfolding holder-from
-  holder-end h =
-      let e : c - d ≡ 0 = omega arith in
-      rw e
+module _ (l : ℕ) (job work : Bytes) (k start c : ℕ) (table : TableOf l job work (k + 1) start c) where
+  abbrev before : Bytes
+  before = stored-head l work start c (row-bucket l job work c k) (link-at l work k)
 
-  module _ (h : d < c) where
-    step : c - d ≡ suc (c - (d + 1))
-    step = omega arith
+  ends-k : k * row-size l ≤ start
+  ends-k = omega (arith, table .below)
 
-    pub holder-here : slot-at work (turn c s d) ≡ v → holder-from work c s v d (c - d) ≡ turn c s d
-    unfolding holder-from
-    holder-here e = rw (step, eq-eqb (slot-at work (turn c s d)) v e)
+  link-small : link-at l work k < 256 ^ l
+  link-small = omega (arith, table .links k (omega arith), newest-low (row-bucket l job work c) (row-bucket l job work c k) k, table .rows .few)
 
-    pub holder-next : (slot-at work (turn c s d) ≡ v → ⊥) → holder-from work c s v d (c - d) ≡ holder-from work c s v (d + 1) (c - (d + 1))
-    unfolding holder-from
-    holder-next e = rw (step, ne-eqb (slot-at work (turn c s d)) v e, ← add-one d)
-
-module _ (work : Bytes) (c s k : ℕ) (reach : Reach work c s k) (below : s < c) where
-  -- the slot that holds a row is found
-  reached-from : (fuel d : ℕ) → d + fuel ≡ reach .far
-      → (slot-at work (holder-from work c s (k + 1) d (c - d)) ≡ k + 1) × (holder-from work c s (k + 1) d (c - d) < c)
-  reached-from zero d e =
-      let f : d ≡ reach .far = omega arith in
-      let l : d < c = omega (arith, reach .near) in
-      let q : slot-at work (turn c s d) ≡ k + 1 = ap (λ (m : ℕ). slot-at work (turn c s m)) f ∙ reach .there in
-      rw (holder-here work c s (k + 1) d l q) (q, turn-below c s d below l)
-  reached-from (suc fuel) d e =
-      let l : d < c = omega (arith, reach .near) in
-      rw (holder-next work c s (k + 1) d l (λ q. omega (arith, reach .earlier d (omega arith))))
-      (reached-from fuel (d + 1) (omega arith))
-
-  pub holder-holds : (slot-at work (holder-from work c s (k + 1) 0 c) ≡ k + 1) × (holder-from work c s (k + 1) 0 c < c)
-  holder-holds = rw sub-zero at (reached-from (reach .far) 0 (omega arith))
-
-module _ (job work : Bytes) (n : ℕ) where
-  pub rows-less : Rows job work (n + 1) → Rows job work n
-  rows-less rows = record { short = rows .short; few = omega (arith, rows .few); room = omega (arith, rows .room); inside = λ k h. rows .inside k (omega arith) }
-
-module _ (job work : Bytes) (k c : ℕ) (table : TableOf job work (k + 1) c) where
-  last-start : ℕ
-  last-start = start-of c (record-at job (offset-at work k))
-
-  last-slot : ℕ
-  last-slot = holder-from work c last-start (k + 1) 0 c
-
-  last-holds : (slot-at work last-slot ≡ k + 1) × (last-slot < c)
-  unfolding last-slot last-start
-  last-holds =
-      let r : Reach work c (start-of c (record-at job (offset-at work k))) k = table .reach k (omega arith) in
-      holder-holds work c (start-of c (record-at job (offset-at work k))) k r (start-below c (record-at job (offset-at work k)) (omega (arith, r .near)))
-
-  last-room : last-slot * term-bytes + term-bytes ≤ length work
-  last-room = omega (arith, last-holds, table .slots .cells)
-
-  pub table-dropped : TableOf job (dropped-row job work k c) k c
-  unfolding dropped-row last-slot last-start
+  pub table-dropped : TableOf l job (dropped-row l job work k start c) k start c
+  unfolding dropped-row
   table-dropped =
-      table-less job work (stored-slot work last-slot 0) k c last-slot table (last-holds .1) (last-holds .0)
-      (slot-here work last-slot 0 last-room (omega arith))
-      (λ j h. slot-other work last-slot 0 last-room j h)
-      (λ i. offset-slot work last-slot 0 last-room i)
-      (rows-slot work last-slot 0 last-room job k (rows-less job work k (table .slots .rows)))
-      (rw (length-slot work last-slot 0 last-room) (table .slots .cells))
+      table-less l job work before k start c table
+      (λ h. seed-head l work start c (row-bucket l job work c k) (link-at l work k) (table .cells h))
+      (λ h. head-here l work start c (row-bucket l job work c k) (link-at l work k) h (omega (arith, table .cells (omega arith))) link-small)
+      (λ i h d. head-other l work start c (row-bucket l job work c k) (link-at l work k) i d)
+      (λ i h. offset-head l work start c (row-bucket l job work c k) (link-at l work k) k ends-k i h)
+      (λ i h. link-head l work start c (row-bucket l job work c k) (link-at l work k) k ends-k i h)
+      (rows-head l work start c (row-bucket l job work c k) (link-at l work k) k ends-k job (rows-less l job work k (table .rows)))
+      (length-head l work start c (row-bucket l job work c k) (link-at l work k))
 
-  pub unmoved-dropped : Unmoved work (dropped-row job work k c)
-  unfolding dropped-row last-slot last-start
-  unmoved-dropped = record {
-    offset = offset-slot work last-slot 0 last-room;
-    depth = depth-slot work last-slot 0 last-room;
-    width = width-slot work last-slot 0 last-room;
+  pub unmoved-dropped : {first : Bytes} → Unmoved l first work (k + 1) → Unmoved l first (dropped-row l job work k start c) k
+  unfolding dropped-row
+  unmoved-dropped same = record {
+    offset = λ i h. offset-head l work start c (row-bucket l job work c k) (link-at l work k) k ends-k i h ∙ same .offset i (omega arith);
+    measure = λ i h. measure-head l work start c (row-bucket l job work c k) (link-at l work k) k ends-k i h ∙ same .measure i (omega arith);
   }
 
-  pub length-dropped : length (dropped-row job work k c) ≡ length work
-  unfolding dropped-row last-slot last-start
-  length-dropped = length-slot work last-slot 0 last-room
-
--- ---- an empty table
-
-zero-byte : (n j : ℕ) → _≡_ {A = ℕ} (getD (replicate n 0) j 0) 0
-zero-byte n j = go (decLt j n)
-  where
-    go : Dec (j < n) → _≡_ {A = ℕ} (getD (replicate n 0) j 0) 0
-    go (yes h) = getD-replicate n j 0 0 h
-    go (no h) = List·getD-eq-default (replicate n 0) 0 (omega (arith, length-replicate {A = ℕ} n 0))
-
-zero-slot : (n j : ℕ) → slot-at (replicate n 0) j ≡ 0
-unfolding slot-at
-zero-slot n j = rw (number-is, zero-byte n (j * term-bytes + 6), zero-byte n (j * term-bytes + 6 + 1))
-
-pub table-empty : (job : Bytes) (len c : ℕ) → length job ≤ max-job → c * term-bytes ≤ len → c ≤ max-slots → TableOf job (replicate len 0) 0 c
-table-empty job len c short h small = record {
-  slots = record {
-    rows = record { short = short; few = omega arith; room = omega arith; inside = λ k l. absurd (not-suc-le-zero l) };
-    cells = rw length-replicate h;
-    small = small;
-    low = λ j l. omega (arith, zero-slot len j);
-  };
-  reach = λ k l. absurd (not-suc-le-zero l);
-  apart = λ i j a b p q. absurd (omega (arith, zero-slot len i));
-  distinct = λ i j a b q. absurd (not-suc-le-zero a);
-}
+  pub length-dropped : length (dropped-row l job work k start c) ≡ length work
+  unfolding dropped-row
+  length-dropped = length-head l work start c (row-bucket l job work c k) (link-at l work k)
 
 -- ---- the numbers that the code reads to drop the last row
 
-module _ (job work : Bytes) (k c at : ℕ) (table : TableOf job work (k + 1) c) (place : at ≡ offset-at work k) where
+module _ (l : ℕ) (job work : Bytes) (k start c at : ℕ) (table : TableOf l job work (k + 1) start c) (place : at ≡ offset-at l work k) where
   pub drop-inside : at + extent (drop at job) ≤ length job
-  drop-inside = rw place (table .slots .rows .inside k (omega arith))
+  drop-inside = rw place (table .rows .inside k (omega arith))
 
-  pub drop-some : 0 < c
-  drop-some = omega (arith, table .reach k (omega arith) .near)
+  pub drop-is : (len j link : ℕ) → len ≡ number-at job at 2 → j ≡ bucket-of work c (take (at + len + 2 - at) (drop at job)) → link ≡ link-at l work k
+      → stored-head l work start c j link ≡ dropped-row l job work k start c
+  unfolding dropped-row row-bucket
+  drop-is len j link e f g =
+      let d : at + len + 2 - at ≡ extent (drop at job) = omega arith in
+      let q : j ≡ bucket-of work c (record-at job (offset-at l work k)) = f ∙ rw (d, place) in
+      ap₂ (λ (i v : ℕ). stored-head l work start c i v) q g
 
-  module _ (len start : ℕ) (long : len ≡ number-at job at) (first : start ≡ start-of c (take (at + len + 2 - at) (drop at job))) where
-    start-is : start ≡ start-of c (record-at job (offset-at work k))
-    start-is =
-        let e : at + len + 2 - at ≡ extent (drop at job) = omega arith in
-        first ∙ rw (e, place)
+-- ---- the frame
 
-    module _ (t : ℕ) (holds : t ≡ holder-from work c start (k + 1) 0 c) where
-      slot-is : t ≡ last-slot job work k c table
-      unfolding last-slot last-start
-      slot-is = holds ∙ ap (λ (s : ℕ). holder-from work c s (k + 1) 0 c) start-is
+quotient-room : (len r : ℕ) → len / r * r ≤ len
+quotient-room len r = let d = div-add-mod' len r in omega arith
 
-      pub drop-room : (t < c) × (t * term-bytes + term-bytes ≤ length work)
-      drop-room = rw slot-is (last-holds job work k c table .1, last-room job work k c table)
+-- a row is no longer than what a term costs
+pub row-fits : (b : ℕ) → row-size (link-bytes b) ≤ term-bytes b
+row-fits b = omega (arith, link-least b)
 
-      pub drop-is : stored-slot work t 0 ≡ dropped-row job work k c
-      unfolding dropped-row last-slot last-start
-      drop-is = ap (λ (j : ℕ). stored-slot work j 0) slot-is
+start-form : (b len l : ℕ) → l ≡ link-bytes b → len / (4 + 2 * b) * (3 + 2 * l) ≡ heads-start b len
+unfolding heads-start
+start-form b len l e = rw e
 
--- ---- the number of slots
-
-pub slot-count-room : (len : ℕ) → slot-count len * term-bytes ≤ len
-unfolding slot-count
-slot-count-room len = go (decLt (len / 8) max-slots)
+quotient-least : (b n len : ℕ) → n * row-size (link-bytes b) ≤ heads-start b len → n ≤ len / term-bytes b
+unfolding heads-start
+quotient-least b n len h = go (decLt (len / term-bytes b) n)
   where
-    go : Dec (len / 8 < max-slots) → cond (ltb (len / 8) max-slots) (len / 8) max-slots * term-bytes ≤ len
-    go (yes h) = rw (lt-ltb (len / 8) max-slots h) (omega arith)
-    go (no h) = rw (le-ltb (len / 8) max-slots (omega arith)) (omega arith)
+    go : Dec (len / term-bytes b < n) → n ≤ len / term-bytes b
+    go (yes l) = absurd (let r = row-before (row-size (link-bytes b)) l in omega arith)
+    go (no l) = omega arith
 
-pub slot-count-small : (len : ℕ) → slot-count len ≤ max-slots
-unfolding slot-count
-slot-count-small len = go (decLt (len / 8) max-slots)
+pub start-within : (b len : ℕ) → heads-start b len ≤ len
+unfolding heads-start
+start-within b len =
+    le-trans (times (len / term-bytes b) (row-size (link-bytes b)) (term-bytes b) (row-fits b)) (quotient-room len (term-bytes b))
   where
-    go : Dec (len / 8 < max-slots) → cond (ltb (len / 8) max-slots) (len / 8) max-slots ≤ max-slots
-    go (yes h) = rw (lt-ltb (len / 8) max-slots h) (omega arith)
-    go (no h) = rw (le-ltb (len / 8) max-slots (omega arith)) (omega arith)
+    times : (q r s : ℕ) → r ≤ s → q * r ≤ q * s
+    times q r s h = let e : r * q ≤ s * q = row-least q h in let f : q * r ≡ r * q = omega arith in let g : q * s ≡ s * q = omega arith in omega arith
 
--- where a row has room there is a slot for it
-pub slot-count-more : (n len : ℕ) → n < max-slots → n * term-bytes + term-bytes ≤ len → n < slot-count len
-unfolding slot-count
-slot-count-more n len few room = go (decLt (len / 8) max-slots)
+-- as the code sums it up
+pub start-is : (b len l : ℕ) → l ≡ link-bytes b → (len / (4 + 2 * b) * (3 + 2 * l) ≡ heads-start b len) × (len / (4 + 2 * b) * (3 + 2 * l) ≤ len)
+start-is b len l e = (start-form b len l e, omega (arith, start-form b len l e, start-within b len))
+
+-- where there is memory for one term more than n, there is room for its row
+pub start-room : (b n len : ℕ) → n * term-bytes b + term-bytes b ≤ len → n * row-size (link-bytes b) + row-size (link-bytes b) ≤ heads-start b len
+unfolding heads-start
+start-room b n len h = row-before (row-size (link-bytes b)) in-rows
   where
-    go : Dec (len / 8 < max-slots) → n < cond (ltb (len / 8) max-slots) (len / 8) max-slots
-    go (yes h) = rw (lt-ltb (len / 8) max-slots h) (omega arith)
-    go (no h) = rw (le-ltb (len / 8) max-slots (omega arith)) (omega arith)
+    more : (q r : ℕ) → n * r + r ≤ len → q * r ≤ len → len < q * r + r → n < q
+    more q r p e m = go (decLt n q)
+      where
+        go : Dec (n < q) → n < q
+        go (yes h) = h
+        go (no h) = absurd (let k : q * r ≤ n * r = row-least r (let z : q ≤ n = omega arith in z) in omega arith)
 
-pub at-count : {job work : Bytes} {n c : ℕ} → c ≡ slot-count (length work) → Table job work n → TableOf job work n c
-at-count e table = rw e table
+    in-rows : n < len / term-bytes b
+    in-rows =
+        more (len / term-bytes b) (term-bytes b) h (quotient-room len (term-bytes b))
+        (let d = div-add-mod' len (term-bytes b) in let m = mod-lt len (let z : 0 < term-bytes b = omega arith in z) in omega arith)
 
--- ---- what callers are promised of a wiped memory, and of dropped rows
+pub row-memory : (b n len : ℕ) {l : ℕ} → l ≡ link-bytes b → n * term-bytes b + term-bytes b ≤ len → n * row-size l + row-size l ≤ len
+row-memory b n len e h = rw e (le-trans (start-room b n len h) (start-within b len))
+
+-- what the kept terms cost is in the memory
+pub table-room : (b : ℕ) {job work : Bytes} {n : ℕ} → TableAs b job work n → n * term-bytes b ≤ length work
+table-room b {job} {work} {n} table = le-trans (row-least (term-bytes b) (quotient-least b n (length work) (table .below))) (quotient-room (length work) (term-bytes b))
+
+pub count-few : (l len start : ℕ) → (len - start - 4) / l < most-heads → (len - start - 4) / l ≡ head-count l len start
+unfolding head-count
+count-few l len start h = rw (lt-ltb ((len - start - 4) / l) most-heads h)
+
+pub count-most : (l len start : ℕ) → most-heads ≤ (len - start - 4) / l → most-heads ≡ head-count l len start
+unfolding head-count
+count-most l len start h = rw (le-ltb ((len - start - 4) / l) most-heads h)
+
+pub count-none : (l len start : ℕ) → len - start < 4 → 0 ≡ head-count l len start
+count-none l len start h =
+    let e : len - start - 4 ≡ 0 = omega arith in
+    let q : (len - start - 4) / l ≡ 0 = rw e (zero-div l) in
+    sym q ∙ count-few l len start (omega arith)
+
+pub count-least : (l len start : ℕ) → (head-count l len start ≤ (len - start - 4) / l) × (head-count l len start ≤ most-heads)
+count-least l len start = go (decLt ((len - start - 4) / l) most-heads)
+  where
+    go : Dec ((len - start - 4) / l < most-heads) → (head-count l len start ≤ (len - start - 4) / l) × (head-count l len start ≤ most-heads)
+    go (yes h) = let e = count-few l len start h in (omega arith, omega arith)
+    go (no h) = let e = count-most l len start (omega arith) in (omega arith, omega arith)
+
+pub count-room : (l len start : ℕ) → 0 < l → 0 < head-count l len start → start + head-count l len start * l + 4 ≤ len
+count-room l len start some h =
+    let a : head-count l len start * l ≤ (len - start - 4) / l * l = row-least l (count-least l len start .0) in
+    let b = quotient-room (len - start - 4) l in
+    let d : 1 * l ≤ head-count l len start * l = row-least l h in
+    omega arith
+
+-- ---- an empty table
+
+zero-number : (s : Bytes) (at len : ℕ) → ((i : ℕ) → i < len → getD s (at + i) 0 ≡ 0) → number-at s at len ≡ 0
+zero-number s at len h = number-same len s [] at (λ i l. h i l) ∙ go len at
+  where
+    go : (len at : ℕ) → little-endian (take len (drop at [])) ≡ 0
+    go len at = rw (drop-nil at, take-nil)
+
+zero-head : (l : ℕ) (work : Bytes) (start c j : ℕ) → ((at : ℕ) → at + 4 < length work → getD work at 0 ≡ 0) → j < c → start + c * l + 4 ≤ length work → head-at l work start j ≡ 0
+unfolding head-at
+zero-head l work start c j z h room = zero-number work (start + j * l) l (λ i a. z (start + j * l + i) (let r : j * l + l ≤ c * l = row-before l h in omega arith))
+
+newest-empty : (f : ℕ → ℕ) (j : ℕ) → newest f j 0 ≡ 0
+unfolding newest
+newest-empty f j = refl
+
+-- a power of 256 is no less than 256
+bytes-hold : {l : ℕ} → Length l → 256 ≤ 256 ^ l
+bytes-hold {l} h = let q : 256 ^ 1 ≤ 256 ^ l = pow-le-pow-right (omega arith) (h .some-bytes) in omega arith
+
+pub table-empty : (b : ℕ) → Length b → (job work : Bytes) → length job ≤ max-job → ((at : ℕ) → at + 4 < length work → getD work at 0 ≡ 0) → TableAs b job work 0
+table-empty b lb job work short z =
+    let l = link-bytes b in
+    let some = link-whole lb .some-bytes in
+    record {
+      rows = record { link-length = link-whole lb; short = short; few = let p = bytes-hold (link-whole lb) in omega arith; room = omega arith; inside = λ k h. absurd (not-suc-le-zero h) };
+      below = omega arith;
+      within = start-within b (length work);
+      cells = λ h. count-room (link-bytes b) (length work) (heads-start b (length work)) some h;
+      small = count-least (link-bytes b) (length work) (heads-start b (length work)) .1;
+      heads = λ j h. zero-head (link-bytes b) work (heads-start b (length work)) (head-count (link-bytes b) (length work) (heads-start b (length work))) j z h
+          (count-room (link-bytes b) (length work) (heads-start b (length work)) some (omega arith))
+          ∙ sym (newest-empty (row-bucket (link-bytes b) job work (head-count (link-bytes b) (length work) (heads-start b (length work)))) j);
+      links = λ k h. absurd (not-suc-le-zero h);
+      distinct = λ i j a b q. absurd (not-suc-le-zero a);
+    }
+
+-- ---- what callers are promised of a memory that is cleared, and of dropped rows
+
+-- all bytes are zero but the seed's
+zeros-before : (m : ℕ) (rest : Bytes) (at : ℕ) → at < m → getD (replicate m 0 ++ rest) at 0 ≡ 0
+zeros-before m rest at h = List·getD-append (replicate m 0) rest 0 at (rw length-replicate h) ∙ getD-replicate m at 0 0 h
 
 pub wiped : (work : Bytes) → Wiped work (replicate (length work) 0)
 wiped work = record {
   all-zero = refl;
-  ready = λ job short. table-empty job (length work) (slot-count (length (replicate (length work) 0))) short
-      (rw length-replicate (slot-count-room (length work))) (slot-count-small (length (replicate (length work) 0)));
+  ready = λ job short. table-empty (number-length job) (length-of job) job (replicate (length work) 0) short
+      (λ at h. getD-replicate (length work) at 0 0 (omega (arith, length-replicate {A = ℕ} (length work) 0)));
 }
 
-module _ {job work after : Bytes} {n m c k : ℕ} (count : c ≡ slot-count (length after)) (table : TableOf job after k c) (same : Unmoved work after)
-    (down : k ≤ m) (up : m ≤ k) (less : m ≤ n) (long : length after ≡ length work)
-    (left : dropped-from job work c m (n - m) ≡ dropped-from job after c m (k - m)) where
-  table-m : Table job after m
-  table-m =
-      let e : k ≡ m = omega arith in
-      subst (λ (i : ℕ). TableOf job after m i) count (subst (λ (i : ℕ). TableOf job after i c) e table)
+pub length-cleared : (work : Bytes) → length (cleared work) ≡ length work
+unfolding cleared
+length-cleared work =
+    length-append (replicate (length work - seed-bytes) 0) (drop (length work - seed-bytes) work)
+    ∙ rw (length-replicate, length-drop) (omega arith)
+
+-- a memory too short for a seed stays, and one that is zero up to the seed is cleared
+pub cleared-short : (work : Bytes) → length work < 4 → cleared work ≡ work
+unfolding cleared
+cleared-short work h = let z : length work - 4 ≡ 0 = omega arith in rw z
+
+pub cleared-to : (work : Bytes) (i : ℕ) → i ≡ length work - 4 → replicate i 0 ++ drop i work ≡ cleared work
+unfolding cleared
+cleared-to work i e = rw e
+
+cleared-zero : (work : Bytes) (at : ℕ) → at + 4 < length work → getD (cleared work) at 0 ≡ 0
+unfolding cleared
+cleared-zero work at h = zeros-before (length work - seed-bytes) (drop (length work - seed-bytes) work) at (omega arith)
+
+pub clears : (work : Bytes) → Cleared work (cleared work)
+clears work = record {
+  memory-is = refl;
+  ready = λ job short. table-empty (number-length job) (length-of job) job (cleared work) short
+      (λ at h. cleared-zero work at (omega (arith, length-cleared work)));
+}
+
+-- a seed that is carried, or not
+pub carried-not : (work : Bytes) (n : ℕ) → n < 4 → work ≡ carried work n
+unfolding carried
+carried-not work n h = rw (lt-ltb n 4 h)
+
+pub carried-on : (work : Bytes) (n : ℕ) → 4 ≤ n → {seed : ℕ} → seed ≡ number-at work (length work - 4) 4 → sets work (n - 4) (bytes-of 4 seed) ≡ carried work n
+unfolding carried seed-in
+carried-on work n h e = rw (le-ltb n 4 h, e)
+
+-- a table is over the frame of its memory's length
+pub framed : (b : ℕ) {job work : Bytes} {n l start c : ℕ} → l ≡ link-bytes b → start ≡ heads-start b (length work) → c ≡ head-count l (length work) start
+    → TableAs b job work n → TableOf l job work n start c
+framed b e f g table = rw (g, f, e) table
+
+pub unframed : (b : ℕ) {job work : Bytes} {n l start c : ℕ} → l ≡ link-bytes b → start ≡ heads-start b (length work) → c ≡ head-count l (length work) start
+    → TableOf l job work n start c → TableAs b job work n
+unframed b {job} {work} {n} {l} {start} e f g table =
+    subst (λ (i : ℕ). TableOf i job work n (heads-start b (length work)) (head-count i (length work) (heads-start b (length work)))) e
+    (subst (λ (s : ℕ). TableOf l job work n s (head-count l (length work) s)) f
+    (subst (λ (i : ℕ). TableOf l job work n start i) g table))
+
+module _ (b : ℕ) {job work after : Bytes} {n m k : ℕ} (table : TableAs b job after k) (same : Unmoved (link-bytes b) work after k)
+    (down : k ≤ m) (up : m ≤ k) (less : m ≤ n) where
+  end-is : k ≡ m
+  end-is = omega arith
 
   whole : m + (n - m) ≡ n
   whole = omega arith
 
-  none-left : after ≡ dropped-rows job work n m
-  unfolding dropped-rows dropped-from
-  none-left =
-      let z : k - m ≡ 0 = omega arith in
-      sym (ap (λ (i : ℕ). dropped-from job work i m (n - m)) (ap slot-count (sym long) ∙ sym count) ∙ left ∙ ap (dropped-from job after c m) z)
+  -- a list with one entry for each row keeps its first m
+  cut-column : {A : Type 0} (f g : ℕ → A) → ((i : ℕ) → i < k → g i ≡ f i) → column g m ≡ take m (column f n)
+  cut-column f g e =
+      column-same g f m (λ i h. e i (omega arith)) ∙ column-take f m (n - m) ∙ ap (λ (i : ℕ). take m (column f i)) whole
 
-  pub cut : Cut job work after n m
-  unfolding kept offsets depths widths
-  cut = record {
-    memory-is = none-left;
-    table = table-m;
-    kept-is = column-same (row-record job after) (row-record job work) m (λ i h. ap (λ (o : ℕ). record-at job o) (same .offset i))
-        ∙ column-take (row-record job work) m (n - m) ∙ ap (λ (i : ℕ). take m (column (row-record job work) i)) whole;
-    offsets-are = column-same (offset-at after) (offset-at work) m (λ i h. same .offset i)
-        ∙ column-take (offset-at work) m (n - m) ∙ ap (λ (i : ℕ). take m (column (offset-at work) i)) whole;
-    depths-are = column-same (depth-at after) (depth-at work) m (λ i h. same .depth i)
-        ∙ column-take (depth-at work) m (n - m) ∙ ap (λ (i : ℕ). take m (column (depth-at work) i)) whole;
-    widths-are = column-same (width-at after) (width-at work) m (λ i h. same .width i)
-        ∙ column-take (width-at work) m (n - m) ∙ ap (λ (i : ℕ). take m (column (width-at work) i)) whole;
+  pub cut : after ≡ dropped-rows b job work n m → Cut b job work after n m
+  unfolding kept-as measures Listed.offsets
+  cut memory = record {
+    memory-is = memory;
+    table = subst (λ (i : ℕ). TableAs b job after i) end-is table;
+    kept-is = cut-column (row-record (link-bytes b) job work) (row-record (link-bytes b) job after) (λ i h. ap (λ (o : ℕ). record-at job o) (same .offset i h));
+    offsets-are = cut-column (offset-at (link-bytes b) work) (offset-at (link-bytes b) after) (same .offset);
+    measures-are = cut-column (measure-at (link-bytes b) work) (measure-at (link-bytes b) after) (same .measure);
   }
 
+-- the rows that the loop has dropped, by what it computed
+pub dropped-is : (b : ℕ) (job work after : Bytes) (n m : ℕ) {k l start c : ℕ} → k ≤ m → l ≡ link-bytes b → start ≡ heads-start b (length work)
+    → c ≡ head-count l (length work) start → dropped-from l job work start c m (n - m) ≡ dropped-from l job after start c m (k - m) → after ≡ dropped-rows b job work n m
+unfolding dropped-rows dropped-from
+dropped-is b job work after n m {k} {l} {start} {c} down e f g same =
+    let z : k - m ≡ 0 = omega arith in
+    let q : dropped-from l job work start c m (n - m) ≡ after = rw z at same in
+    sym q ∙ rw (g, f, e)
+
 -- one row dropped, in a loop that goes down to m
-module _ {job work : Bytes} {m k c : ℕ} (h : m < k) (table : TableOf job work k c) where
-  pub before-drop : TableOf job work (k - 1 + 1) c
+module _ {l : ℕ} {job work : Bytes} {m k start c : ℕ} (h : m < k) (table : TableOf l job work k start c) where
+  pub before-drop : TableOf l job work (k - 1 + 1) start c
   before-drop =
       let e : k ≡ k - 1 + 1 = omega arith in
-      subst (λ (n : ℕ). TableOf job work n c) e table
+      subst (λ (n : ℕ). TableOf l job work n start c) e table
 
-  -- one row less is left to drop
-  pub drop-next : {after : Bytes} → after ≡ dropped-row job work (k - 1) c → dropped-from job work c m (k - m) ≡ dropped-from job after c m (k - 1 - m)
+  pub drop-next : {after : Bytes} → after ≡ dropped-row l job work (k - 1) start c
+      → dropped-from l job work start c m (k - m) ≡ dropped-from l job after start c m (k - 1 - m)
   unfolding dropped-from
   drop-next {after} e =
       let one : k - m ≡ suc (k - 1 - m) = omega arith in
       let row : m + (k - 1 - m) ≡ k - 1 = omega arith in
-      ap (dropped-from job work c m) one
-      ∙ ap (λ (i : ℕ). dropped-from job (dropped-row job work i c) c m (k - 1 - m)) row ∙ ap (λ (w : Bytes). dropped-from job w c m (k - 1 - m)) (sym e)
+      ap (dropped-from l job work start c m) one
+      ∙ ap (λ (i : ℕ). dropped-from l job (dropped-row l job work i start c) start c m (k - 1 - m)) row
+      ∙ ap (λ (w : Bytes). dropped-from l job w start c m (k - 1 - m)) (sym e)
 
-  pub drop-turn : {first after : Bytes} → Unmoved first work → after ≡ dropped-row job work (k - 1) c
-      → TableOf job after (k - 1) c × (length after ≡ length work) × Unmoved first after
+  pub drop-turn : {first after : Bytes} → Unmoved l first work k → after ≡ dropped-row l job work (k - 1) start c
+      → TableOf l job after (k - 1) start c × (length after ≡ length work) × Unmoved l first after (k - 1)
   drop-turn {first} {after} same e =
+      let f : k ≡ k - 1 + 1 = omega arith in
       rw e (
-        table-dropped job work (k - 1) c before-drop,
-        length-dropped job work (k - 1) c before-drop,
-        unmoved-more same (unmoved-dropped job work (k - 1) c before-drop),
+        table-dropped l job work (k - 1) start c before-drop,
+        length-dropped l job work (k - 1) start c before-drop,
+        unmoved-dropped l job work (k - 1) start c before-drop (subst (λ (i : ℕ). Unmoved l first work i) f same),
       )

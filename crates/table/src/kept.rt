@@ -1,45 +1,50 @@
 // The kept records: find one, add one, drop the newest.
 ghost use mathlib.Core.Path.{_≡_};
-ghost use Prim.Native.Nat.{_+_, _*_, _≤_, _<_};
+ghost use Prim.Native.Nat.{_+_, _*_, _^_, _≤_, _<_};
 ghost use lib.ListN.{length, drop};
-ghost use Rattle.theory.specs.Limit.{term-bytes};
-ghost use Rattle.theory.specs.Record.{extent};
-ghost use Rattle.rows.specs.Layout.{number-end, max-rows};
-ghost use Rattle.rows.specs.Rows.{kept, place-of};
-ghost use Rattle.table.specs.Slots.{Table, TableOf, added-row, dropped-row};
-ghost use Rattle.table.specs.Promise.{room-for, Grown, Cut};
-use super::slots::Seek;
-use super::slots::first_slot;
-use super::slots::holder;
-use super::slots::probe;
-use super::slots::put_slot;
-use super::slots::slot_count;
+ghost use Rattle.theory.specs.Limit.{first-terms};
+ghost use Rattle.theory.specs.Record.{extent, number-length};
+ghost use Rattle.rows.specs.Layout.{link-bytes, row-size};
+ghost use Rattle.rows.specs.Rows.{kept-as, kept, place-of};
+ghost use Rattle.terms.specs.Bodies.{Length};
+ghost use Rattle.table.specs.Buckets.{TableAs, Table, TableOf, added-row, dropped-row};
+ghost use Rattle.table.specs.Promise.{TermLimit, room-for, Grown, Cut};
+use super::buckets::bucket;
+use super::buckets::first_in;
+use super::buckets::head_count;
+use super::buckets::heads_start;
+use super::buckets::put_head;
+use super::buckets::walk;
 use rows::bytes::number;
-use rows::find;
 use rows::layout::FIRST_PLACE;
-use rows::layout::MAX_ROWS;
+use rows::layout::FIXED_BYTES;
 use rows::layout::MISSING;
-use rows::layout::ROW_BYTES;
-use rows::offset_at;
+use rows::link_at;
+use rows::link_bytes;
+use rows::offset_as;
 use rows::put_row;
 use terms::Term;
 
 // The place of the record `wanted` among n kept ones, or MISSING.
+fn find_record_as(job: &[u8], work: &[u8], bytes: usize, n: usize, wanted: &[u8]) -> u32
+    requires { ⌜ TableAs bytes (now job) (now work) n ⌝ }
+    ensures { λ r. ⌜ r ≡ place-of (now (wanted .entry)) (kept-as (link-bytes bytes) (now (job .entry)) (now (work .entry)) n) ⌝ }
+{
+    let link = link_bytes(bytes);
+    let start = heads_start(work.len(), bytes, link);
+    let c = head_count(work.len(), start, link);
+    let j = bucket(work, c, wanted);
+    let first = first_in(work, link, n, start, c, j);
+    walk(job, work, link, n, first, wanted)
+}
+
+// The same in the job's own number length.
 pub fn find_record(job: &[u8], work: &[u8], n: usize, wanted: &[u8]) -> u32
     requires { ⌜ Table (now job) (now work) n ⌝ }
     ensures { λ r. ⌜ r ≡ place-of (now (wanted .entry)) (kept (now (job .entry)) (now (work .entry)) n) ⌝ }
 {
-    let c = slot_count(work.len());
-    // A full table has no free slot to end a lookup at: the plain walk is quicker then.
-    if c <= n {
-        return find(job, work, n, wanted);
-    }
-    let sought = probe(job, work, n, c, wanted);
-    match sought {
-        Seek::At(place) => place,
-        Seek::Free(_) => MISSING,
-        Seek::Full => MISSING,
-    }
+    let bytes = Term::number_length(job);
+    find_record_as(job, work, bytes, n, wanted)
 }
 
 // What adding a record answers: the place of the kept record that equals it, the place of the new row, or that there is no room for one.
@@ -50,79 +55,113 @@ pub enum Added {
 }
 
 // Is there memory and a place for one row more than n, where there may be `limit` terms?
-fn has_room(n: usize, limit: usize, len: usize) -> bool
-    requires { ⌜ n ≤ max-rows ⌝ }
-    ensures { λ r. ⌜ r ≡ room-for limit n len ⌝ }
+fn has_room(bytes: usize, n: usize, limit: usize, len: usize) -> bool
+    requires { ⌜ Length bytes × (first-terms + n < 4294967296) ⌝ }
+    ensures { λ r. ⌜ r ≡ room-for bytes limit n len ⌝ }
 {
-    if MAX_ROWS <= n {
+    if Term::MAX_TERMS <= n + FIRST_PLACE {
         return false;
     }
     if limit <= n + FIRST_PLACE {
         return false;
     }
-    n * ROW_BYTES + ROW_BYTES <= len
+    let cost = FIXED_BYTES + 2 * bytes;
+    n * cost + cost <= len
 }
 
-// Adds the record that stands at `at` in the job to n kept ones, with its depth and width, unless one of them equals it. There may be `limit`
-// terms; above the rack's limit it is the rack's.
-pub fn add(
+// Adds the record that stands at `at` in the job to n kept ones, with its measure, unless one of them equals it. There may be `limit` terms; above
+// the rack's limit it is the rack's.
+fn add_as(
     job: &[u8],
     work: &mut [u8],
+    bytes: usize,
     n: usize,
     limit: usize,
     at: usize,
-    depth: usize,
-    width: usize,
+    measure: usize,
 ) -> Added
-    requires { ⌜ Table (now job) (now work) n × (at + extent (drop at (now job)) ≤ length (now job)) × (depth < number-end) × (width < 256) ⌝ }
-    ensures { λ r. ⌜ Grown (now (job .entry)) (now (work .entry)) (now (work .exit)) n limit at depth width r ⌝ }
+    requires { ⌜ TableAs bytes (now job) (now work) n × TermLimit bytes × (at + extent (drop at (now job)) ≤ length (now job))
+        × (measure < 256 ^ link-bytes bytes) ⌝ }
+    ensures { λ r. ⌜ Grown bytes (now (job .entry)) (now (work .entry)) (now (work .exit)) n limit at measure r ⌝ }
 {
-    let end = at + number(job, at) + Term::NUMBER_BYTES;
-    let c = slot_count(work.len());
-    let sought = probe(job, work, n, c, &job[at..end]);
-    match sought {
-        Seek::At(place) => Added::Found(place),
-        Seek::Full => Added::Spent,
-        Seek::Free(slot) => {
-            if !has_room(n, limit, work.len()) {
-                return Added::Spent;
-            }
-            add_row(work, n, slot, at, depth, width);
-            Added::New((n + FIRST_PLACE) as u32)
-        }
+    let end = at + number(job, at, Term::NUMBER_BYTES) + Term::NUMBER_BYTES;
+    let link = link_bytes(bytes);
+    let start = heads_start(work.len(), bytes, link);
+    let c = head_count(work.len(), start, link);
+    let j = bucket(work, c, &job[at..end]);
+    let first = first_in(work, link, n, start, c, j);
+    let place = walk(job, work, link, n, first, &job[at..end]);
+    if place != MISSING {
+        return Added::Found(place);
     }
+    if !has_room(bytes, n, limit, work.len()) {
+        return Added::Spent;
+    }
+    add_row(work, link, n, start, c, j, at, measure, first);
+    Added::New((n + FIRST_PLACE) as u32)
 }
 
-// Stores row n, and names it in slot t.
-fn add_row(work: &mut [u8], n: usize, t: usize, offset: usize, depth: usize, width: usize)
-    requires { ⌜ (n * term-bytes + term-bytes ≤ length (now work)) × (t * term-bytes + term-bytes ≤ length (now work)) ⌝ }
-    ensures { λ _. ⌜ now (work .exit) ≡ added-row (now (work .entry)) n t offset depth width ⌝ }
+// The same in the job's own number length.
+pub fn add(job: &[u8], work: &mut [u8], n: usize, limit: usize, at: usize, measure: usize) -> Added
+    requires { ⌜ Table (now job) (now work) n × (at + extent (drop at (now job)) ≤ length (now job))
+        × (measure < 256 ^ link-bytes (number-length (now job))) ⌝ }
+    ensures { λ r. ⌜ Grown (number-length (now (job .entry))) (now (job .entry)) (now (work .entry)) (now (work .exit)) n limit at measure r ⌝ }
 {
-    put_row(work, n, offset, depth, width);
-    put_slot(work, t, n + 1);
+    let bytes = Term::number_length(job);
+    add_as(job, work, bytes, n, limit, at, measure)
 }
 
-// Drops the rows from m up, the last first: of n kept records the first m stay.
-pub fn drop_rows(job: &[u8], work: &mut [u8], n: usize, m: usize)
-    requires { ⌜ Table (now job) (now work) n × (m ≤ n) ⌝ }
-    ensures { λ _. ⌜ Cut (now (job .entry)) (now (work .entry)) (now (work .exit)) n m ⌝ }
+// Stores row n before the row `first` of bucket j.
+fn add_row(
+    work: &mut [u8],
+    link: usize,
+    n: usize,
+    start: usize,
+    c: usize,
+    j: usize,
+    offset: usize,
+    measure: usize,
+    first: usize,
+)
+    requires { ⌜ (n * row-size link + row-size link ≤ length (now work)) × (0 < c → start + c * link ≤ length (now work)) × Length link × (n < 4294967296) ⌝ }
+    ensures { λ _. ⌜ now (work .exit) ≡ added-row link (now (work .entry)) n start c j offset measure first ⌝ }
 {
-    let c = slot_count(work.len());
+    put_row(work, link, n, offset, measure, first);
+    put_head(work, link, start, c, j, n + 1);
+}
+
+// Drops the rows from m up: of n kept records the first m stay. The newest row first: it is the head of its bucket, so that dropping it is one store.
+fn drop_rows_as(job: &[u8], work: &mut [u8], bytes: usize, n: usize, m: usize)
+    requires { ⌜ TableAs bytes (now job) (now work) n × (m ≤ n) ⌝ }
+    ensures { λ _. ⌜ Cut bytes (now (job .entry)) (now (work .entry)) (now (work .exit)) n m ⌝ }
+{
+    let link = link_bytes(bytes);
+    let start = heads_start(work.len(), bytes, link);
+    let c = head_count(work.len(), start, link);
     let mut k = n;
     while m < k {
         k -= 1;
-        drop_row(job, work, k, c);
+        drop_row(job, work, link, k, start, c);
     }
 }
 
-// Drops the last row, k: its slot, of c slots, is free again.
-fn drop_row(job: &[u8], work: &mut [u8], k: usize, c: usize)
-    requires { ⌜ TableOf (now job) (now work) (k + 1) c ⌝ }
-    ensures { λ _. ⌜ now (work .exit) ≡ dropped-row (now (job .entry)) (now (work .entry)) k c ⌝ }
+// The same in the job's own number length.
+pub fn drop_rows(job: &[u8], work: &mut [u8], n: usize, m: usize)
+    requires { ⌜ Table (now job) (now work) n × (m ≤ n) ⌝ }
+    ensures { λ _. ⌜ Cut (number-length (now (job .entry))) (now (job .entry)) (now (work .entry)) (now (work .exit)) n m ⌝ }
 {
-    let at = offset_at(work, k);
-    let end = at + number(job, at) + Term::NUMBER_BYTES;
-    let start = first_slot(c, &job[at..end]);
-    let t = holder(work, c, start, k + 1);
-    put_slot(work, t, 0);
+    let bytes = Term::number_length(job);
+    drop_rows_as(job, work, bytes, n, m);
+}
+
+// Drops the last row, k: its bucket, of c, starts at the row before it.
+fn drop_row(job: &[u8], work: &mut [u8], link: usize, k: usize, start: usize, c: usize)
+    requires { ⌜ TableOf link (now job) (now work) (k + 1) start c ⌝ }
+    ensures { λ _. ⌜ now (work .exit) ≡ dropped-row link (now (job .entry)) (now (work .entry)) k start c ⌝ }
+{
+    let at = offset_as(work, link, k);
+    let end = at + number(job, at, Term::NUMBER_BYTES) + Term::NUMBER_BYTES;
+    let j = bucket(work, c, &job[at..end]);
+    let before = link_at(work, link, k);
+    put_head(work, link, start, c, j, before);
 }

@@ -5,7 +5,7 @@ ghost use Prim.Native.Nat.{_≤_};
 ghost use lib.ListN.{length, take};
 ghost use Rattle.theory.specs.Limit.{max-arguments};
 ghost use Rattle.rows.specs.Rows.{kept, place-of};
-ghost use Rattle.table.specs.Slots.{Table};
+ghost use Rattle.table.specs.Buckets.{Table};
 ghost use Rattle.table.specs.Keys.{key-bytes, place-list, place-constant};
 use super::kept::find_record;
 use rows::bytes::put_number;

@@ -1,12 +1,12 @@
-// The records that a job keeps, in work memory that a caller lends: found, added and dropped by a table over their rows.
+// The records that a job keeps, in work memory that a caller lends: found, added and dropped by buckets over their rows.
 //
-// Callers say how many rows there are and hold the invariant `Table` (specs/Slots.antt), which `wipe` sets up and `add` and `drop_rows` keep.
+// Callers say how many rows there are and hold the invariant `Table` (specs/Buckets.antt), which `clear` sets up and `add` and `drop_rows` keep.
 //
-// To read: slots (the table), kept (find, add, drop), keys (records given by their parts), memory (wiping).
+// To read: buckets (the table), kept (find, add, drop), keys (records given by their parts), memory (clearing).
+mod buckets;
 mod kept;
 mod keys;
 mod memory;
-mod slots;
 
 pub use kept::Added;
 pub use kept::add;
@@ -17,4 +17,6 @@ pub use keys::find_list;
 pub use keys::find_one;
 pub use keys::find_three;
 pub use keys::find_two;
+pub use memory::carry_seed;
+pub use memory::clear;
 pub use memory::wipe;

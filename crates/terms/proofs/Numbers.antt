@@ -8,7 +8,8 @@ use mir.Syntax.{w8}
 use mir.Val.{Fits}
 use lib.ListN.{length, take, drop, getD, length-drop, List·getD-eq-default}
 use lib.Seq.{take-nil, getD-drop, drop-drop}
-use Rattle.theory.specs.Record.{Bytes, AllBytes, little-endian}
+use Rattle.theory.specs.Record.{Bytes, AllBytes, little-endian, number-length}
+use Rattle.terms.specs.Bodies.{Length}
 
 -- ---- bytes
 -- every element of a slice of bytes is one
@@ -66,3 +67,12 @@ module _ {bs : Bytes} {n : ℕ} where
       let z : i ≡ 0 = omega arith in
       let e : n - i ≡ n = omega arith in
       (s .sum ∙ rw (e, z), rw e at (s .bound))
+
+-- ---- the number length of a job
+-- it is one of those that reading is proved for
+pub length-of : (job : Bytes) → Length (number-length job)
+length-of job = record { some-bytes = omega arith; few-bytes = omega arith }
+
+-- a number of so many bytes fits into 32 bits
+pub place-small : (b x : ℕ) → b ≤ 4 → x < 256 ^ b → x < 4294967296
+place-small b x h l = let q : 256 ^ b ≤ 256 ^ 4 = pow-le-pow-right (omega arith) h in omega arith

@@ -3,15 +3,20 @@ use mathlib.Core.Path.{_≡_}
 use mathlib.Core.Bool.{Bool, true, _&&_}
 use mathlib.Core.List.{[]}
 use mathlib.Core.Option.{Option, none, some}
-use Prim.Native.Nat.{ℕ, _+_, _-_, _/_, _%_, _≤_}
+use Prim.Native.Nat.{ℕ, _+_, _-_, _/_, _%_, _<_, _≤_}
 use lib.Dec.{leb, eqb}
 use lib.ListN.{length}
-use Rattle.theory.specs.Limit.{max-arguments, number-bytes}
+use Rattle.theory.specs.Limit.{max-arguments, number-bytes, long-bytes}
 use Rattle.theory.specs.Kind.{Arity, exactly, many, arity, takes}
 use Rattle.theory.specs.Record.{Bytes, fits, arguments, Shape, front, make, shape-of, Item, term, unknown}
 use Rattle.terms.specs.declared.Form.{Form}
 use Rattle.terms.specs.declared.Form.the-variants.{Unknown, Known}
 use Rattle.terms.specs.Framing.{part}
+
+-- the bytes of a term's number: any number of them from one to four
+pub record Length (b : ℕ) : Type 0 where
+  pub some-bytes : 0 < b
+  pub few-bytes : b ≤ long-bytes
 
 -- the least and the greatest number of arguments
 abbrev pub least : Arity → ℕ

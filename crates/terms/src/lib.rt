@@ -4,7 +4,7 @@ ghost use mathlib.Core.Bool.{true};
 ghost use Prim.Native.Nat.{_+_, _^_, _<_, _≤_};
 ghost use lib.ListN.{length, take, drop, getD};
 ghost use Rattle.theory.specs.Limit.{number-bytes, value-bytes};
-ghost use Rattle.theory.specs.Record.{little-endian, word, whole, shape-of, read, read-term, read-step, read-chain, read-back};
+ghost use Rattle.theory.specs.Record.{little-endian, word, whole, shape-of, read, read-term, read-step, read-chain, read-back, number-length};
 ghost use Rattle.theory.specs.Codes.{all-below};
 ghost use Rattle.terms.specs.Framing.{part, record-at, frame-of};
 ghost use Rattle.terms.specs.Decoded.{Inside, OperandsPlaced, Placed, Says, words-in, item-of, head-of, operands-of, arguments-of};
@@ -133,6 +133,8 @@ impl Term {
     pub const MAX_TERMS: usize = 65535;
     // bytes of a number in a record
     pub const NUMBER_BYTES: usize = 2;
+    // the most bytes that a term's number may have
+    pub const LONG_BYTES: usize = 4;
     // bytes of a constant's value
     pub const VALUE_BYTES: usize = 8;
 
@@ -176,6 +178,13 @@ impl Term {
         ensures { λ r. ⌜ r ≡ little-endian (take value-bytes (drop at (now (s .entry)))) ⌝ }
     {
         Term::bytes(s, at, Term::VALUE_BYTES)
+    }
+
+    // The bytes of a term's number in a job.
+    pub fn number_length(job: &[u8]) -> usize
+        ensures { λ r. ⌜ r ≡ number-length (now (job .entry)) ⌝ }
+    {
+        Term::NUMBER_BYTES
     }
 
     // What stands at the place `at` of a job.

@@ -34,7 +34,7 @@ use Rattle.terms.specs.Decoded.{Inside, OperandsPlaced, op-of, operands-of, arg
 use Rattle.terms.proofs.Cases.{other-kind}
 use Rattle.terms.proofs.Term as E
 use Rattle.store.specs.Store.{listed}
-use Rattle.shelf.specs.Shelf.{TermOn, args-at}
+use Rattle.store.specs.Shelf.{TermOn, args-at}
 use Rattle.sweeps.specs.Variables.{is-variable, sort-bits, bits-in}
 use Rattle.sweeps.specs.Known.{Known, unknown, known-byte, of-byte, of-bool, lead, known, known-op, number-bits}
 use Rattle.marks.specs.Marks.{mark-of}

@@ -19,7 +19,7 @@ use Rattle.terms.specs.declared.Term.{Term as Decoded}
 use Rattle.terms.specs.declared.Term.the-variants as D
 use Rattle.terms.specs.Decoded.{op-of, arguments-of}
 use Rattle.store.specs.Store.{listed}
-use Rattle.shelf.specs.Shelf.{Shelf, TermOn}
+use Rattle.store.specs.Shelf.{Shelf, TermOn}
 use Rattle.evaluation.proofs.ListLaws.{below-at}
 use Rattle.ternary.specs.Bits.{bit-kind-in}
 

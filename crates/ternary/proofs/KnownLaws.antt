@@ -22,7 +22,7 @@ use Rattle.terms.specs.declared.Term.{Term as Decoded}
 use Rattle.terms.specs.declared.Term.the-variants as D
 use Rattle.terms.specs.Decoded.{Inside, OperandsPlaced, op-of, operands-of, arguments-of, words-in}
 use Rattle.store.specs.Store.{listed}
-use Rattle.shelf.specs.Shelf.{TermOn}
+use Rattle.store.specs.Shelf.{TermOn}
 use Rattle.sweeps.specs.Variables.{is-variable, sort-bits, bits-in}
 use Rattle.sweeps.specs.Known.{Known, known-byte, of-byte, lead, known, known-op, not-known, xor-known, equal-known, ite-known, and-known, or-known}
 use Rattle.evaluation.specs.Cells.{cell-at}

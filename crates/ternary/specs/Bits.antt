@@ -13,7 +13,7 @@ use Rattle.theory.specs.Plain.{Plain}
 use Rattle.theory.specs.Claim.{element}
 use Rattle.theory.specs.Places.{tree-at}
 use Rattle.store.specs.Store.{listed}
-use Rattle.shelf.specs.Shelf.{Shelf, args-at}
+use Rattle.store.specs.Shelf.{Shelf, args-at}
 use Rattle.sweeps.specs.Variables.{is-variable, bits-in}
 use Rattle.sweeps.specs.Known.{Known, unknown, known-byte, of-byte, lead, known, bit-kind}
 use Rattle.marks.specs.Marks.{mark-of}

@@ -14,8 +14,8 @@ use crate::gates::strong_bit;
 use evaluation::cells::cell;
 use operations::words::bit;
 use rows::bytes::wide;
-use shelf::term_on;
-use shelf::width_on;
+use store::shelf::term_on;
+use store::shelf::width_on;
 use terms::Args;
 use terms::Term;
 

@@ -4,10 +4,10 @@ ghost use Prim.Native.Nat.{_+_, _<_};
 ghost use Rattle.theory.specs.Limit.{first-terms};
 ghost use Rattle.theory.specs.Places.{tree-at};
 ghost use Rattle.store.specs.Store.{listed};
-ghost use Rattle.shelf.specs.Shelf.{Shelf};
+ghost use Rattle.store.specs.Shelf.{Shelf};
 ghost use Rattle.ternary.specs.Bits.{bit-kind-in};
-use shelf::term_on;
-use shelf::width_on;
+use store::shelf::term_on;
+use store::shelf::width_on;
 use terms::Term;
 
 // Is the kind of the term at a place bit-level? An Equals is where its sides are Bools.

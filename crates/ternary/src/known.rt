@@ -10,7 +10,7 @@ use crate::gates::not_bit;
 use crate::gates::plain_bit;
 use crate::gates::xor_bit;
 use evaluation::cells::cell;
-use shelf::term_on;
+use store::shelf::term_on;
 use terms::Term;
 
 // The bit of the Bool at a marked place: 0, 1, or 2 where it is not known.

@@ -7,7 +7,7 @@ use native.Mathlib.Omega.{arith}
 use lib.Dec.{T, leb, ltb, eqb, ltb→lt, leb→le}
 use lib.Ieee.Fits.{and-l, and-r}
 use lib.ListN.{length, take, length-append, length-take}
-use Rattle.theory.specs.Limit.{Limits, capped, first-terms, term-bytes, answer-bytes}
+use Rattle.theory.specs.Limit.{number-bytes, Limits, capped, first-terms, term-bytes, answer-bytes}
 use Rattle.theory.specs.Kind.{Op, True, False, kind}
 use Rattle.theory.specs.Term.{Term, node, nil, from-list}
 use Rattle.theory.specs.Sort.{Sort, first, sorts-of}
@@ -25,7 +25,7 @@ use Rattle.theory.proofs.Distinct.{WellKept, tree-0, tree-1, kept-at, p
 -- ---- the memories
 pub record TermsFit (limits : Limits) (work : ℕ) (list : Plain) : Type 0 where
   pub first-there : first-terms ≤ length list
-  pub terms-fit : term-bytes * (length list - first-terms) ≤ work
+  pub terms-fit : term-bytes number-bytes * (length list - first-terms) ≤ work
   pub numbers-fit : length list ≤ max first-terms (capped limits .terms)
 
 feed-fits : (limits : Limits) (work space : ℕ) (list : Plain) (answered : ℕ) (r : Bytes) → fault limits work space list answered r ≡ 0 → TermsFit limits work list → TermsFit limits work (feed list r)
@@ -36,8 +36,8 @@ feed-fits limits work space list answered r e f =
     fed (TermsFit limits work) limits work space list answered r e f
     (λ o ks d p n.
     let t = or-not (has list r) (room (capped limits) work list) (p .roomy) n in
-    let u = leb→le (term-bytes * (suc (length list) - first-terms)) work (and-l (leb (term-bytes * (suc (length list) - first-terms)) work) _ t) in
-    let v = ltb→lt (length list) (capped limits .terms) (and-r (leb (term-bytes * (suc (length list) - first-terms)) work) _ t) in
+    let u = leb→le (term-bytes number-bytes * (suc (length list) - first-terms)) work (and-l (leb (term-bytes number-bytes * (suc (length list) - first-terms)) work) _ t) in
+    let v = ltb→lt (length list) (capped limits .terms) (and-r (leb (term-bytes number-bytes * (suc (length list) - first-terms)) work) _ t) in
     let l : length (list ++ (entry (tree-of list o ks) r ∷ [])) ≡ length list + 1 = length-append list (entry (tree-of list o ks) r ∷ []) in
     record { first-there = omega arith; terms-fit = omega arith; numbers-fit = omega arith })
     (λ n h k.

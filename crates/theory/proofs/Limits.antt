@@ -9,7 +9,7 @@ use native.Mathlib.Omega.{arith}
 use lib.Dec.{T, leb, ltb, leb→le, le→leb, ltb→lt, lt→ltb}
 use lib.Ieee.Fits.{and-l, and-r, and-i}
 use lib.ListN.{length, take}
-use Rattle.theory.specs.Limit.{Limits, capped, max-job, first-terms, term-bytes}
+use Rattle.theory.specs.Limit.{number-bytes, Limits, capped, max-job, first-terms, term-bytes}
 use Rattle.theory.specs.Term.{Term, fold}
 use Rattle.theory.specs.Sort.{guard, good, sort-of, sort-width}
 use Rattle.theory.specs.Record.{Bytes, records-of, ending, Item, term, step, chain, back, unknown, misfit, read, step-count}
@@ -97,7 +97,7 @@ module _ (small large : Limits) (width-within : small .width ≤ large .width) (
 
   room-more : (work : ℕ) (list : Plain) → T (room (capped small) work list) → T (room (capped large) work list)
   room-more work list h =
-      let m = leb (term-bytes * (suc (length list) - first-terms)) work in
+      let m = leb (term-bytes number-bytes * (suc (length list) - first-terms)) work in
       let a = ltb→lt (length list) (capped small .terms) (and-r m _ h) in
       and-i m (ltb (length list) (capped large .terms)) (and-l m _ h) (lt→ltb (length list) (capped large .terms) (omega arith))
 

@@ -3,7 +3,8 @@ use mathlib.Core.Path.{_≡_, refl, sym, ap, ap₂, subst, _∙_}
 use mathlib.Core.Bool.{Bool, true, false, _||_, cond}
 use mathlib.Core.List.{List, [], _∷_, _++_, map, append-assoc}
 use mathlib.Core.Option.{none, some}
-use Prim.Native.Nat.{ℕ, zero, suc, _-_, _*_, _<_, _≤_}
+use Prim.Native.Nat.{ℕ, zero, suc, _-_, _*_, _/_, _^_, _<_, _≤_}
+use native.Mathlib.Nat.{div-add-mod, pow-succ'}
 use native.Mathlib.Omega.{arith}
 use lib.Dec.{T, eqb, leb, ltb, ltb→lt, eqb→eq}
 use lib.Ieee.Fits.{and-l, and-r}
@@ -16,7 +17,7 @@ use Rattle.theory.specs.Optional.{either}
 use Rattle.theory.specs.Verdict.{accepted}
 use Rattle.theory.specs.RuleTable.{Rule, rules, rule-at, ChainRule, first-chain-rule, chain-rules, chain-rule-at}
 use Rattle.theory.specs.Rule.{verdict}
-use Rattle.theory.specs.Record.{Bytes, AllBytes, word, word-bytes, Item}
+use Rattle.theory.specs.Record.{Bytes, AllBytes, little-endian, word, bytes-of, word-bytes, Item}
 use Rattle.theory.specs.Plain.{Plain, plain-after}
 use Rattle.theory.specs.Codes.{all-below, fault}
 use Rattle.theory.specs.Answer.{Answer, encode-answer, encode-answers, decode-answer, decode-answers}
@@ -36,7 +37,17 @@ use Rattle.theory.proofs.Distinct.{WellKept, kept-at, tree-0, tree-1, p
 use Rattle.theory.proofs.Bounds.{terms-fit, run-fits, place-depth}
 use Rattle.theory.proofs.Codes.{code-known}
 
--- ---- a number of two bytes reads back
+-- ---- a number reads back
+pub number-exact : (k n : ℕ) → n < 256 ^ k → little-endian (bytes-of k n) ≡ n
+number-exact zero n h = omega arith
+number-exact (suc k) n h =
+    let e = number-exact k (n / 256) (quotient n (256 ^ k) (subst (λ (p : ℕ). n < p) (pow-succ' 256 k) h)) in
+    let d = div-add-mod n 256 in
+    omega arith
+  where
+    quotient : (n p : ℕ) → n < 256 * p → n / 256 < p
+    quotient n p h = omega arith
+
 pub word-exact : (n : ℕ) → n < 65536 → word (word-bytes n) ≡ n
 word-exact n h = omega arith
 

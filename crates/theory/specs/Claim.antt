@@ -7,7 +7,7 @@ use mathlib.Core.Option.{some}
 use Prim.Native.Nat.{ℕ, _+_, _-_, _*_, _%_, _^_, _<_, _≤_, max}
 use lib.Dec.{T, eqb, ltb}
 use lib.ListN.{length, take, drop, getElem?}
-use Rattle.theory.specs.Limit.{Limits, capped, first-terms, term-bytes, answer-bytes}
+use Rattle.theory.specs.Limit.{number-bytes, Limits, capped, first-terms, term-bytes, answer-bytes}
 use Rattle.theory.specs.Kind.{Op, Equals, BvBbTerm, BvNeg, BvAdd, BvMul, BvULt, BvSLt}
 use Rattle.theory.specs.Term.{Term, Terms, node, nil, cons, two}
 use Rattle.theory.specs.Sort.{bv, sort-width, sort-of}
@@ -54,7 +54,7 @@ OneNumber = (limits : Limits) (job : Bytes) → AllBytes job → (work space m i
 -- the answers fit into their memory, the kept terms into the work memory, and they are no more than the limit, but for `true` and `false`
 pub record Fits (limits : Limits) (work space : ℕ) (o : Outcome) : Type 0 where
   pub answers-fit : answer-bytes * length (o .answers) ≤ space
-  pub terms-fit : term-bytes * (o .terms - first-terms) ≤ work
+  pub terms-fit : term-bytes number-bytes * (o .terms - first-terms) ≤ work
   pub numbers-fit : o .terms ≤ max first-terms (capped limits .terms)
 
 -- of every job

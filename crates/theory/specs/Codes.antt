@@ -6,7 +6,7 @@ use mathlib.Core.Option.{Option}
 use Prim.Native.Nat.{ℕ, suc, _-_, _*_}
 use lib.Dec.{leb, ltb}
 use lib.ListN.{length}
-use Rattle.theory.specs.Limit.{Limits, capped, first-terms, term-bytes, answer-bytes}
+use Rattle.theory.specs.Limit.{number-bytes, Limits, capped, first-terms, term-bytes, answer-bytes}
 use Rattle.theory.specs.Term.{Term}
 use Rattle.theory.specs.Sort.{good, sort-width, sort-of}
 use Rattle.theory.specs.Optional.{is-some, either}
@@ -30,7 +30,7 @@ well-sorted limits = either false (λ t. good (sort-of t) && leb (sort-width (so
 
 -- one more term has 8 bytes of work memory and a number; `true` and `false` are free
 abbrev pub room : Limits → ℕ → Plain → Bool
-room limits work list = leb (term-bytes * (suc (length list) - first-terms)) work && ltb (length list) (limits .terms)
+room limits work list = leb (term-bytes number-bytes * (suc (length list) - first-terms)) work && ltb (length list) (limits .terms)
 
 -- the tests of a step of either kind, where that many terms are kept; `known` says that it has such a rule, `space` is the bytes lent for
 -- answers, `answered` the answers written so far

@@ -1,5 +1,5 @@
 -- The limits of document 01, each named once, and those that a caller states (document 02, P8).
-use Prim.Native.Nat.{ℕ, min}
+use Prim.Native.Nat.{ℕ, _+_, _*_, min}
 
 -- the greatest width
 abbrev pub max-width : ℕ
@@ -25,13 +25,17 @@ max-job = 16777216
 abbrev pub number-bytes : ℕ
 number-bytes = 2
 
+-- the most bytes that a term's number may have
+abbrev pub long-bytes : ℕ
+long-bytes = 4
+
 -- the bytes of a constant's value
 abbrev pub value-bytes : ℕ
 value-bytes = 8
 
--- the bytes of work memory that a kept term costs
-abbrev pub term-bytes : ℕ
-term-bytes = 8
+-- the bytes of work memory that a kept term costs, where terms' numbers have b bytes
+abbrev pub term-bytes : ℕ → ℕ
+term-bytes b = 4 + 2 * b
 
 -- the bytes of an answer
 abbrev pub answer-bytes : ℕ

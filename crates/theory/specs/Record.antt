@@ -87,6 +87,10 @@ fits n allowed body =
 abbrev pub arguments : ℕ → Bytes → List ℕ
 arguments n body = words ((length body - n) / number-bytes) (drop n body)
 
+-- the bytes of a term's number in a job
+abbrev pub number-length : Bytes → ℕ
+number-length job = number-bytes
+
 -- ---- the kinds of a term, by the numbers that stand before the arguments: none, one, two, or a width and an eight-byte value
 -- `plain` has none, `indexed` one, `twice-indexed` two, `valued` a width and a value
 pub data Shape : Type 0 where

@@ -4,7 +4,7 @@ use mathlib.Core.Bool.{Bool, true, false, cond}
 use mathlib.Core.Logic.{inl, inr}
 use mathlib.Core.List.{List, [], _∷_, _++_, append-assoc, append-nil}
 use mathlib.Core.Option.{Option, none, some}
-use Prim.Native.Nat.{ℕ, zero, suc, _+_, _-_, _≤_}
+use Prim.Native.Nat.{ℕ, zero, suc, _+_, _-_, _≤_, _<_}
 use native.Mathlib.Omega.{arith}
 use lib.Dec.{eqb}
 use lib.ListN.{length, take, drop, length-append, take-append-drop}
@@ -15,12 +15,12 @@ use denote.Enum.Declared.{tagOf}
 use Rattle.theory.specs.Limit.{first-terms, max-job}
 use Rattle.theory.specs.Term.{same-numbers}
 use Rattle.theory.specs.Optional.{either}
-use Rattle.theory.specs.Record.{Bytes, extent, cut, kind-of, step-kind}
+use Rattle.theory.specs.Record.{Bytes, extent, cut, kind-of, step-kind, number-length}
 use Rattle.terms.specs.Framing.{record-at}
-use Rattle.rows.specs.Layout.{missing, max-rows}
+use Rattle.rows.specs.Layout.{link-bytes, link-size, missing}
 use Rattle.rows.specs.Rows as R
 use Rattle.rows.proofs.RowLaws.{length-kept}
-use Rattle.table.specs.Slots.{Table}
+use Rattle.table.specs.Buckets.{Table}
 use Rattle.table.specs.Promise.{count-after, list-after, memory-after, Grown}
 use Rattle.table.specs.declared.kept.Added.{Added}
 use Rattle.table.specs.declared.kept.Added.the-variants.{Found, New, Spent}
@@ -47,7 +47,7 @@ part-is (suc a) (suc b) (x ∷ l) h = let e : suc b - suc a ≡ b - a = omega ar
 
 -- ---- a wiped work memory
 pub covered-none : {work : Bytes} → Table [] work 0 → Covered [] work 0 0
-unfolding R.kept R.column
+unfolding R.kept-as R.column
 covered-none t = record { before = omega arith; table = t; split = refl; rest = empty-clean }
 
 -- ---- one record more
@@ -96,10 +96,10 @@ module _ {job work : Bytes} {rows covered : ℕ} (g : Covered job work rows cove
       pub covered-table : Table (job ++ r) work rows
       covered-table =
           subst (λ (x : Bytes). Table x work rows) whole-is
-          (same-table (take covered job) (drop covered job ++ r) (g .table .slots .rows) (subst (λ (x : Bytes). length x ≤ max-job) (sym whole-is) short) (g .table))
+          (same-table (take covered job) (drop covered job ++ r) (g .table .rows) (subst (λ (x : Bytes). length x ≤ max-job) (sym whole-is) short) (g .table))
 
       rows-same : R.kept (take covered job) work rows ≡ R.kept (job ++ r) work rows
-      rows-same = same-kept (take covered job) (drop covered job ++ r) (g .table .slots .rows) ∙ ap (λ (x : Bytes). R.kept x work rows) whole-is
+      rows-same = same-kept (take covered job) (drop covered job ++ r) (g .table .rows) ∙ ap (λ (x : Bytes). R.kept x work rows) whole-is
 
       record-is : record-at (job ++ r) (length job) ≡ r
       record-is =
@@ -115,14 +115,14 @@ module _ {job work : Bytes} {rows covered : ℕ} (g : Covered job work rows cove
       all-rows e =
           let k : length (kept job) ≡ rows + length (kept (drop covered job))
           = ap length (g .split) ∙ length-append (R.kept (take covered job) work rows) (kept (drop covered job))
-          ∙ ap (λ (n : ℕ). n + length (kept (drop covered job))) (length-kept (take covered job) work rows) in
+          ∙ ap (λ (n : ℕ). n + length (kept (drop covered job))) (length-kept (link-size (take covered job)) (take covered job) work rows) in
           g .split ∙ ap (λ (x : List Bytes). R.kept (take covered job) work rows ++ x) (nothing (kept (drop covered job)) (omega arith)) ∙ append-nil (R.kept (take covered job) work rows)
 
-      pub covered-row : {work′ : Bytes} {a : Added} {limit p : ℕ} → rows ≡ length (kept job) → Grown (job ++ r) work work′ rows limit (length job) 0 0 a → a ≡ New p
+      pub covered-row : {work′ : Bytes} {a : Added} {limit p : ℕ} → rows ≡ length (kept job) → Grown (number-length (job ++ r)) (job ++ r) work work′ rows limit (length job) 0 a → a ≡ New p
           → Covered (job ++ r) work′ (rows + 1) (length (job ++ r))
       unfolding count-after list-after
       covered-row {work′} {a} {limit} {p} e h d =
-          let t : Grown (job ++ r) work work′ rows limit (length job) 0 0 (New p) = subst (Grown (job ++ r) work work′ rows limit (length job) 0 0) d h in
+          let t : Grown (number-length (job ++ r)) (job ++ r) work work′ rows limit (length job) 0 (New p) = subst (Grown (number-length (job ++ r)) (job ++ r) work work′ rows limit (length job) 0) d h in
           let n = length (job ++ r) in
           let all : take n (job ++ r) ≡ job ++ r = take-all n (job ++ r) (omega arith) in
           let none-left : drop n (job ++ r) ≡ [] = drop-length (job ++ r) in
@@ -136,7 +136,7 @@ module _ {job work : Bytes} {rows covered : ℕ} (g : Covered job work rows cove
           }
 
 -- no row was added: the work memory is as it was
-pub unchanged : {job work work′ : Bytes} {n limit at : ℕ} (a : Added) → OneOf (0 ∷ 2 ∷ []) (tagOf E.the-type a) → Grown job work work′ n limit at 0 0 a → work′ ≡ work
+pub unchanged : {job work work′ : Bytes} {n limit at : ℕ} (a : Added) → OneOf (0 ∷ 2 ∷ []) (tagOf E.the-type a) → Grown (number-length job) job work work′ n limit at 0 a → work′ ≡ work
 unfolding memory-after
 unchanged (Found p) k h = h .memory-is
 unchanged (New p) (inl k) h = absurd (omega arith)
@@ -167,20 +167,21 @@ row-place p w (x ∷ xs) h = go (same-numbers w x) (row-place (suc p) w xs (omeg
     go false e = e
 
 module _ {job work : Bytes} {rows covered : ℕ} (g : Covered job work rows covered) (w : Bytes) where
-  few-rows : rows ≤ max-rows
-  few-rows = g .table .slots .rows .few
+  few-rows : first-terms + rows < 65536
+  unfolding link-bytes
+  few-rows = g .table .rows .few
 
   by-rows : place-from first-terms w (R.kept (take covered job) work rows)
       ≡ cond (eqb (R.place-of w (R.kept (take covered job) work rows)) missing) none (some (R.place-of w (R.kept (take covered job) work rows)))
   by-rows =
-      let n : length (R.kept (take covered job) work rows) ≡ rows = length-kept (take covered job) work rows in
+      let n : length (R.kept (take covered job) work rows) ≡ rows = length-kept (link-size (take covered job)) (take covered job) work rows in
       let f = few-rows in
       row-place first-terms w (R.kept (take covered job) work rows) (omega arith)
 
   in-parts : place-from first-terms w (kept job)
       ≡ either (place-from (rows + 2) w (kept (drop covered job))) some (place-from first-terms w (R.kept (take covered job) work rows))
   in-parts =
-      let n : first-terms + length (R.kept (take covered job) work rows) ≡ rows + 2 = ap (λ (m : ℕ). 2 + m) (length-kept (take covered job) work rows) ∙ omega arith in
+      let n : first-terms + length (R.kept (take covered job) work rows) ≡ rows + 2 = ap (λ (m : ℕ). 2 + m) (length-kept (link-size (take covered job)) (take covered job) work rows) ∙ omega arith in
       ap (place-from first-terms w) (g .split) ∙ place-append first-terms w (R.kept (take covered job) work rows) (kept (drop covered job))
       ∙ ap (λ (m : ℕ). either (place-from m w (kept (drop covered job))) some (place-from first-terms w (R.kept (take covered job) work rows))) n
 

@@ -13,7 +13,7 @@ use borrow.Author.Tests.{eq-eqb, ne-eqb, le-leb, lt-leb}
 use Rattle.theory.specs.Limit.{first-terms, max-arguments, max-job, value-bytes}
 use Rattle.theory.specs.Kind.{Op, kind}
 use Rattle.theory.specs.Term.{same-numbers}
-use Rattle.theory.specs.Record.{Bytes, little-endian, word, bytes-of, word-bytes, extent, whole, records-of, kind-of, step-kind, shape-of}
+use Rattle.theory.specs.Record.{Bytes, little-endian, word, bytes-of, word-bytes, extent, whole, records-of, kind-of, step-kind, shape-of, number-length}
 use Rattle.terms.specs.declared.Frame.{Frame}
 use Rattle.terms.specs.declared.Frame.the-variants.{Broken, Whole}
 use Rattle.terms.specs.Framing.{frame-of}
@@ -24,9 +24,9 @@ use Rattle.text.specs.Writing.{Clean, Lone, terms-of, kept, place-from, append,
 use Rattle.theory.proofs.Positions.{records-whole, records-broken}
 use Rattle.text.proofs.Records.{stands, clean-more, kept-more}
 use Rattle.text.proofs.Encoding.{words-length, record-length}
-use Rattle.rows.specs.Layout.{missing, max-rows}
+use Rattle.rows.specs.Layout.{link-bytes, missing}
 use Rattle.rows.specs.Rows as R
-use Rattle.table.specs.Slots.{Table}
+use Rattle.table.specs.Buckets.{Table}
 use Rattle.table.specs.Promise.{Grown}
 use Rattle.table.specs.declared.kept.Added.{Added}
 use Rattle.table.specs.declared.kept.Added.the-variants.{New}
@@ -305,16 +305,16 @@ module _ {out work : Bytes} {s : Spot} {end : ℕ} (g : Longer out work s end) w
         (subst (λ (n : ℕ). n + extent (drop n (so-far out s ++ last)) ≤ length (so-far out s ++ last)) job-long
         (record-ends (g .ready .rows) last (g .ready .clean) (g .lone) no-step fits-job))
 
-    pub grows-row : {work′ : Bytes} {a : Added} {limit p : ℕ} → s .rows ≡ s .terms → Grown (take end out) work work′ (s .rows) limit (s .done) 0 0 a → a ≡ New p
+    pub grows-row : {work′ : Bytes} {a : Added} {limit p : ℕ} → s .rows ≡ s .terms → Grown (number-length (take end out)) (take end out) work work′ (s .rows) limit (s .done) 0 a → a ≡ New p
         → Grows out work′ end (record { done = end; terms = s .terms + 1; rows = s .terms + 1; covered = end })
     grows-row {work′} {a} {limit} {p} e h d =
         let j = job-long in
         let m = last-long in
         let o = g .on in
         let n : length (so-far out s ++ last) ≡ end = length-append (so-far out s) last ∙ omega arith in
-        let k : Grown (so-far out s ++ last) work work′ (s .rows) limit (length (so-far out s)) 0 0 a
-        = subst (λ (x : Bytes). Grown x work work′ (s .rows) limit (length (so-far out s)) 0 0 a) far
-        (subst (λ (i : ℕ). Grown (take end out) work work′ (s .rows) limit i 0 0 a) (sym j) h) in
+        let k : Grown (number-length (so-far out s ++ last)) (so-far out s ++ last) work work′ (s .rows) limit (length (so-far out s)) 0 a
+        = subst (λ (x : Bytes). Grown (number-length x) x work work′ (s .rows) limit (length (so-far out s)) 0 a) far
+        (subst (λ (i : ℕ). Grown (number-length (take end out)) (take end out) work work′ (s .rows) limit i 0 a) (sym j) h) in
         let c : Covered (so-far out s ++ last) work′ (s .rows + 1) (length (so-far out s ++ last))
         = covered-row (g .ready .rows) last (g .ready .clean) (g .lone) no-step fits-job (e ∙ g .ready .counted) k d in
         let q : s .rows + 1 ≡ s .terms + 1 = omega arith in
@@ -331,8 +331,9 @@ module _ {out work : Bytes} {s : Spot} (g : Ready out work s) where
   pub find-table : Table (take (s .covered) out) work (s .rows)
   find-table = subst (λ (x : Bytes). Table x work (s .rows)) covered-is (g .rows .table)
 
-  pub find-bounds : (s .covered ≤ s .done) × (s .done ≤ length out) × (s .rows ≤ max-rows)
-  find-bounds = (covered-on, g .within, g .rows .table .slots .rows .few)
+  pub find-bounds : (s .covered ≤ s .done) × (s .done ≤ length out) × (first-terms + s .rows < 65536)
+  unfolding link-bytes
+  find-bounds = (covered-on, g .within, g .rows .table .rows .few)
 
   pub find-row : (w : Bytes) {p : ℕ} → p ≡ R.place-of w (R.kept (take (s .covered) out) work (s .rows)) → (p ≡ missing → ⊥) → some p ≡ place-from first-terms w (kept (so-far out s))
   find-row w e f = found-row (g .rows) w (e ∙ ap (λ (x : Bytes). R.place-of w (R.kept x work (s .rows))) (sym covered-is)) f

@@ -10,7 +10,7 @@ use Rattle.theory.specs.Record.{Bytes, kind-of, step-kind}
 use Rattle.theory.specs.Kind.{Op}
 use Rattle.text.specs.Writing.{Lone, Clean, kept, Placed, placed, term-record}
 use Rattle.rows.specs.Rows as R
-use Rattle.table.specs.Slots.{Table}
+use Rattle.table.specs.Buckets.{Table}
 use Rattle.words.specs.Words.{piece}
 use Rattle.writer.specs.declared.places.Spot.{Spot}
 use Rattle.writer.specs.declared.places.Put as put

@@ -131,7 +131,7 @@ fn cover(out: &[u8], work: &mut [u8], spot: Spot, end: usize) -> Spot
     if MAX_COVERED < end {
         return plain;
     }
-    let added = add(&out[..end], work, rows, Term::MAX_TERMS, done, 0, 0);
+    let added = add(&out[..end], work, rows, Term::MAX_TERMS, done, 0);
     if let Added::New(_) = added {
         return Spot {
             done: end,

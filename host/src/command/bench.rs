@@ -1,5 +1,7 @@
 //! `bbhost bench`: how long jobs take.
-use super::{Failure, Status, about, grouped, interrupt, number, progress::Progress, sweeps, texts, unknown, value};
+use super::{
+    Failure, Status, about, fill, grouped, interrupt, number, progress::Progress, sweeps, texts, unknown, value,
+};
 use bitblast_host::{
     Answers,
     jobs::{self, CONG},
@@ -20,7 +22,8 @@ use std::{
 
 /// How the command is used.
 pub const USAGE: &str = "  bbhost bench [--work BYTES] [--against COMMAND] [--write DIR]
-      Measures a list of jobs, sweeps beside a plain Rust evaluator of the same terms, and texts. --against also runs
+      Measures a list of jobs, the same with exactly the work memory that their terms need, sweeps beside a plain Rust
+      evaluator of the same terms, and texts. --against also runs
       `COMMAND FILE RUNS` on each job that has only rules of the original, as with `oracle bench`, and prints the ratio.
       --write only writes the jobs as files.";
 
@@ -34,14 +37,14 @@ const LEAST_RUNS: u32 = 5;
 const MOST_RUNS: u32 = 20_000;
 
 /// A job that is measured.
-struct Measured {
-    name: String,
-    job: Vec<u8>,
+pub struct Measured {
+    pub name: String,
+    pub job: Vec<u8>,
     /// Whether the original has all of the job's rules.
     original: bool,
 }
 
-fn jobs() -> Vec<Measured> {
+pub fn jobs() -> Vec<Measured> {
     let mut list = Vec::new();
     let mut add = |name: &str, job: Vec<u8>, rule: usize| {
         list.push(Measured { name: name.to_owned(), job, original: rule <= ORIGINAL_RULES });
@@ -98,9 +101,10 @@ pub fn run(words: &[OsString], out: &mut impl Write) -> Result<Status, Failure> 
     writeln!(out)?;
     let status = measure_all(&mut memory, other.as_ref(), out)?;
     drop(other);
+    let filled = fill::measure_all(&mut memory.1, out)?;
     let swept = sweeps::measure_all(&mut memory, out)?;
     let converted = texts::measure_all(out)?;
-    Ok(status.max(swept).max(converted))
+    Ok(status.max(filled).max(swept).max(converted))
 }
 
 /// Another program, and a folder of the jobs for it, which goes when the measuring ends, by an interrupt too.

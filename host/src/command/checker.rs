@@ -1,6 +1,6 @@
 //! Who checks the jobs of `bbhost check`: this process, or a child of it for each job, which is ended where it takes too long.
 use super::{Failure, Status, number, unknown};
-use bitblast_host::{Limits, Outcome, Refused, Report, Service, Tally, run_job_within, tally_answers};
+use bitblast_host::{Limits, Outcome, Refused, Report, Seeds, Service, Tally, run_job_within, tally_answers};
 use std::{
     env,
     ffi::OsString,
@@ -159,6 +159,7 @@ pub fn work(words: &[OsString], out: &mut impl Write) -> Result<Status, Failure>
     }
     let (mut job, mut work, mut answers) = (Vec::new(), vec![0; work], vec![0; room]);
     io::stdin().lock().read_to_end(&mut job)?;
+    Seeds::default().put(&mut work);
     let outcome = run_job_within(&job, &mut work, &mut answers, limits);
     outcome.numbers().iter().try_for_each(|number| out.write_all(&number.to_le_bytes()))?;
     out.write_all(&answers[..bitblast_host::ANSWER_BYTES * outcome.answers as usize])?;

@@ -7,6 +7,7 @@ pub mod compare;
 pub mod convert;
 pub mod count;
 mod explain;
+mod fill;
 mod interrupt;
 mod json;
 pub mod known;

@@ -18,15 +18,19 @@ use Rattle.bitblast.proofs.bb_job_within.Tie as tie
 slice-aggregate-check-job : tie.Need-slice-aggregate-check-job
 slice-aggregate-check-job c = sym (length-take-le _ _ (omega arith))
 
+same-length : tie.Need-same-length
+same-length c = search needs
+
 returns : tie.Need-returns
 returns c =
     let j = c .before .before .before .before .before .before .before .before in
-    let s = j .before .before .before .before .before .before in
+    let l = j .before .before .before .before .before in
+    let s = l .before .before .before .before in
     let a = s .before .args in
-    let e = run-enough (stated (a .width-limit) (a .term-limit)) (now (a .job)) (now (a .work)) (j .before .before .before .used .result) (length (now (a .answers))) (j .before .before .before .used .ensures) in
+    let e = run-enough (stated (a .width-limit) (a .term-limit)) (now (a .job)) (now (a .work)) (l .lend .result) (length (now (a .answers))) (l .lend .ensures .0) (l .lend .last .1 .0) (let q : length (l .lend .last .1 .0) ≡ length (now (a .work)) = search needs in q) in
     called (stated (a .width-limit) (a .term-limit)) (now (a .job)) (now (a .work)) (now (a .answers)) (all-bytes (now (a .job)) (λ i. s .shared-slice-known .given i)) (j .check-job .result)
     (j .check-job .ensures .0 ∙ ap returned e) (j .check-job .ensures .1 .0 ∙ ap (λ (o : Outcome). answers-after (o .answers) (now (a .answers))) e)
-    (zeros (now (a .work)) (c .before .before .wipe .ensures) (let l : length (c .before .before .wipe .last .0) ≡ length (now (a .work)) = search needs in l))
+    (zeros (now (a .work)) (c .before .before .wipe .ensures) (same-length c))
 
 pub bb-job-within-spec : {M : Type 1} → statement M
 bb-job-within-spec =
@@ -37,6 +41,6 @@ bb-job-within-spec =
     slice-aggregate-check-job
     (λ c κs. search needs)
     (λ c κs. search needs)
-    (λ c. search needs)
+    same-length
     (λ c. search needs)
     returns)

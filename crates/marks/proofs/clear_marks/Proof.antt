@@ -1,13 +1,14 @@
 use Prim.Native.Nat.{_*_, _-_, _≤_}
 use native.Mathlib.Omega.{arith}
 use lib.ListN.{length}
-use Rattle.theory.specs.Limit.{term-bytes}
+use Rattle.rows.specs.Layout.{row-size}
+use Rattle.theory.specs.Limit.{number-bytes}
 use Rattle.marks.proofs.MarkLaws.{Clearing, clearing-start, clearing-room, clearing-turn, clearing-done}
 use Rattle.marks.proofs.clear_marks.Statement.{statement}
 use Rattle.marks.proofs.clear_marks.Tie as tie
 
 abbrev Inv-loop : tie.InvT-loop
-Inv-loop work₀ n k₀ work k = Clearing work₀ n work k × (n * term-bytes ≤ length work₀)
+Inv-loop work₀ n k₀ work k = Clearing work₀ n work k × (n * row-size number-bytes ≤ length work₀)
 
 abbrev μ-loop : tie.MeasureT-loop
 μ-loop work₀ n k₀ work k = n - k

@@ -10,10 +10,10 @@ returns-2 : tie.Need-returns-2
 returns-2 c = following-true _ _ _ (c .before .if1 .left) (c .if2 .taken)
 
 returns-3 : tie.Need-returns-3
-returns-3 c = following-false _ _ _ (c .before .before .before .if1 .left) (c .before .before .if2 .left) (c .before .if3 .taken) (c .slot .ensures)
+returns-3 c = following-false _ _ _ (c .before .before .before .if1 .left) (c .before .before .if2 .left) (c .before .if3 .taken) (c .linked .ensures)
 
 returns-4 : tie.Need-returns-4
-returns-4 c = following-row _ _ _ (c .before .before .before .if1 .left) (c .before .before .if2 .left) (c .before .if3 .left) (c .slot2 .ensures)
+returns-4 c = following-row _ _ _ (c .before .before .before .if1 .left) (c .before .before .if2 .left) (c .before .if3 .left) (c .linked2 .ensures)
 
 pub next-marked-spec : {M : Type 1} → statement M
 next-marked-spec = tie.close (tie.spec (λ c. search needs) returns returns-2 (λ c κs. search needs) returns-3 (λ c κs. search needs) returns-4)

@@ -1,5 +1,6 @@
 use borrow.Author.Needs.{needs}
-use Rattle.table.specs.Slots.{stored-slot}
+use Rattle.theory.specs.Limit.{number-bytes}
+use Rattle.rows.specs.Rows.{stored-link}
 use Rattle.marks.proofs.put_mark.Statement.{statement}
 use Rattle.marks.proofs.put_mark.Tie as tie
 
@@ -16,9 +17,9 @@ same-length : tie.Need-same-length
 same-length c = search needs
 
 returns : tie.Need-returns
-unfolding stored-slot
+unfolding stored-link
 returns c = c .before .before .put-number .ensures
 
 pub put-mark-spec : {M : Type 1} → statement M
 put-mark-spec =
-    tie.close (tie.spec mul-put-number add-put-number put-number-requires same-length returns)
+    tie.close (tie.spec mul-put-number add-put-number (λ c. search needs) put-number-requires same-length returns)

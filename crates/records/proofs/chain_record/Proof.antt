@@ -2,9 +2,12 @@
 use borrow.Author.Needs.{needs}
 use denote.Ref.{now}
 use Rattle.theory.specs.Limit.{rack}
-use Rattle.records.proofs.Turns.{chain-stopped, chain-right, chain-claimed, chain-turned}
+use Rattle.records.proofs.Turns.{few-terms, chain-stopped, chain-right, chain-claimed, chain-turned}
 use Rattle.records.proofs.chain_record.Statement.{statement}
 use Rattle.records.proofs.chain_record.Tie as tie
+
+chain-fault-requires : tie.Need-chain-fault-requires
+chain-fault-requires c κs = let s = c .before .before .before in (few-terms (s .pre .0 .store), s .pre .1 .roomy)
 
 returns : tie.Need-returns
 returns c =
@@ -48,7 +51,7 @@ pub chain-record-spec : {M : Type 1} → statement M
 chain-record-spec =
     tie.close
     (tie.spec
-    (λ c κs. search needs)
+    chain-fault-requires
     returns
     chain-verdict-requires
     judge-requires

@@ -2,9 +2,12 @@
 use borrow.Author.Needs.{needs}
 use denote.Ref.{now}
 use Rattle.theory.specs.Limit.{rack}
-use Rattle.records.proofs.Turns.{step-stopped, step-right, step-literals, step-turned}
+use Rattle.records.proofs.Turns.{few-terms, step-stopped, step-right, step-literals, step-turned}
 use Rattle.records.proofs.step_record.Statement.{statement}
 use Rattle.records.proofs.step_record.Tie as tie
+
+step-fault-requires : tie.Need-step-fault-requires
+step-fault-requires c κs = let s = c .before .before .before in (s .pre .0 .placed, few-terms (s .pre .0 .store), s .pre .1)
 
 returns : tie.Need-returns
 returns c =
@@ -34,7 +37,7 @@ pub step-record-spec : {M : Type 1} → statement M
 step-record-spec =
     tie.close
     (tie.spec
-    (λ c κs. search needs)
+    step-fault-requires
     returns
     answer-requires
     answered-turn-requires

@@ -1,11 +1,18 @@
 -- `term_record`: the arguments are tested here, sort and room by `intern`.
 use borrow.Author.Needs.{needs}
 use mathlib.Core.Path.{sym, _∙_}
+use native.Mathlib.Omega.{arith}
 use borrow.Author.Tests.{not-true, not-false}
 use Rattle.intern.specs.Interning.{limits-of}
-use Rattle.records.proofs.Turns.{offered, not-below, term-turned}
+use Rattle.records.proofs.Turns.{few-terms, offered, not-below, term-turned}
 use Rattle.records.proofs.term_record.Statement.{statement}
 use Rattle.records.proofs.term_record.Tie as tie
+
+add-below : tie.Need-add-below
+add-below c = omega (arith, few-terms (c .before .before .pre .store))
+
+cast-below : tie.Need-cast-below
+cast-below c = omega (arith, few-terms (c .before .before .pre .store))
 
 returns : tie.Need-returns
 returns c =
@@ -28,8 +35,8 @@ pub term-record-spec : {M : Type 1} → statement M
 term-record-spec =
     tie.close
     (tie.spec
-    (λ c. search needs)
-    (λ c. search needs)
+    add-below
+    cast-below
     (λ c κs. search needs)
     returns
     intern-requires

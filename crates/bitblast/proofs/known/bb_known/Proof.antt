@@ -13,8 +13,8 @@ use Rattle.bitblast.proofs.AskingLaws.{known-run, carried}
 use Rattle.bitblast.proofs.known.bb_known.Statement.{statement}
 use Rattle.bitblast.proofs.known.bb_known.Tie as tie
 
-used-requires : tie.Need-used-requires
-used-requires c κs = search needs
+lend-requires : tie.Need-lend-requires
+lend-requires c κs = search needs
 
 slice-relend-prefix-known-job : tie.Need-slice-relend-prefix-known-job
 slice-relend-prefix-known-job c = search needs
@@ -42,15 +42,16 @@ same-length-4 c = search needs
 
 returns : tie.Need-returns
 returns c =
-    let a = c .before .before .before .before .before .before .before .before .before .before .before .before .before .before .before .before .before .before .before .before .before .before .before .before .args in
+    let a = c .before .before .before .before .before .before .before .before .before .before .before .before .before .before .before .before .before .before .before .before .before .before .before .before .before .before .before .args in
+    let l = c .before .before .before .before .before .before .before .before .before .before .before .before .before .before .before .before .before .before .before in
     let r = c .before .before .before .before .before .before .before .before .before .before .before .before .known-job .ensures in
-    let e = run-enough rack (now (a .job)) (now (a .work)) (c .before .before .before .before .before .before .before .before .before .before .before .before .before .before .before .before .before .used .result) (length (now (a .answers))) (c .before .before .before .before .before .before .before .before .before .before .before .before .before .before .before .before .before .used .ensures) in
+    let e = run-enough rack (now (a .job)) (now (a .work)) (l .lend .result) (length (now (a .answers))) (l .lend .ensures .0) (l .lend .last .1 .0) (let q : length (l .lend .last .1 .0) ≡ length (now (a .work)) = search needs in q) in
     let g = known-run (now (a .job)) _ _ _ e (length (now (a .values))) (a .number) (now (a .inputs)) (length (now (a .outputs))) in (
       r .0 ∙ ap returned e,
       (
         r .1 .0 ∙ ap (λ (o : Outcome). answers-after (o .answers) (now (a .answers))) e,
         (
-          zeros (now (a .work)) (c .before .before .wipe .ensures) (let l : length (c .before .before .wipe .last .0) ≡ length (now (a .work)) = search needs in l),
+          zeros (now (a .work)) (c .before .before .wipe .ensures) (let q : length (c .before .before .wipe .last .0) ≡ length (now (a .work)) = search needs in q),
           (carried (λ (x : Derived). x .code) (r .1 .1 .0) g, (carried (λ (x : Derived). written (x .bytes) (now (a .outputs))) (r .1 .1 .1 .0) g, r .1 .1 .1 .1)),
         ),
       ),
@@ -60,7 +61,7 @@ pub bb-known-spec : {M : Type 1} → statement M
 bb-known-spec =
     tie.close
     (tie.spec
-    used-requires
+    lend-requires
     slice-relend-prefix-known-job
     slice-aggregate-known-job
     known-job-requires

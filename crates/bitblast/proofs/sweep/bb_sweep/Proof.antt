@@ -12,8 +12,8 @@ use Rattle.bitblast.proofs.AskingLaws.{sweep-run}
 use Rattle.bitblast.proofs.sweep.bb_sweep.Statement.{statement}
 use Rattle.bitblast.proofs.sweep.bb_sweep.Tie as tie
 
-used-requires : tie.Need-used-requires
-used-requires c κs = search needs
+lend-requires : tie.Need-lend-requires
+lend-requires c κs = search needs
 
 slice-relend-prefix-sweep-job : tie.Need-slice-relend-prefix-sweep-job
 slice-relend-prefix-sweep-job c = search needs
@@ -38,14 +38,15 @@ same-length-3 c = search needs
 
 returns : tie.Need-returns
 returns c =
-    let a = c .before .before .before .before .before .before .before .before .before .before .before .before .before .before .before .before .before .before .before .args in
+    let a = c .before .before .before .before .before .before .before .before .before .before .before .before .before .before .before .before .before .before .before .before .before .before .args in
+    let l = c .before .before .before .before .before .before .before .before .before .before .before .before .before .before .before .before in
     let r = c .before .before .before .before .before .before .before .before .before .before .sweep-job .ensures in
-    let e = run-enough rack (now (a .job)) (now (a .work)) (c .before .before .before .before .before .before .before .before .before .before .before .before .before .before .used .result) (length (now (a .answers))) (c .before .before .before .before .before .before .before .before .before .before .before .before .before .before .used .ensures) in (
+    let e = run-enough rack (now (a .job)) (now (a .work)) (l .lend .result) (length (now (a .answers))) (l .lend .ensures .0) (l .lend .last .1 .0) (let q : length (l .lend .last .1 .0) ≡ length (now (a .work)) = search needs in q) in (
       r .0 ∙ ap returned e,
       (
         r .1 .0 ∙ ap (λ (o : Outcome). answers-after (o .answers) (now (a .answers))) e,
         (
-          zeros (now (a .work)) (c .before .before .wipe .ensures) (let l : length (c .before .before .wipe .last .0) ≡ length (now (a .work)) = search needs in l),
+          zeros (now (a .work)) (c .before .before .wipe .ensures) (let q : length (c .before .before .wipe .last .0) ≡ length (now (a .work)) = search needs in q),
           (
             r .1 .1 .0 ∙ sweep-run (now (a .job)) _ _ _ e (length (now (a .values))) (a .number),
             r .1 .1 .1,
@@ -58,7 +59,7 @@ pub bb-sweep-spec : {M : Type 1} → statement M
 bb-sweep-spec =
     tie.close
     (tie.spec
-    used-requires
+    lend-requires
     slice-relend-prefix-sweep-job
     slice-aggregate-sweep-job
     sweep-job-requires

@@ -3,6 +3,7 @@ use mathlib.Core.Logic.{⊎-elim}
 use Prim.Native.Nat.{_+_, _-_, _<_, _≤_}
 use native.Mathlib.Omega.{arith}
 use lib.Dec.{T}
+use Rattle.rows.specs.Layout.{link-bytes}
 use Rattle.theory.specs.Limit.{first-terms}
 use Rattle.marks.specs.Marks.{mark-of}
 use Rattle.digits.proofs.DigitLaws.{top-room, place-room, place-to}
@@ -32,6 +33,7 @@ cast-at : tie.Need-cast-at Inv-loop μ-loop
 cast-at c = record { fits = omega (arith, c .before .before .before .before .before .variable-bits .ensures .few) }
 
 add-at : tie.Need-add-at Inv-loop μ-loop
+unfolding link-bytes
 add-at c = let i = c .before .before .before .before .before .before .before .loop .inv .0 in record { fits = omega (arith, i .small, i .most, c .before .before .before .before .before .variable-bits .ensures .few, i .marked .shelf .rows .few) }
 
 next-marked-requires : tie.Need-next-marked-requires Inv-loop μ-loop

@@ -3,6 +3,7 @@ use denote.Ref.{now}
 use mathlib.Core.Path.{ap, _∙_}
 use native.Mathlib.Omega.{arith}
 use borrow.Author.Tests.{not-true, not-false}
+use Rattle.rows.proofs.RowLaws.{rows-small}
 use Rattle.theory.specs.Record.{Bytes}
 use Rattle.sweeps.specs.Calls.{written}
 use Rattle.sweeper.proofs.NumberLaws.{marked-of, none-low, some-low}
@@ -20,7 +21,7 @@ add-if2 : tie.Need-add-if2
 add-if2 c = search needs
 
 mul-if2 : tie.Need-mul-if2
-mul-if2 c = search needs
+mul-if2 c = omega (arith, rows-small (c .before .before .before .before .before .before .pre .rows))
 
 returns-2 : tie.Need-returns-2
 returns-2 c =

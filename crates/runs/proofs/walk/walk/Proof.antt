@@ -11,7 +11,7 @@ use Rattle.runs.proofs.walk.walk.Statement.{statement}
 use Rattle.runs.proofs.walk.walk.Tie as tie
 
 abbrev Inv-loop : tie.InvT-loop
-Inv-loop job work₀ answers₀ limits s₀ work answers s = (s .stop ≡ 0) × Between (limits-of limits) job (length work₀) answers₀ work answers s
+Inv-loop job work₀ answers₀ limits s₀ work answers s = (s .stop ≡ 0) × Between (limits-of limits) job work₀ answers₀ work answers s
 
 abbrev μ-loop : tie.MeasureT-loop
 μ-loop job work₀ answers₀ limits s₀ work answers s = length job - s .at
@@ -39,7 +39,7 @@ returns c =
     let l = n .before .before .before .before .before in
     let a = l .before .before .before in
     let s = a .before .before .before .before .before in
-    walked (s .pre) (stops (l .loop .inv .1) (n .before .before .before .if1 .taken) _ _ (n .next .kept .1 .0) (n .next .kept .1 .1 .0) (n .next .ensures) (c .if2 .taken)) (a .start .kept .1 .0)
+    walked (s .pre) (stops (l .loop .inv .1) (n .before .before .before .if1 .taken) _ _ (n .next .kept .1 .0) (n .next .kept .1 .1 .0) (n .next .ensures) (c .if2 .taken)) (a .start .ensures .memory-is)
 
 loop-less : tie.Need-loop-less Inv-loop μ-loop
 loop-less c =
@@ -67,7 +67,7 @@ returns-2 c =
     let l = c .before .before in
     let a = l .before .before .before in
     let s = a .before .before .before .before .before in
-    walked (s .pre) (ends (l .loop .inv .1) (l .loop .inv .0) (c .if1 .left)) (a .start .kept .1 .0)
+    walked (s .pre) (ends (l .loop .inv .1) (l .loop .inv .0) (c .if1 .left)) (a .start .ensures .memory-is)
 
 pub walk-spec : {M : Type 1} → statement M
 walk-spec =

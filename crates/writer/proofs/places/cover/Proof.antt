@@ -2,6 +2,7 @@ use borrow.Author.Needs.{needs}
 use mathlib.Core.Path.{refl, sym}
 use native.Mathlib.Omega.{arith}
 use lib.Seq.{length-take-le}
+use Rattle.rows.specs.Layout.{link-bytes}
 use Rattle.writer.proofs.CoverLaws.{unchanged}
 use Rattle.writer.proofs.PlaceLaws.{grows-plain, grows-row, add-ready, add-ends}
 use Rattle.writer.proofs.places.cover.Statement.{statement}
@@ -17,7 +18,8 @@ slice-aggregate-add : tie.Need-slice-aggregate-add
 slice-aggregate-add c = sym (length-take-le _ _ (c .before .before .before .before .before .before .before .pre .within))
 
 add-requires : tie.Need-add-requires
-add-requires c κs = (add-ready (c .before .before .before .before .before .before .before .before .pre) (c .before .before .if2 .left), add-ends (c .before .before .before .before .before .before .before .before .pre) (c .before .before .if2 .left), omega arith, omega arith)
+unfolding link-bytes
+add-requires c κs = (add-ready (c .before .before .before .before .before .before .before .before .pre) (c .before .before .if2 .left), add-ends (c .before .before .before .before .before .before .before .before .pre) (c .before .before .if2 .left), omega arith)
 
 returns-3 : tie.Need-returns-3
 returns-3 c = grows-row (c .before .before .before .before .before .before .before .before .before .before .before .before .before .pre) (c .before .before .before .before .before .before .before .if2 .left) (c .before .before .before .before .before .before .before .before .if1 .left) (c .before .before .before .before .add .ensures) (c .enum-told .given .1)

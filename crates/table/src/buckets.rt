@@ -1,0 +1,140 @@
+// Separate chaining over the rows. A record's hash leads to a bucket; the bucket's head names its newest row, and each row's link the one before it. Heads
+// stand after the rows, and the seed of the hash in the last bytes of the work memory.
+ghost use mathlib.Core.Path.{_≡_};
+ghost use Prim.Native.Nat.{_+_, _*_, _-_, _≤_, _<_};
+ghost use lib.ListN.{length};
+ghost use Rattle.rows.specs.Layout.{Bounded, link-bytes, row-size};
+ghost use Rattle.rows.specs.Rows.{kept-as, place-of};
+ghost use Rattle.terms.specs.Bodies.{Length};
+ghost use Rattle.table.specs.Buckets.{most-heads, seed-bytes, fold, hash-end, heads-start, head-count, multiplier, hash-of, bucket-of, head-at, first-in, stored-head, Sought};
+use rows::bytes::number;
+use rows::bytes::put_number;
+use rows::layout::FIRST_PLACE;
+use rows::layout::FIXED_BYTES;
+use rows::layout::MISSING;
+use rows::layout::OFFSET_BYTES;
+use rows::link_at;
+use rows::offset_as;
+use terms::Term;
+
+// The most heads that a table has: about twice the most terms.
+const MOST_HEADS: usize = 2097152;
+
+// The bytes of a word of the hash.
+const WORD_BYTES: usize = 2;
+
+// What is above every hash.
+const HASH_END: usize = 2147483650;
+
+// The bytes of the seed.
+pub const SEED_BYTES: usize = 4;
+
+// Where the heads start in a work memory of `len` bytes: after as many rows as it can ever hold.
+pub fn heads_start(len: usize, bytes: usize, link: usize) -> usize
+    requires { ⌜ Length bytes × (link ≡ link-bytes bytes) ⌝ }
+    ensures { λ r. ⌜ (r ≡ heads-start bytes len) × (r ≤ len) ⌝ }
+{
+    len / (FIXED_BYTES + 2 * bytes) * (OFFSET_BYTES + 2 * link)
+}
+
+// How many heads there are.
+pub fn head_count(len: usize, start: usize, link: usize) -> usize
+    requires { ⌜ Length link × (start ≤ len) ⌝ }
+    ensures { λ r. ⌜ r ≡ head-count link len start ⌝ }
+{
+    let left = len - start;
+    if left < SEED_BYTES {
+        return 0;
+    }
+    let heads = (left - SEED_BYTES) / link;
+    if heads < MOST_HEADS {
+        heads
+    } else {
+        MOST_HEADS
+    }
+}
+
+// The same modulo 2 ^ 31 - 1, and not much above it: two shifts in place of a division.
+fn fold(x: usize) -> usize
+    ensures { λ r. ⌜ r ≡ fold x ⌝ }
+{
+    x % 2147483648 + x / 2147483648
+}
+
+// A number made of all bytes of a record: the value at m of the polynomial that its words of two bytes are. The last word may be shorter.
+pub fn hash(m: usize, s: &[u8]) -> usize
+    requires { ⌜ m ≤ 1073741824 ⌝ }
+    ensures { λ r. ⌜ Bounded r (hash-of m (now (s .entry))) hash-end ⌝ }
+{
+    let mut h: usize = 0;
+    let mut i: usize = 0;
+    while i + WORD_BYTES <= s.len() {
+        h = fold((h + number(s, i, WORD_BYTES)) * m);
+        i += WORD_BYTES;
+    }
+    if i == s.len() {
+        return fold(h);
+    }
+    fold(fold((h + number(s, i, s.len() - i)) * m))
+}
+
+// The bucket of a record, of c buckets.
+pub fn bucket(work: &[u8], c: usize, wanted: &[u8]) -> usize
+    requires { ⌜ (c ≤ most-heads) × (0 < c → seed-bytes ≤ length (now work)) ⌝ }
+    ensures { λ r. ⌜ r ≡ bucket-of (now (work .entry)) c (now (wanted .entry)) ⌝ }
+{
+    if c == 0 {
+        return 0;
+    }
+    let seed = number(work, work.len() - SEED_BYTES, SEED_BYTES);
+    hash((seed + 668265263) % 1073741824 + 1, wanted) * c / HASH_END
+}
+
+// One more than the newest row of bucket j.
+pub fn first_in(work: &[u8], link: usize, n: usize, start: usize, c: usize, j: usize) -> usize
+    requires { ⌜ Length link × (0 < c → start + c * link ≤ length (now work)) ⌝ }
+    ensures { λ r. ⌜ r ≡ first-in link (now (work .entry)) n start c j ⌝ }
+{
+    if j < c {
+        return number(work, start + j * link, link);
+    }
+    n
+}
+
+// Stores v in the head of bucket j, where there is one.
+pub fn put_head(work: &mut [u8], link: usize, start: usize, c: usize, j: usize, v: usize)
+    requires { ⌜ Length link × (0 < c → start + c * link ≤ length (now work)) ⌝ }
+    ensures { λ _. ⌜ now (work .exit) ≡ stored-head link (now (work .entry)) start c j v ⌝ }
+{
+    if j < c {
+        put_number(work, start + j * link, link, v);
+    }
+}
+
+// The place of a record among the first n rows, or MISSING: row by row of a bucket whose newest is `first`, and byte by byte from the last, where
+// records differ most often.
+pub fn walk(job: &[u8], work: &[u8], link: usize, n: usize, first: usize, wanted: &[u8]) -> u32
+    requires { ⌜ Sought link (now job) (now work) n first (now wanted) ⌝ }
+    ensures { λ r. ⌜ r ≡ place-of (now (wanted .entry)) (kept-as link (now (job .entry)) (now (work .entry)) n) ⌝ }
+{
+    let mut held = first;
+    'rows: loop {
+        if held == 0 {
+            break MISSING;
+        }
+        let row = held - 1;
+        let at = offset_as(work, link, row);
+        held = link_at(work, link, row);
+        if number(job, at, Term::NUMBER_BYTES) + Term::NUMBER_BYTES != wanted.len() {
+            continue 'rows;
+        }
+        let mut left = wanted.len();
+        while 0 < left {
+            left -= 1;
+            if job[at + left] != wanted[left] {
+                continue 'rows;
+            }
+        }
+        break (row + FIRST_PLACE) as u32;
+    }
+}
