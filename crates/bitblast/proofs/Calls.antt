@@ -3,7 +3,7 @@ use mathlib.Core.Path.{_≡_, sym, subst}
 use Prim.Native.Nat.{ℕ}
 use lib.ListN.{length}
 use Rattle.theory.specs.Limit.{Limits}
-use Rattle.theory.specs.Record.{Bytes, AllBytes}
+use Rattle.theory.specs.Record.{Bytes, AllBytes, number-length}
 use Rattle.theory.specs.Answer.{decode-answers}
 use Rattle.theory.specs.Job.{Returned, call}
 use Rattle.theory.specs.Demand.{Demand3}
@@ -17,7 +17,7 @@ use Rattle.runs.specs.Walking.{told}
 abbrev Demanded : Limits → Bytes → ℕ → ℕ → Returned → Bytes → Type 0
 Demanded limits job work space r memory =
     Stops limits job work space (r .stop) (r .records)
-    × (Demand2 limits job work space (decode-answers (r .answers) memory) × Demand3 limits job work space (r .records) (decode-answers (r .answers) memory))
+    × (Demand2 limits job work space (decode-answers (number-length job) (r .answers) memory) × Demand3 limits job work space (r .records) (decode-answers (number-length job) (r .answers) memory))
 
 -- the six promises of a call, of which the last three follow from the others
 pub called : (limits : Limits) (job work old : Bytes) → AllBytes job → (o : Told) {work′ answers′ : Bytes} → let c = call limits job work old in

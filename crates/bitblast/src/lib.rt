@@ -8,6 +8,7 @@ pub mod totals;
 ghost use mathlib.Core.Path.{_≡_};
 ghost use lib.ListN.{length};
 ghost use Rattle.theory.specs.Limit.{stated, rack};
+ghost use Rattle.theory.specs.Record.{number-length};
 ghost use Rattle.theory.specs.Answer.{decode-answers};
 ghost use Rattle.theory.specs.Job.{call};
 ghost use Rattle.theory.specs.Demand.{Demand3};
@@ -41,9 +42,11 @@ pub extern "C" fn bb_job_within(
     ensures demand1 { λ r. ⌜ Stops (stated «width_limit» «term_limit») (now (job .entry)) (length (now (work .entry)))
         (length (now (answers .entry))) (r .stop) (r .records) ⌝ }
     ensures demand2 { λ r. ⌜ Demand2 (stated «width_limit» «term_limit») (now (job .entry)) (length (now (work .entry)))
-        (length (now (answers .entry))) (decode-answers (r .answers) (now (answers .exit))) ⌝ }
+        (length (now (answers .entry)))
+        (decode-answers (number-length (now (job .entry))) (r .answers) (now (answers .exit))) ⌝ }
     ensures demand3 { λ r. ⌜ Demand3 (stated «width_limit» «term_limit») (now (job .entry)) (length (now (work .entry)))
-        (length (now (answers .entry))) (r .records) (decode-answers (r .answers) (now (answers .exit))) ⌝ }
+        (length (now (answers .entry))) (r .records)
+        (decode-answers (number-length (now (job .entry))) (r .answers) (now (answers .exit))) ⌝ }
 {
     let limits = Limits {
         width: width_limit,
@@ -64,9 +67,9 @@ pub extern "C" fn bb_job(job: &[u8], work: &mut [u8], answers: &mut [u8]) -> Out
     ensures demand1 { λ r. ⌜ Stops rack (now (job .entry)) (length (now (work .entry))) (length (now (answers .entry)))
         (r .stop) (r .records) ⌝ }
     ensures demand2 { λ r. ⌜ Demand2 rack (now (job .entry)) (length (now (work .entry))) (length (now (answers .entry)))
-        (decode-answers (r .answers) (now (answers .exit))) ⌝ }
+        (decode-answers (number-length (now (job .entry))) (r .answers) (now (answers .exit))) ⌝ }
     ensures demand3 { λ r. ⌜ Demand3 rack (now (job .entry)) (length (now (work .entry))) (length (now (answers .entry))) (r .records)
-        (decode-answers (r .answers) (now (answers .exit))) ⌝ }
+        (decode-answers (number-length (now (job .entry))) (r .answers) (now (answers .exit))) ⌝ }
 {
     bb_job_within(job, work, answers, Term::MAX_WIDTH, Term::MAX_TERMS as u32)
 }

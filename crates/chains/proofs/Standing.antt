@@ -13,7 +13,7 @@ use borrow.Author.Tests.{eq-eqb, ne-eqb, le-leb}
 use Rattle.theory.specs.Limit.{first-terms}
 use Rattle.theory.specs.Term.{Term}
 use Rattle.theory.specs.Optional.{either, is-some, cons-some}
-use Rattle.theory.specs.Record.{Bytes, read, claim-of}
+use Rattle.theory.specs.Record.{Bytes, read, claim-of, number-length}
 use Rattle.theory.specs.Record as R
 use Rattle.theory.specs.Plain.{Plain, at-place}
 use Rattle.theory.specs.Chain.{Earlier, Sides, sides, premise-place, premise-at, premises-at}
@@ -38,13 +38,13 @@ use Rattle.chains.specs.Premises.{claimed-at, left-at, mark-at, marks-in
 
 -- ---- the literal that a record claims
 -- by the item that was read there
-pub claimed-is : (job : Bytes) (place : ℕ) (i : Item) → item-of job i ≡ read (record-at job place)
+pub claimed-is : (job : Bytes) (place : ℕ) (i : Item) → item-of job i ≡ read (number-length job) (record-at job place)
     → either none (λ (c : ℕ × List ℕ). getElem? (c .1) 0) (claim-of (item-of job i)) ≡ claimed-at job place
 unfolding claimed-at
 claimed-is job place i e = ap (λ (j : R.Item). either none (λ (c : ℕ × List ℕ). getElem? (c .1) 0) (claim-of j)) e
 
 -- once it is known which item it is
-pub claims : (job : Bytes) (place : ℕ) (i j : Item) → item-of job i ≡ read (record-at job place) → i ≡ j
+pub claims : (job : Bytes) (place : ℕ) (i j : Item) → item-of job i ≡ read (number-length job) (record-at job place) → i ≡ j
     → either none (λ (c : ℕ × List ℕ). getElem? (c .1) 0) (claim-of (item-of job j)) ≡ claimed-at job place
 claims job place i j e f = claimed-is job place j (ap (item-of job) (sym f) ∙ e)
 
@@ -57,7 +57,7 @@ none-first [] h = refl
 none-first (k ∷ ks) h = absurd (omega arith)
 
 -- a step's
-module _ (job : Bytes) (place : ℕ) (i : Item) {rule : ℕ} {a : Args} (e : item-of job i ≡ read (record-at job place)) (f : i ≡ I.Step rule a) where
+module _ (job : Bytes) (place : ℕ) (i : Item) {rule : ℕ} {a : Args} (e : item-of job i ≡ read (number-length job) (record-at job place)) (f : i ≡ I.Step rule a) where
   pub step-none : a .count ≡ 0 → none ≡ claimed-at job place
   step-none h = none-first (words-in job a) (words-in-length job a ∙ h) ∙ claims job place i (I.Step rule a) e f
 

@@ -11,7 +11,7 @@ use Rattle.theory.specs.Limit.{first-terms, answer-bytes}
 use Rattle.theory.specs.Term.{Term, same-term}
 use Rattle.theory.specs.Optional.{either, collect}
 use Rattle.theory.specs.RuleTable.{ChainRule}
-use Rattle.theory.specs.Record.{Bytes, whole, read, claim-of}
+use Rattle.theory.specs.Record.{Bytes, whole, read, claim-of, number-length}
 use Rattle.theory.specs.Plain.{Plain}
 use Rattle.theory.specs.Chain.{Earlier, premise-at, joins}
 use Rattle.theory.specs.Chain as C
@@ -35,7 +35,7 @@ use Rattle.chains.specs.declared.premises.Sides.the-variants as S
 -- ---- what the memories hold
 -- the literal that the record at a place claims: the first, if it is a step of either kind that has one
 unfoldable pub claimed-at : Bytes → ℕ → Option ℕ
-claimed-at job place = either none (λ c. getElem? (c .1) 0) (claim-of (read (record-at job place)))
+claimed-at job place = either none (λ c. getElem? (c .1) 0) (claim-of (read (number-length job) (record-at job place)))
 
 -- what step k left: its literal, where its code is 0
 unfoldable pub left-at : Bytes → Bytes → ℕ → Option ℕ
@@ -64,7 +64,7 @@ origin-before job work n place at = either false (λ o. leb o at) (getElem? (ori
 -- ---- what is granted: the store, room for the answers, and a whole record at the place of each step
 pub record Noted (job work memory : Bytes) (n answered : ℕ) : Type 0 where
   pub store : Store job work n
-  pub roomy : answer-bytes * answered ≤ length memory
+  pub roomy : answer-bytes (number-length job) * answered ≤ length memory
   pub places : (k : ℕ) → k < answered → whole (drop (step-place memory k) job) ≡ true
 
 -- and the premises and the literal of a chain

@@ -7,7 +7,7 @@ use native.Mathlib.Omega.{arith}
 use borrow.Author.Tests.{le-leb, lt-leb}
 use lib.ListN.{length, drop, length-append}
 use Rattle.theory.specs.Limit.{rack, answer-bytes}
-use Rattle.theory.specs.Record.{Bytes, AllBytes}
+use Rattle.theory.specs.Record.{Bytes, AllBytes, number-length}
 use Rattle.theory.specs.Answer.{Answer}
 use Rattle.theory.specs.Job.{Returned, run, answers-after, call}
 use Rattle.theory.specs.Program.{memory, end-line, too-long-text, outcome-text, bbcheck}
@@ -60,7 +60,7 @@ module _ (input old : Bytes) where
       let f = run-fits rack input (length work) (length answers) .answers-fit in
       let k = answers-kept rack input work answers .0 in
       rw (
-        le-leb (n * answer-bytes) (length (answers-after (o .answers) answers)) (omega arith),
+        le-leb (n * answer-bytes (number-length input)) (length (answers-after (number-length input) (o .answers) answers)) (omega arith),
         le-leb (head-space + n * line-space) (length old) (omega arith),
         le-leb text-space (length old) h,
       )

@@ -186,7 +186,7 @@ module _ {job work : Bytes} {n : ℕ} {num : ℕ → ℕ} (op : Many) (ks : List
 
 -- ---- a list in the job has as many numbers as it says
 count-is : (job : Bytes) (a : Args) → length (words-in job a) ≡ a .count
-count-is job a = words-length (a .count) (drop (a .at) job)
+count-is job a = words-length (a .bytes) (a .count) (drop (a .at) job)
 
 module _ {job work : Bytes} {n : ℕ} {num : ℕ → ℕ} (op : Many) (a : Args) (g : GivenList job work n num (many-op op) a) where
   pub count-first : 0 < length (words-in job a)

@@ -7,7 +7,7 @@ use Prim.Native.Nat.{ℕ, zero, suc, _+_, _-_, _<_, _≤_}
 use native.Mathlib.Omega.{arith}
 use lib.ListN.{length, take, getD, length-take, length-append}
 use lib.Seq.{take-take, take-all, take-nil, take-append-seam, getD-take}
-use Rattle.theory.specs.Limit.{first-terms, max-job}
+use Rattle.theory.specs.Limit.{first-terms, max-job, number-bytes}
 use Rattle.theory.specs.Kind.{Op, True}
 use Rattle.theory.specs.Term.{Term, node, nil}
 use Rattle.theory.specs.Record.{Bytes, Item, term, read, number-length}
@@ -51,14 +51,14 @@ started {job} {work} {after} h w = record {
 record SaysSome (r : Bytes) : Type 0 where
   op : Op
   args : List ℕ
-  says : read r ≡ term op args
+  says : read number-bytes r ≡ term op args
 
 abbrev AllSay : List Bytes → Type 0
 AllSay [] = Unit {0}
 AllSay (r ∷ rs) = SaysSome r × AllSay rs
 
 -- each adds an entry, or none
-grows : (P : Plain → Type 0) (list : Plain) (r : Bytes) → SaysSome r → P list → ((e : Entry) → P (list ++ (e ∷ []))) → P (feed list r)
+grows : (P : Plain → Type 0) (list : Plain) (r : Bytes) → SaysSome r → P list → ((e : Entry) → P (list ++ (e ∷ []))) → P (feed number-bytes list r)
 unfolding feed
 grows P list r s old new = subst (λ (i : Item). P (feed-item list r i)) (sym (s .says)) (go (term-of list (s .op) (s .args)))
   where
@@ -70,24 +70,24 @@ grows P list r s old new = subst (λ (i : Item). P (feed-item list r i)) (sym (s
     go none = old
     go (some t) = by (has list r) t
 
-fed-length : (list : Plain) (rs : List Bytes) → AllSay rs → length (foldl feed list rs) ≤ length list + length rs
+fed-length : (list : Plain) (rs : List Bytes) → AllSay rs → length (foldl (feed number-bytes) list rs) ≤ length list + length rs
 fed-length list [] h = omega arith
 fed-length list (r ∷ rs) h =
-    grows (λ (l : Plain). length (foldl feed l rs) ≤ length list + length (r ∷ rs)) list r (h .0)
+    grows (λ (l : Plain). length (foldl (feed number-bytes) l rs) ≤ length list + length (r ∷ rs)) list r (h .0)
     (let q = fed-length list rs (h .1) in omega arith)
     (λ e. let q = fed-length (list ++ (e ∷ [])) rs (h .1) in let l = length-append list (e ∷ []) in omega arith)
 
 -- where each added one, the first m records build the first part
-fed-part : (list : Plain) (rs : List Bytes) → AllSay rs → length (foldl feed list rs) ≡ length list + length rs
-    → (m : ℕ) → m ≤ length rs → take (length list + m) (foldl feed list rs) ≡ foldl feed list (take m rs)
+fed-part : (list : Plain) (rs : List Bytes) → AllSay rs → length (foldl (feed number-bytes) list rs) ≡ length list + length rs
+    → (m : ℕ) → m ≤ length rs → take (length list + m) (foldl (feed number-bytes) list rs) ≡ foldl (feed number-bytes) list (take m rs)
 fed-part list [] h e zero l = take-all (length list + 0) list (omega arith)
 fed-part list [] h e (suc m) l = absurd (omega arith)
 fed-part list (r ∷ rs) h e zero l =
-    grows (λ (x : Plain). length (foldl feed x rs) ≡ length list + length (r ∷ rs) → take (length list + 0) (foldl feed x rs) ≡ list) list r (h .0)
+    grows (λ (x : Plain). length (foldl (feed number-bytes) x rs) ≡ length list + length (r ∷ rs) → take (length list + 0) (foldl (feed number-bytes) x rs) ≡ list) list r (h .0)
     (λ d. absurd (let q = fed-length list rs (h .1) in omega arith))
     (λ x d.
     let k = length-append list (x ∷ []) in
-    sym (take-take (length list + 0) (length (list ++ (x ∷ [])) + 0) (foldl feed (list ++ (x ∷ [])) rs) (omega arith))
+    sym (take-take (length list + 0) (length (list ++ (x ∷ [])) + 0) (foldl (feed number-bytes) (list ++ (x ∷ [])) rs) (omega arith))
     ∙ ap (take (length list + 0)) (fed-part (list ++ (x ∷ [])) rs (h .1) (omega arith) 0 (omega arith))
     ∙ ap (λ (j : ℕ). take j (list ++ (x ∷ []))) (plus-none (length list))
     ∙ take-append-seam list (x ∷ [])) e
@@ -95,12 +95,12 @@ fed-part list (r ∷ rs) h e zero l =
     plus-none : (n : ℕ) → n + 0 ≡ n
     plus-none n = omega arith
 fed-part list (r ∷ rs) h e (suc m) l =
-    grows (λ (x : Plain). length (foldl feed x rs) ≡ length list + length (r ∷ rs) → take (length list + suc m) (foldl feed x rs) ≡ foldl feed x (take m rs)) list r (h .0)
+    grows (λ (x : Plain). length (foldl (feed number-bytes) x rs) ≡ length list + length (r ∷ rs) → take (length list + suc m) (foldl (feed number-bytes) x rs) ≡ foldl (feed number-bytes) x (take m rs)) list r (h .0)
     (λ d. absurd (let q = fed-length list rs (h .1) in omega arith))
     (λ x d.
     let k = length-append list (x ∷ []) in
     let z : length list + suc m ≡ length (list ++ (x ∷ [])) + m = omega arith in
-    ap (λ (j : ℕ). take j (foldl feed (list ++ (x ∷ [])) rs)) z
+    ap (λ (j : ℕ). take j (foldl (feed number-bytes) (list ++ (x ∷ [])) rs)) z
     ∙ fed-part (list ++ (x ∷ [])) rs (h .1) (omega arith) m (omega arith)) e
 
 say-from : (rs : List Bytes) → ((k : ℕ) → k < length rs → SaysSome (getD rs k [])) → AllSay rs
@@ -111,7 +111,7 @@ kept-say : {job work : Bytes} {n : ℕ} → Store job work n → AllSay (kept jo
 kept-say {job} {work} {n} s =
     say-from (kept job work n) (λ k h.
     let l : k < n = (let q = length-kept (link-size job) job work n in omega arith) in
-    record { op = row-kept (shelf s) k l .op; args = row-kept (shelf s) k l .args; says = ap read (kept-at (link-size job) job work n k l) ∙ row-says (shelf s) k l })
+    record { op = row-kept (shelf s) k l .op; args = row-kept (shelf s) k l .args; says = ap (read number-bytes) (kept-at (link-size job) job work n k l) ∙ row-says (shelf s) k l })
 
 -- ---- the records of a part
 records-part : (m : ℕ) (list : Plain) → records (take (suc (suc m)) list) ≡ take m (records list)
@@ -126,7 +126,7 @@ module _ {job work after : Bytes} {n count : ℕ} (s : Store job work n) (low : 
   cut-listed =
       let l = length-kept (link-size job) job work n in
       let z : length P.start + (count - first-terms) ≡ count = omega arith in
-      ap (foldl feed P.start) (c .kept-is)
+      ap (foldl (feed number-bytes) P.start) (c .kept-is)
       ∙ sym (fed-part P.start (kept job work n) (kept-say s) (s .count ∙ omega arith) (count - first-terms) (omega arith))
       ∙ ap (λ (j : ℕ). take j (listed job work n)) z
 
@@ -145,7 +145,7 @@ module _ {job work after : Bytes} {n count : ℕ} (s : Store job work n) (low : 
         memory-is = c .memory-is;
         store = record {
           table = c .table;
-          well = subst WellKept (sym cut-listed) (take-well count list low (omega arith) (s .well));
+          well = subst (WellKept number-bytes) (sym cut-listed) (take-well count list low (omega arith) (s .well));
           sorted = subst AllGood (sym cut-listed) (good-take count list (s .sorted));
           count = ap length cut-listed ∙ length-take count list ∙ omega arith;
           records-are = ap records (cut-listed ∙ ap (λ (j : ℕ). take j list) z) ∙ records-part m list ∙ ap (take m) (s .records-are) ∙ sym (c .kept-is);

@@ -135,7 +135,7 @@ store-same {job} {work} {after} {n} s t k m =
     let e : listed job after n ≡ listed job work n = ap stored k in
     record {
       table = t;
-      well = subst WellKept (sym e) (s .well);
+      well = subst (WellKept number-bytes) (sym e) (s .well);
       sorted = subst AllGood (sym e) (s .sorted);
       count = ap length e ∙ s .count;
       records-are = ap records e ∙ s .records-are ∙ sym k;
@@ -162,21 +162,21 @@ column-snoc f g n x l e p q = (
 )
 
 module _ {job work : Bytes} {n : ℕ} (s : Store job work n) (r : Bytes) (o : Op) (ks : List ℕ)
-    (says : read r ≡ term o ks) (below : T (all-below (length (listed job work n)) ks)) where
+    (says : read number-bytes r ≡ term o ks) (below : T (all-below (length (listed job work n)) ks)) where
   -- what the list becomes
-  fed-as : feed (listed job work n) r ≡ cond (has (listed job work n) r) (listed job work n) (listed job work n ++ (entry (tree-of (listed job work n) o ks) r ∷ []))
+  fed-as : feed number-bytes (listed job work n) r ≡ cond (has (listed job work n) r) (listed job work n) (listed job work n ++ (entry (tree-of (listed job work n) o ks) r ∷ []))
   unfolding feed
   fed-as = ap (feed-item (listed job work n) r) says ∙ ap (put (listed job work n) r) (term-of-is (listed job work n) o ks below)
 
-  pub fed-old : has (listed job work n) r ≡ true → listed job work n ≡ feed (listed job work n) r
+  pub fed-old : has (listed job work n) r ≡ true → listed job work n ≡ feed number-bytes (listed job work n) r
   fed-old e = sym (fed-as ∙ ap (λ (b : Bool). cond b (listed job work n) (listed job work n ++ (entry (tree-of (listed job work n) o ks) r ∷ []))) e)
 
   module _ (after : Bytes) (new : has (listed job work n) r ≡ false) (k : kept job after (n + 1) ≡ kept job work n ++ (r ∷ [])) where
-    fed-new : feed (listed job work n) r ≡ listed job work n ++ (entry (tree-of (listed job work n) o ks) r ∷ [])
+    fed-new : feed number-bytes (listed job work n) r ≡ listed job work n ++ (entry (tree-of (listed job work n) o ks) r ∷ [])
     fed-new = fed-as ∙ ap (λ (b : Bool). cond b (listed job work n) (listed job work n ++ (entry (tree-of (listed job work n) o ks) r ∷ []))) new
 
-    pub snoc-fed : listed job after (n + 1) ≡ feed (listed job work n) r
-    snoc-fed = ap stored k ∙ foldl-append feed P.start (kept job work n) (r ∷ [])
+    pub snoc-fed : listed job after (n + 1) ≡ feed number-bytes (listed job work n) r
+    snoc-fed = ap stored k ∙ foldl-append (feed number-bytes) P.start (kept job work n) (r ∷ [])
 
     snoc-listed : listed job after (n + 1) ≡ listed job work n ++ (entry (tree-of (listed job work n) o ks) r ∷ [])
     snoc-listed = snoc-fed ∙ fed-new
@@ -214,7 +214,7 @@ module _ {job work : Bytes} {n : ℕ} (s : Store job work n) (r : Bytes) (o : Op
         (λ i h. ap (λ (x : List ℕ). getD x i 0) (sym m) ∙ measures-at l job after (n + 1) i h) in
         record {
           table = t;
-          well = subst WellKept (sym snoc-listed) (snoc-well list r o ks (s .well) sound says below (λ z. subst T new z));
+          well = subst (WellKept number-bytes) (sym snoc-listed) (snoc-well list r o ks (s .well) sound says below (λ z. subst T new z));
           sorted = subst AllGood (sym snoc-listed) (good-snoc list e (s .sorted) sorted);
           count = ap length snoc-listed ∙ length-append list (e ∷ []) ∙ omega arith;
           records-are = ap records snoc-listed ∙ records-snoc list e (omega arith) ∙ ap (λ (rs : List Bytes). rs ++ (r ∷ [])) (s .records-are) ∙ sym k;
@@ -277,13 +277,13 @@ abbrev fits : Limits → Sort → Bool
 fits limits s = good s && leb (sort-width s) (limits .width)
 
 module _ (limits : Limits) {job work : Bytes} {n at : ℕ} {t : Decoded} (o : Offered job work n at t) where
-  says-it : read (record-at job at) ≡ term (op-of t) (arguments-of job t)
+  says-it : read number-bytes (record-at job at) ≡ term (op-of t) (arguments-of job t)
   says-it = sym (o .says)
 
   pub fitting : Fitting job work n t
   fitting = record {
     arguments = o .arguments;
-    number = T-true _ (says-count (record-at job at) (op-of t) (arguments-of job t) (says-term (record-at job at) (op-of t) (arguments-of job t) says-it));
+    number = T-true _ (says-count (record-at job at) (op-of t) (arguments-of job t) (says-term number-bytes (record-at job at) (op-of t) (arguments-of job t) says-it));
   }
 
   all-low : T (all-below (length (listed job work n)) (arguments-of job t))
@@ -310,7 +310,7 @@ module _ (limits : Limits) {job work : Bytes} {n at : ℕ} {t : Decoded} (o : Of
 
   -- the kind that stands in the record
   kind-is : {k : ℕ} → k ≡ number-at job (at + number-bytes) number-bytes → k ≡ kind (op-of t)
-  kind-is f = f ∙ kind-at job at (o .stands) ∙ term-kind (record-at job at) (op-of t) (arguments-of job t) says-it
+  kind-is f = f ∙ kind-at job at (o .stands) ∙ term-kind number-bytes (record-at job at) (op-of t) (arguments-of job t) says-it
 
   -- the measure that the code computes is the term's, and fits into a row
   pub measured : {k d w m : ℕ} {s : Sort} → k ≡ number-at job (at + number-bytes) number-bytes → d ≡ depth (tree-of (listed job work n) (op-of t) (arguments-of job t)) → w ≡ sort-width s
@@ -328,7 +328,7 @@ module _ (limits : Limits) {job work : Bytes} {n at : ℕ} {t : Decoded} (o : Of
       ap (well-sorted (capped limits)) (term-of-is (listed job work n) (op-of t) (arguments-of job t) all-low) ∙ ap (fits (capped limits)) (sym e)
       ∙ ap (λ (b : Bool). good s && b) (capped-width (sort-width s) (limits .width) (width-within e))
 
-  room-is : room (capped limits) (length work) (listed job work n) ≡ room-for (number-length job) (limits .terms) n (length work)
+  room-is : room number-bytes (capped limits) (length work) (listed job work n) ≡ room-for (number-length job) (limits .terms) n (length work)
   unfolding room-for
   room-is =
       let c = o .arguments .store .count in
@@ -337,12 +337,12 @@ module _ (limits : Limits) {job work : Bytes} {n at : ℕ} {t : Decoded} (o : Of
 
   -- the answer and its code
   decided : {sorted there roomy : Bool} → well-sorted (capped limits) (term-of (listed job work n) (op-of t) (arguments-of job t)) ≡ sorted
-      → has (listed job work n) (record-at job at) ≡ there → room (capped limits) (length work) (listed job work n) ≡ roomy
-      → answer-for sorted there roomy n ≡ answer-for (well-sorted (capped limits) (term-of (listed job work n) (op-of t) (arguments-of job t))) (has (listed job work n) (record-at job at)) (room (capped limits) (length work) (listed job work n)) n
+      → has (listed job work n) (record-at job at) ≡ there → room number-bytes (capped limits) (length work) (listed job work n) ≡ roomy
+      → answer-for sorted there roomy n ≡ answer-for (well-sorted (capped limits) (term-of (listed job work n) (op-of t) (arguments-of job t))) (has (listed job work n) (record-at job at)) (room number-bytes (capped limits) (length work) (listed job work n)) n
   decided e f g = rw (e, f, g)
 
   taken : {answer : Interned} {after : Bytes}
-      → answer ≡ answer-for (well-sorted (capped limits) (term-of (listed job work n) (op-of t) (arguments-of job t))) (has (listed job work n) (record-at job at)) (room (capped limits) (length work) (listed job work n)) n
+      → answer ≡ answer-for (well-sorted (capped limits) (term-of (listed job work n) (op-of t) (arguments-of job t))) (has (listed job work n) (record-at job at)) (room number-bytes (capped limits) (length work) (listed job work n)) n
       → after ≡ bytes-after answer work (with-term job work n at (tree-of (listed job work n) (op-of t) (arguments-of job t)))
       → Store job after (rows-after answer n) → listed job after (rows-after answer n) ≡ list-after-of answer (listed job work n) (record-at job at)
       → offsets (link-size job) after (rows-after answer n) ≡ offsets-after answer at (offsets (link-size job) work n) → Taken limits job work after n at t answer
@@ -380,7 +380,7 @@ module _ (limits : Limits) {job work : Bytes} {n at : ℕ} {t : Decoded} (o : Of
         let s = o .arguments .store in
         let w = spent-means (number-length job) (limits .terms) (record-at job at) (kept job work n) (length work) (h .answer-is) in
         let there = missing-there s (record-at job at) (sound-it .long) (w .0) in
-        let none-left : room (capped limits) (length work) (listed job work n) ≡ false = room-is ∙ ap (λ (k : ℕ). room-for (number-length job) (limits .terms) k (length work)) (sym (length-kept (link-size job) job work n)) ∙ w .1 in
+        let none-left : room number-bytes (capped limits) (length work) (listed job work n) ≡ false = room-is ∙ ap (λ (k : ℕ). room-for (number-length job) (limits .terms) k (length work)) (sym (length-kept (link-size job) job work n)) ∙ w .1 in
         taken (decided sorted-true there none-left) (h .memory-is) (store-same s (h .table) (h .kept-is) (h .measures-are)) (ap stored (h .kept-is)) (h .offsets-are)
 
     pub taken-new : {p : ℕ} → a ≡ A.New p → Taken limits job work after n at t (I.New (n + 1))
@@ -390,7 +390,7 @@ module _ (limits : Limits) {job work : Bytes} {n at : ℕ} {t : Decoded} (o : Of
         let st = o .arguments .store in
         let w = new-means (number-length job) (limits .terms) (record-at job at) (kept job work n) (length work) (h .answer-is) in
         let there = missing-there st (record-at job at) (sound-it .long) (w .0) in
-        let some-left : room (capped limits) (length work) (listed job work n) ≡ true = room-is ∙ ap (λ (k : ℕ). room-for (number-length job) (limits .terms) k (length work)) (sym (length-kept (link-size job) job work n)) ∙ w .1 in
+        let some-left : room number-bytes (capped limits) (length work) (listed job work n) ≡ true = room-is ∙ ap (λ (k : ℕ). room-for (number-length job) (limits .terms) k (length work)) (sym (length-kept (link-size job) job work n)) ∙ w .1 in
         let ms = h .measures-are ∙ ap (λ (x : ℕ). measures (link-size job) work n ++ (x ∷ [])) me in
         taken (decided sorted-true there some-left) (h .memory-is ∙ ap (with-row (number-length job) job work n at) me)
         (store-snoc st (record-at job at) (op-of t) (arguments-of job t) says-it all-low after there (h .kept-is) sound-it (subst (λ (x : Sort). T (good x)) e (subst T (sym (and-first (good s) _ f)) tt)) (h .table) ms)

@@ -4,7 +4,7 @@ use mathlib.Core.Bool.{Bool, true, _||_, cond}
 use mathlib.Core.List.{List, [], _∷_, _++_}
 use Prim.Native.Nat.{ℕ, _+_, _-_}
 use lib.ListN.{length, take, drop}
-use Rattle.theory.specs.Limit.{Limits, stated, capped, first-terms}
+use Rattle.theory.specs.Limit.{Limits, stated, capped, first-terms, number-bytes}
 use Rattle.theory.specs.Term as T
 use Rattle.theory.specs.Record.{Bytes, whole, read, number-length}
 use Rattle.theory.specs.Plain.{Plain, term-of, has, feed}
@@ -65,8 +65,8 @@ rows-after (New m) n = m
 abbrev pub list-after : Interned → Plain → Bytes → Plain
 list-after Unsorted list r = list
 list-after Spent list r = list
-list-after (Found m) list r = feed list r
-list-after (New m) list r = feed list r
+list-after (Found m) list r = feed number-bytes list r
+list-after (New m) list r = feed number-bytes list r
 
 -- where the records of the rows stand after it: a new one stands at `at`
 abbrev pub offsets-after : Interned → ℕ → List ℕ → List ℕ
@@ -94,17 +94,17 @@ answer-for sorted there roomy n = cond sorted (cond there (Found n) (cond roomy 
 pub record Offered (job work : Bytes) (n at : ℕ) (t : Term) : Type 0 where
   pub arguments : Arguments job work n (operands-of t)
   pub stands : whole (drop at job) ≡ true
-  pub says : item-of job (I.Term t) ≡ read (record-at job at)
+  pub says : item-of job (I.Term t) ≡ read number-bytes (record-at job at)
 
 -- the term was taken or not, under stated limits: the answer, its code by document 01's tests 7 and 8, the work memory then, and the store
 -- in it
 pub record Taken (limits : Limits) (job work after : Bytes) (n at : ℕ) (t : Term) (answer : Interned) : Type 0 where
   pub answer-is : answer
       ≡ answer-for (well-sorted (capped limits) (term-of (listed job work n) (op-of t) (arguments-of job t)))
-      (has (listed job work n) (record-at job at)) (room (capped limits) (length work) (listed job work n)) n
+      (has (listed job work n) (record-at job at)) (room number-bytes (capped limits) (length work) (listed job work n)) n
   pub code-is : code-of answer
       ≡ first-fault ((well-sorted (capped limits) (term-of (listed job work n) (op-of t) (arguments-of job t)), 7)
-      ∷ (has (listed job work n) (record-at job at) || room (capped limits) (length work) (listed job work n), 8) ∷ [])
+      ∷ (has (listed job work n) (record-at job at) || room number-bytes (capped limits) (length work) (listed job work n), 8) ∷ [])
   pub memory-is : after ≡ bytes-after answer work (with-term job work n at (tree-of (listed job work n) (op-of t) (arguments-of job t)))
   pub store : Store job after (rows-after answer n)
   pub listed-is : listed job after (rows-after answer n) ≡ list-after answer (listed job work n) (record-at job at)

@@ -203,7 +203,7 @@ listing-room {work} {ks} {now} {i} h s r e = subst (Room now) (sym e) (room-kept
 
 -- the numbers of a list in the job
 pub count-is : (job : Bytes) (a : Args) → length (words-in job a) ≡ a .count
-count-is job a = words-length (a .count) (drop (a .at) job)
+count-is job a = words-length (a .bytes) (a .count) (drop (a .at) job)
 
 -- in a case of the arguments
 pub ops-out : (job : Bytes) {work after : Bytes} (o u : Operands) → o ≡ u → SetAll work (numbers-of job u) after → SetAll work (numbers-of job o) after

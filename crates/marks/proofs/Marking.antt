@@ -56,7 +56,7 @@ shelf-kept {job} {work} {now} {n} s e =
         room = subst (λ (z : ℕ). n * row-size number-bytes ≤ z) (sym (e .length-is)) (s .rows .room);
         inside = λ k h. rw (e .offset k) (s .rows .inside k h);
       };
-      well = subst WellKept (sym l) (s .well);
+      well = subst (WellKept number-bytes) (sym l) (s .well);
       sorted = subst AllGood (sym l) (s .sorted);
       count = ap length l ∙ s .count;
       records-are = ap records l ∙ s .records-are ∙ sym (kept-same job n e);
@@ -77,7 +77,7 @@ mutual
       any-cases (T (stands-any u (cons t ts))) v t ts k (λ s. stands-first u t ts (stands-trans u v t h s)) (λ s. stands-rest u t ts (any-trans u v ts h s))
 
 -- ---- the arguments of a kept term
-module _ (list : Plain) (w : WellKept list) where
+module _ (list : Plain) (w : WellKept number-bytes list) where
   args-are : (q : ℕ) (h : first-terms ≤ q) (l : q < length list) → args-at list q ≡ kept-at list w q h l .args
   unfolding args-at
   args-are q h l = ap item-args (kept-at list w q h l .says)

@@ -126,7 +126,7 @@ module _ {job work : Bytes} {n : ℕ} where
       let us = map (tree-at (listed job work n)) ks in
       let m : tree job work n p ≡ bb us = s .made ∙ ap (λ (q : Decoded). tree-of (listed job work n) (op-of q) (arguments-of job q)) e in
       let l : length us ≡ w = bb-width us w (ap sort-of (sym m) ∙ o .sort) in
-      let k : a .count ≡ w = sym (words-length (a .count) (drop (a .at) job)) ∙ sym (length-map ks (tree-at (listed job work n))) ∙ l in
+      let k : a .count ≡ w = sym (words-length (a .bytes) (a .count) (drop (a .at) job)) ∙ sym (length-map ks (tree-at (listed job work n))) ∙ l in
       let b : T (all-below p ks) = true-T _ (sym (ap (λ (q : Decoded). all-below p (arguments-of job q)) e) ∙ s .below) in
       let g = there (o .store) (o .there) in
       ap (λ (j : ℕ). take j xs) (sym k) ∙ d

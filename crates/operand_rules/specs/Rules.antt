@@ -7,7 +7,7 @@ use Rattle.theory.specs.Kind.{Const}
 use Rattle.theory.specs.Term.{Term, node, nil}
 use Rattle.theory.specs.Sort.{bv, sort-of, sort-width}
 use Rattle.theory.specs.Bits.{get-term-bits}
-use Rattle.theory.specs.Record.{Bytes}
+use Rattle.theory.specs.Record.{Bytes, number-length}
 use Rattle.theory.specs.Places.{place, tree-at}
 use Rattle.store.specs.Numbers.{number}
 use Rattle.store.specs.Store.{Store, listed}
@@ -35,7 +35,7 @@ tree job work n x = tree-at (listed job work n) x
 
 -- the number of a term, missing where it is not kept
 abbrev pub number-in : Bytes → Bytes → ℕ → Term → ℕ
-number-in job work n t = number (place (listed job work n) t)
+number-in job work n t = number (place (number-length job) (listed job work n) t)
 
 -- the width of the term at a place
 abbrev pub width-in : Bytes → Bytes → ℕ → ℕ → ℕ

@@ -8,7 +8,7 @@ use native.Mathlib.Omega.{arith}
 use lib.Dec.{leb}
 use lib.ListN.{length, getElem?}
 use borrow.Author.Tests.{le-leb, lt-leb, lt-ltb, le-ltb}
-use Rattle.theory.specs.Limit.{answer-bytes}
+use Rattle.theory.specs.Limit.{answer-bytes, number-bytes}
 use Rattle.theory.specs.Optional.{is-some}
 use Rattle.theory.specs.RuleTable.{Rule, rules, rule-at, chain-rules, chain-rule-at}
 use Rattle.theory.specs.Codes.{first-fault, all-below, step-tests}
@@ -71,22 +71,22 @@ one-gone n k h = rw (le-ltb k n h)
 -- ---- the first test that fails gives the code
 module _ (terms space answered : ℕ) (known : Bool) (ks : List ℕ) where
   -- a literal is not kept
-  pub fault-6 : all-below terms ks ≡ false → 6 ≡ first-fault (step-tests terms space answered known ks)
+  pub fault-6 : all-below terms ks ≡ false → 6 ≡ first-fault (step-tests number-bytes terms space answered known ks)
   fault-6 a = rw a
 
   -- there is no such rule
-  pub fault-9 : all-below terms ks ≡ true → known ≡ false → 9 ≡ first-fault (step-tests terms space answered known ks)
+  pub fault-9 : all-below terms ks ≡ true → known ≡ false → 9 ≡ first-fault (step-tests number-bytes terms space answered known ks)
   fault-9 a b = rw (a, b)
 
   -- what the last test says
-  pub fault-room : all-below terms ks ≡ true → known ≡ true → {c : ℕ} → c ≡ cond (leb (answer-bytes * suc answered) space) 0 19
-      → c ≡ first-fault (step-tests terms space answered known ks)
+  pub fault-room : all-below terms ks ≡ true → known ≡ true → {c : ℕ} → c ≡ cond (leb (answer-bytes number-bytes * suc answered) space) 0 19
+      → c ≡ first-fault (step-tests number-bytes terms space answered known ks)
   fault-room a b e = e ∙ rw (a, b)
 
 -- there is no room for one more answer
-pub no-room : (space answered : ℕ) → space < answer-bytes * suc answered → _≡_ {A = ℕ} 19 (cond (leb (answer-bytes * suc answered) space) 0 19)
-no-room space answered h = rw (lt-leb (answer-bytes * suc answered) space h)
+pub no-room : (space answered : ℕ) → space < answer-bytes number-bytes * suc answered → _≡_ {A = ℕ} 19 (cond (leb (answer-bytes number-bytes * suc answered) space) 0 19)
+no-room space answered h = rw (lt-leb (answer-bytes number-bytes * suc answered) space h)
 
 -- there is
-pub some-room : (space answered : ℕ) → answer-bytes * suc answered ≤ space → _≡_ {A = ℕ} 0 (cond (leb (answer-bytes * suc answered) space) 0 19)
-some-room space answered h = rw (le-leb (answer-bytes * suc answered) space h)
+pub some-room : (space answered : ℕ) → answer-bytes number-bytes * suc answered ≤ space → _≡_ {A = ℕ} 0 (cond (leb (answer-bytes number-bytes * suc answered) space) 0 19)
+some-room space answered h = rw (le-leb (answer-bytes number-bytes * suc answered) space h)

@@ -7,7 +7,7 @@ use Prim.Native.Nat.{ℕ, zero, suc, _+_, _-_, _<_, _≤_}
 use native.Mathlib.Omega.{arith}
 use lib.ListN.{length, take, drop}
 use borrow.Author.Tests.{le-leb, lt-leb}
-use Rattle.theory.specs.Limit.{Limits, capped, first-terms, max-terms}
+use Rattle.theory.specs.Limit.{Limits, capped, first-terms, max-terms, number-bytes}
 use Rattle.theory.specs.Term as T
 use Rattle.theory.specs.Optional.{is-some, collect}
 use Rattle.theory.specs.Verdict.{held, wrong-form, accepted}
@@ -53,7 +53,7 @@ unfolding link-bytes
 few-terms s = let f = s .table .rows .few in omega arith
 
 -- a record that was read as an item
-pub reading : {job work : Bytes} {rows at : ℕ} {item k : Item} → Store job work rows → whole (drop at job) ≡ true → item-of job item ≡ read (record-at job at)
+pub reading : {job work : Bytes} {rows at : ℕ} {item k : Item} → Store job work rows → whole (drop at job) ≡ true → item-of job item ≡ read number-bytes (record-at job at)
     → Placed job item → item ≡ k → Reading job work rows at k
 reading {job} {work} {rows} {at} s w e p f = subst (Reading job work rows at) f (record { store = s; stands = w; says = e; placed = p })
 
@@ -66,12 +66,12 @@ module _ {job work : Bytes} {rows at : ℕ} {item : Item} (g : Reading job work 
   r = record-at job at
 
   -- what the item does to the list, the record does
-  feed-is : feed-item list r (item-of job item) ≡ feed list r
+  feed-is : feed-item list r (item-of job item) ≡ feed number-bytes list r
   unfolding feed
   feed-is = ap (feed-item list r) (g .says)
 
   -- the item's repeats are the record's
-  repeats-are : repeat-item list r (item-of job item) ≡ repeat-of list r
+  repeats-are : repeat-item list r (item-of job item) ≡ repeat-of number-bytes list r
   unfolding repeat-of
   repeats-are = ap (repeat-item list r) (g .says)
 
@@ -91,17 +91,17 @@ module _ {job work : Bytes} {rows at : ℕ} {item : Item} (g : Reading job work 
 module _ (limits : Limits) {job work : Bytes} {rows at : ℕ} {item : Item} (g : Reading job work rows at item) (answers : Bytes) (answered : ℕ) where
   -- the code of the item's tests
   abbrev code : ℕ
-  code = first-fault (tests limits (length work) (length answers) (listed job work rows) answered (record-at job at) (item-of job item))
+  code = first-fault (tests number-bytes limits (length work) (length answers) (listed job work rows) answered (record-at job at) (item-of job item))
 
   -- it is the record's
-  fault-is : code ≡ fault limits (length work) (length answers) (listed job work rows) answered (record-at job at)
+  fault-is : code ≡ fault number-bytes limits (length work) (length answers) (listed job work rows) answered (record-at job at)
   unfolding fault
-  fault-is = ap (λ (i : R.Item). first-fault (tests limits (length work) (length answers) (listed job work rows) answered (record-at job at) i)) (g .says)
+  fault-is = ap (λ (i : R.Item). first-fault (tests number-bytes limits (length work) (length answers) (listed job work rows) answered (record-at job at) i)) (g .says)
 
   -- a turn that writes no answer
-  unanswered : {after : Bytes} {c n m : ℕ} → c ≡ code → after ≡ passed c (memory-at job work rows at) work → Store job after n → listed job after n ≡ passed c (feed (listed job work rows) (record-at job at)) (listed job work rows)
+  unanswered : {after : Bytes} {c n m : ℕ} → c ≡ code → after ≡ passed c (memory-at job work rows at) work → Store job after n → listed job after n ≡ passed c (feed number-bytes (listed job work rows) (record-at job at)) (listed job work rows)
       → origins job after n ≡ passed c (origins-at job work rows at) (origins job work rows) → passed c (answers-at job work answers rows answered at) [] ≡ []
-      → m ≡ passed c (repeat-of (listed job work rows) (record-at job at)) 0 → Turned limits job work answers rows answered at after answers (turn c answered n m)
+      → m ≡ passed c (repeat-of number-bytes (listed job work rows) (record-at job at)) 0 → Turned limits job work answers rows answered at after answers (turn c answered n m)
   unanswered e w s l o a q = record {
     code-is = e ∙ fault-is;
     memory-is = w;
@@ -171,14 +171,14 @@ module _ (limits : Limits) {job work : Bytes} {rows at : ℕ} {t : Term} (g : Re
       snoc-map [] = refl
       snoc-map (o ∷ os) = ap (λ (xs : List ℕ). suc o ∷ xs) (snoc-map os)
 
-      go : (x : Interned) → x ≡ answer-for (well-sorted (capped limits) (term-of (listed job work rows) (op-of t) (arguments-of job t))) (has (listed job work rows) (record-at job at)) (room (capped limits) (length work) (listed job work rows)) rows
+      go : (x : Interned) → x ≡ answer-for (well-sorted (capped limits) (term-of (listed job work rows) (op-of t) (arguments-of job t))) (has (listed job work rows) (record-at job at)) (room number-bytes (capped limits) (length work) (listed job work rows)) rows
           → 0 ∷ 0 ∷ map suc (offsets-after x at (offsets (link-size job) work rows)) ≡ passed (code-of x) (origins-at job work rows at) (origins job work rows)
       go N.Unsorted e = refl
       go N.Spent e = refl
-      go (N.Found m) e = put-at true (found-was (well-sorted (capped limits) (term-of (listed job work rows) (op-of t) (arguments-of job t))) _ (room (capped limits) (length work) (listed job work rows)) rows m e)
+      go (N.Found m) e = put-at true (found-was (well-sorted (capped limits) (term-of (listed job work rows) (op-of t) (arguments-of job t))) _ (room number-bytes (capped limits) (length work) (listed job work rows)) rows m e)
       go (N.New m) e =
           ap (λ (xs : List ℕ). 0 ∷ 0 ∷ xs) (snoc-map (offsets (link-size job) work rows))
-          ∙ put-at false (new-was (well-sorted (capped limits) (term-of (listed job work rows) (op-of t) (arguments-of job t))) _ (room (capped limits) (length work) (listed job work rows)) rows m e)
+          ∙ put-at false (new-was (well-sorted (capped limits) (term-of (listed job work rows) (op-of t) (arguments-of job t))) _ (room number-bytes (capped limits) (length work) (listed job work rows)) rows m e)
 
   -- the work memory after it, by whether it was there
   term-memory : {after : Bytes} {a : Interned} → Taken limits job work after rows at t a → after ≡ passed (code-of a) (memory-at job work rows at) work
@@ -190,27 +190,27 @@ module _ (limits : Limits) {job work : Bytes} {rows at : ℕ} {t : Term} (g : Re
       put-row b e =
           sym (ap (λ (x : Bool). cond x work (with-term job work rows at (tree-of (listed job work rows) (op-of t) (arguments-of job t)))) e) ∙ memory-same g answers answered
 
-      go : (x : Interned) → x ≡ answer-for (well-sorted (capped limits) (term-of (listed job work rows) (op-of t) (arguments-of job t))) (has (listed job work rows) (record-at job at)) (room (capped limits) (length work) (listed job work rows)) rows
+      go : (x : Interned) → x ≡ answer-for (well-sorted (capped limits) (term-of (listed job work rows) (op-of t) (arguments-of job t))) (has (listed job work rows) (record-at job at)) (room number-bytes (capped limits) (length work) (listed job work rows)) rows
           → bytes-after x work (with-term job work rows at (tree-of (listed job work rows) (op-of t) (arguments-of job t))) ≡ passed (code-of x) (memory-at job work rows at) work
       go N.Unsorted e = refl
       go N.Spent e = refl
-      go (N.Found m) e = put-row true (found-was (well-sorted (capped limits) (term-of (listed job work rows) (op-of t) (arguments-of job t))) _ (room (capped limits) (length work) (listed job work rows)) rows m e)
-      go (N.New m) e = put-row false (new-was (well-sorted (capped limits) (term-of (listed job work rows) (op-of t) (arguments-of job t))) _ (room (capped limits) (length work) (listed job work rows)) rows m e)
+      go (N.Found m) e = put-row true (found-was (well-sorted (capped limits) (term-of (listed job work rows) (op-of t) (arguments-of job t))) _ (room number-bytes (capped limits) (length work) (listed job work rows)) rows m e)
+      go (N.New m) e = put-row false (new-was (well-sorted (capped limits) (term-of (listed job work rows) (op-of t) (arguments-of job t))) _ (room number-bytes (capped limits) (length work) (listed job work rows)) rows m e)
 
   -- a repeat, where it was there
-  term-repeats : {after : Bytes} {a : Interned} → Taken limits job work after rows at t a → repeats-in a ≡ passed (code-of a) (repeat-of (listed job work rows) (record-at job at)) 0
+  term-repeats : {after : Bytes} {a : Interned} → Taken limits job work after rows at t a → repeats-in a ≡ passed (code-of a) (repeat-of number-bytes (listed job work rows) (record-at job at)) 0
   unfolding answer-for
   term-repeats {after} {a} k = go a (k .answer-is)
     where
-      counts : (b : Bool) → has (listed job work rows) (record-at job at) ≡ b → cond b 1 0 ≡ repeat-of (listed job work rows) (record-at job at)
+      counts : (b : Bool) → has (listed job work rows) (record-at job at) ≡ b → cond b 1 0 ≡ repeat-of number-bytes (listed job work rows) (record-at job at)
       counts b e = sym (ap (λ (x : Bool). cond x 1 0) e) ∙ repeats-are g answers answered
 
-      go : (x : Interned) → x ≡ answer-for (well-sorted (capped limits) (term-of (listed job work rows) (op-of t) (arguments-of job t))) (has (listed job work rows) (record-at job at)) (room (capped limits) (length work) (listed job work rows)) rows
-          → repeats-in x ≡ passed (code-of x) (repeat-of (listed job work rows) (record-at job at)) 0
+      go : (x : Interned) → x ≡ answer-for (well-sorted (capped limits) (term-of (listed job work rows) (op-of t) (arguments-of job t))) (has (listed job work rows) (record-at job at)) (room number-bytes (capped limits) (length work) (listed job work rows)) rows
+          → repeats-in x ≡ passed (code-of x) (repeat-of number-bytes (listed job work rows) (record-at job at)) 0
       go N.Unsorted e = refl
       go N.Spent e = refl
-      go (N.Found m) e = counts true (found-was (well-sorted (capped limits) (term-of (listed job work rows) (op-of t) (arguments-of job t))) _ (room (capped limits) (length work) (listed job work rows)) rows m e)
-      go (N.New m) e = counts false (new-was (well-sorted (capped limits) (term-of (listed job work rows) (op-of t) (arguments-of job t))) _ (room (capped limits) (length work) (listed job work rows)) rows m e)
+      go (N.Found m) e = counts true (found-was (well-sorted (capped limits) (term-of (listed job work rows) (op-of t) (arguments-of job t))) _ (room number-bytes (capped limits) (length work) (listed job work rows)) rows m e)
+      go (N.New m) e = counts false (new-was (well-sorted (capped limits) (term-of (listed job work rows) (op-of t) (arguments-of job t))) _ (room number-bytes (capped limits) (length work) (listed job work rows)) rows m e)
 
   -- the term is offered to `intern`, whose answer says the rest
   pub term-turned : {after : Bytes} {a : Interned} → all-below (rows + first-terms) (arguments-of job t) ≡ true → Taken limits job work after rows at t a
@@ -219,7 +219,7 @@ module _ (limits : Limits) {job work : Bytes} {rows at : ℕ} {t : Term} (g : Re
       subst (Turned limits job work answers rows answered at after answers) (sym d)
       (unanswered limits g answers answered (k .code-is ∙ rw (first-test e)) (term-memory k) (k .store) (k .listed-is ∙ by-code a) (term-origins k) (no-answers a) (term-repeats k))
     where
-      by-code : (x : Interned) → list-after x (listed job work rows) (record-at job at) ≡ passed (code-of x) (feed (listed job work rows) (record-at job at)) (listed job work rows)
+      by-code : (x : Interned) → list-after x (listed job work rows) (record-at job at) ≡ passed (code-of x) (feed number-bytes (listed job work rows) (record-at job at)) (listed job work rows)
       by-code N.Unsorted = refl
       by-code N.Spent = refl
       by-code (N.Found m) = refl
@@ -262,21 +262,21 @@ module _ (limits : Limits) {job work : Bytes} {rows at n : ℕ} (g : Reading job
 
 -- ---- a step
 module _ (limits : Limits) {job work : Bytes} {rows at rule : ℕ} {literals : Args} (g : Reading job work rows at (I.Step rule literals)) (answers : Bytes) (answered : ℕ) {c : ℕ}
-    (f : c ≡ first-fault (step-tests (rows + first-terms) (length answers) answered (is-some (rule-at rule)) (words-in job literals))) where
+    (f : c ≡ first-fault (step-tests number-bytes (rows + first-terms) (length answers) answered (is-some (rule-at rule)) (words-in job literals))) where
   -- as many terms are kept as the code counts
   same-code : c ≡ code limits g answers answered
   same-code =
       let n = g .store .count in
       let e : rows + first-terms ≡ length (listed job work rows) = omega arith in
-      f ∙ ap (λ (k : ℕ). first-fault (step-tests k (length answers) answered (is-some (rule-at rule)) (words-in job literals))) e
+      f ∙ ap (λ (k : ℕ). first-fault (step-tests number-bytes k (length answers) answered (is-some (rule-at rule)) (words-in job literals))) e
 
   -- a test fails
   pub step-stopped : (c ≡ 0 → ⊥) → Turned limits job work answers rows answered at work answers (turn c answered rows 0)
   step-stopped h = stopped limits g answers answered c h same-code
 
   -- all tests pass: the literals are kept, there is such a rule, and there is room for the answer
-  pub step-right : c ≡ 0 → StepPassed (length answers) (listed job work rows) answered rule (words-in job literals)
-  step-right z = step-passed limits (length work) (length answers) (listed job work rows) answered (record-at job at) rule (words-in job literals) (sym same-code ∙ z)
+  pub step-right : c ≡ 0 → StepPassed number-bytes (length answers) (listed job work rows) answered rule (words-in job literals)
+  step-right z = step-passed number-bytes limits (length work) (length answers) (listed job work rows) answered (record-at job at) rule (words-in job literals) (sym same-code ∙ z)
 
   -- so they may be answered
   pub step-literals : c ≡ 0 → Literals job work rows literals × (is-some (rule-at rule) ≡ true)
@@ -297,7 +297,7 @@ module _ (limits : Limits) {job work : Bytes} {rows at rule : ℕ} {literals : A
   step-turned z {reply} {after} says wrote d =
       let p = step-right z in
       let one : answers-at job work answers rows answered at ≡ given rule reply ∷ []
-      = sym (answers-are g answers answered) ∙ step-answer (length answers) (listed job work rows) answered rule (words-in job literals) p
+      = sym (answers-are g answers answered) ∙ step-answer number-bytes (length answers) (listed job work rows) answered rule (words-in job literals) p
       ∙ ap (λ (a : Answer). a ∷ []) (sym (says (p .rule) (p .rule-is))) in
       subst (Turned limits job work answers rows answered at work after) (sym d)
       (record {
@@ -319,20 +319,20 @@ joined-depth by none t a = absurd (let z : _≡_ {A = ℕ} 0 1 = cc in omega ari
 joined-depth by (some ts) t a = accepted-depth t (λ l r. form (collect (map sides ts)) (λ ps. cond (joins by ps l r) held wrong-form)) a
 
 module _ (limits : Limits) {job work : Bytes} {rows at rule literal : ℕ} {premises : Args} (g : Reading job work rows at (I.Chain rule premises literal)) (answers : Bytes) (answered : ℕ) {c : ℕ}
-    (f : c ≡ first-fault (step-tests (rows + first-terms) (length answers) answered (is-some (chain-rule-at rule)) (literal ∷ []))) where
+    (f : c ≡ first-fault (step-tests number-bytes (rows + first-terms) (length answers) answered (is-some (chain-rule-at rule)) (literal ∷ []))) where
   chain-code : c ≡ code limits g answers answered
   chain-code =
       let n = g .store .count in
       let e : rows + first-terms ≡ length (listed job work rows) = omega arith in
-      f ∙ ap (λ (k : ℕ). first-fault (step-tests k (length answers) answered (is-some (chain-rule-at rule)) (literal ∷ []))) e
+      f ∙ ap (λ (k : ℕ). first-fault (step-tests number-bytes k (length answers) answered (is-some (chain-rule-at rule)) (literal ∷ []))) e
 
   -- a test fails
   pub chain-stopped : (c ≡ 0 → ⊥) → Turned limits job work answers rows answered at work answers (turn c answered rows 0)
   chain-stopped h = stopped limits g answers answered c h chain-code
 
   -- all tests pass
-  pub chain-right : c ≡ 0 → ChainPassed (length answers) (listed job work rows) answered rule literal
-  chain-right z = chain-passed limits (length work) (length answers) (listed job work rows) answered (record-at job at) rule (words-in job premises) literal (sym chain-code ∙ z)
+  pub chain-right : c ≡ 0 → ChainPassed number-bytes (length answers) (listed job work rows) answered rule literal
+  chain-right z = chain-passed number-bytes limits (length work) (length answers) (listed job work rows) answered (record-at job at) rule (words-in job premises) literal (sym chain-code ∙ z)
 
   -- so its literal is kept
   pub chain-claimed : c ≡ 0 → Noted job work answers rows answered → Claimed job work answers rows answered premises literal
@@ -349,7 +349,7 @@ module _ (limits : Limits) {job work : Bytes} {rows at rule literal : ℕ} {prem
       let t = tree-at (listed job work rows) literal in
       let e = says (p .rule) (p .rule-is) in
       let one : answers-at job work answers rows answered at ≡ given rule reply ∷ []
-      = sym (answers-are g answers answered) ∙ chain-answer (earlier-in job work answers rows answered) (length answers) (listed job work rows) answered rule literal (words-in job premises) p
+      = sym (answers-are g answers answered) ∙ chain-answer number-bytes (earlier-in job work answers rows answered) (length answers) (listed job work rows) answered rule literal (words-in job premises) p
       ∙ ap (λ (a : Answer). a ∷ []) (sym (judged-is rule j (λ a. joined-depth (p .rule) q t (ap accepted (sym e) ∙ a)) ∙ ap (λ (w : Said). judged rule w t) e)) in
       subst (Turned limits job work answers rows answered at work after) (sym d)
       (record {

@@ -5,7 +5,7 @@ use mathlib.Core.List.{List, []}
 use Prim.Native.Nat.{ℕ, zero, suc, _+_}
 use lib.ListN.{length, drop}
 use Rattle.theory.specs.Limit.{Limits}
-use Rattle.theory.specs.Record.{Bytes, whole, read}
+use Rattle.theory.specs.Record.{Bytes, whole, read, number-length}
 use Rattle.theory.specs.Record as R
 use Rattle.theory.specs.Plain.{has, feed, repeat-of}
 use Rattle.theory.specs.Codes.{fault}
@@ -44,16 +44,16 @@ repeats-in (New m) = 0
 pub record Reading (job work : Bytes) (rows at : ℕ) (item : Item) : Type 0 where
   pub store : Store job work rows
   pub stands : whole (drop at job) ≡ true
-  pub says : item-of job item ≡ read (record-at job at)
+  pub says : item-of job item ≡ read (number-length job) (record-at job at)
   pub placed : Placed job item
 
 -- the answers to the record at `at`
 abbrev pub answers-at : Bytes → Bytes → Bytes → ℕ → ℕ → ℕ → List Answer
-answers-at job work answers rows answered at = answers-to (earlier-in job work answers rows answered) (listed job work rows) (record-at job at)
+answers-at job work answers rows answered at = answers-to (number-length job) (earlier-in job work answers rows answered) (listed job work rows) (record-at job at)
 
 -- the origins job after it
 abbrev pub origins-at : Bytes → Bytes → ℕ → ℕ → List ℕ
-origins-at job work rows at = origins-item (origins job work rows) (listed job work rows) at (record-at job at) (read (record-at job at))
+origins-at job work rows at = origins-item (origins job work rows) (listed job work rows) at (record-at job at) (read (number-length job) (record-at job at))
 
 -- the work memory after the record at `at` that says an item, where no code stops the job: a new term has its row, and the rows that a back drops have
 -- no slot
@@ -68,16 +68,16 @@ memory-item job work rows at R.misfit = work
 
 -- the work memory after the record at `at`
 abbrev pub memory-at : Bytes → Bytes → ℕ → ℕ → Bytes
-memory-at job work rows at = memory-item job work rows at (read (record-at job at))
+memory-at job work rows at = memory-item job work rows at (read (number-length job) (record-at job at))
 
 -- what became of the record at `at` under stated limits, by theory's tests, plain list, repeats and answers; where a code stops the job, both
 -- memories stay as they were, and it is no repeat
 pub record Turned (limits : Limits) (job work answers : Bytes) (rows answered at : ℕ) (work′ answers′ : Bytes) (t : Turn) : Type 0 where
-  pub code-is : t .code ≡ fault limits (length work) (length answers) (listed job work rows) answered (record-at job at)
+  pub code-is : t .code ≡ fault (number-length job) limits (length work) (length answers) (listed job work rows) answered (record-at job at)
   pub memory-is : work′ ≡ passed (t .code) (memory-at job work rows at) work
   pub store : Store job work′ (t .rows)
-  pub listed-is : listed job work′ (t .rows) ≡ passed (t .code) (feed (listed job work rows) (record-at job at)) (listed job work rows)
+  pub listed-is : listed job work′ (t .rows) ≡ passed (t .code) (feed (number-length job) (listed job work rows) (record-at job at)) (listed job work rows)
   pub origins-are : origins job work′ (t .rows) ≡ passed (t .code) (origins-at job work rows at) (origins job work rows)
-  pub repeats-is : t .repeats ≡ passed (t .code) (repeat-of (listed job work rows) (record-at job at)) 0
+  pub repeats-is : t .repeats ≡ passed (t .code) (repeat-of (number-length job) (listed job work rows) (record-at job at)) 0
   pub answers-is : t .answers ≡ answered + length (passed (t .code) (answers-at job work answers rows answered at) [])
   pub written-is : answers′ ≡ with-notes answers answered at (passed (t .code) (answers-at job work answers rows answered at) [])

@@ -6,7 +6,7 @@ ghost use Prim.Native.Nat.{suc, _+_, _*_, _≤_};
 ghost use lib.Dec.{leb};
 ghost use lib.ListN.{length, drop};
 ghost use Rattle.theory.specs.Limit as L;
-ghost use Rattle.theory.specs.Limit.{answer-bytes, first-terms, max-terms};
+ghost use Rattle.theory.specs.Limit.{answer-bytes, first-terms, max-terms, number-bytes};
 ghost use Rattle.theory.specs.Optional.{is-some};
 ghost use Rattle.theory.specs.RuleTable.{rule-at, chain-rule-at};
 ghost use Rattle.theory.specs.Record.{Bytes, whole};
@@ -109,8 +109,8 @@ fn term_record(
 
 // 19 where there is no room for one more answer, or 0.
 fn room_fault(answered: usize, space: usize) -> u32
-    requires { ⌜ answer-bytes * answered ≤ space ⌝ }
-    ensures { λ r. ⌜ r ≡ cond (leb (answer-bytes * suc answered) space) 0 19 ⌝ }
+    requires { ⌜ answer-bytes number-bytes * answered ≤ space ⌝ }
+    ensures { λ r. ⌜ r ≡ cond (leb (answer-bytes number-bytes * suc answered) space) 0 19 ⌝ }
 {
     if space - ANSWER_BYTES * answered < ANSWER_BYTES {
         return 19;
@@ -127,8 +127,8 @@ fn step_fault(
     rule: u32,
     literals: Args,
 ) -> u32
-    requires { ⌜ Inside (now job) literals × (rows + first-terms ≤ max-terms) × (answer-bytes * answered ≤ space) ⌝ }
-    ensures { λ r. ⌜ r ≡ first-fault (step-tests (rows + first-terms) space answered (is-some (rule-at rule)) (words-in (now (job .entry)) literals)) ⌝ }
+    requires { ⌜ Inside (now job) literals × (rows + first-terms ≤ max-terms) × (answer-bytes number-bytes * answered ≤ space) ⌝ }
+    ensures { λ r. ⌜ r ≡ first-fault (step-tests number-bytes (rows + first-terms) space answered (is-some (rule-at rule)) (words-in (now (job .entry)) literals)) ⌝ }
 {
     if !Term::all_below(job, literals, (rows + FIRST_PLACE) as u32) {
         return 6;
@@ -151,7 +151,7 @@ fn answered_turn(
     rule: u32,
     reply: Reply,
 ) -> Turn
-    requires { ⌜ answer-bytes * suc answered ≤ length (now answers) ⌝ }
+    requires { ⌜ answer-bytes number-bytes * suc answered ≤ length (now answers) ⌝ }
     ensures written { λ _. ⌜ now (answers .exit) ≡ with-notes (now (answers .entry)) answered at (given rule reply ∷ []) ⌝ }
     ensures turned { λ r. ⌜ r ≡ turn 0 (answered + 1) rows 0 ⌝ }
 {
@@ -175,7 +175,7 @@ fn step_record(
     rule: u32,
     literals: Args,
 ) -> Turn
-    requires { ⌜ Reading (now job) (now work) rows at (I.Step rule literals) × (answer-bytes * answered ≤ length (now answers)) ⌝ }
+    requires { ⌜ Reading (now job) (now work) rows at (I.Step rule literals) × (answer-bytes number-bytes * answered ≤ length (now answers)) ⌝ }
     ensures { λ r. ⌜ ((limits : L.Limits)
         → Turned limits (now (job .entry)) (now (work .entry)) (now (answers .entry)) rows answered at (now (work .entry)) (now (answers .exit)) r) ⌝ }
 {
@@ -194,8 +194,8 @@ fn step_record(
 
 // The code that stops the job at a chain, or 0: 6 where its literal is not kept, 9 where there is no such rule, 19 where there is no room for its answer.
 fn chain_fault(rows: usize, answered: usize, space: usize, rule: u32, literal: u32) -> u32
-    requires { ⌜ (rows + first-terms ≤ max-terms) × (answer-bytes * answered ≤ space) ⌝ }
-    ensures { λ r. ⌜ r ≡ first-fault (step-tests (rows + first-terms) space answered (is-some (chain-rule-at rule)) (literal ∷ [])) ⌝ }
+    requires { ⌜ (rows + first-terms ≤ max-terms) × (answer-bytes number-bytes * answered ≤ space) ⌝ }
+    ensures { λ r. ⌜ r ≡ first-fault (step-tests number-bytes (rows + first-terms) space answered (is-some (chain-rule-at rule)) (literal ∷ [])) ⌝ }
 {
     if (rows + FIRST_PLACE) as u32 <= literal {
         return 6;

@@ -5,7 +5,7 @@ use mathlib.Core.List.{[], _++_}
 use Prim.Native.Nat.{ℕ, _+_, _*_, _≤_}
 use lib.Dec.{leb}
 use lib.ListN.{length, take, drop}
-use Rattle.theory.specs.Limit.{answer-bytes}
+use Rattle.theory.specs.Limit.{answer-bytes, number-bytes}
 use Rattle.theory.specs.Record.{Bytes}
 use Rattle.theory.specs.Answer.{Answer, decode-answers}
 use Rattle.theory.specs.Job.{Outcome}
@@ -34,12 +34,12 @@ line place a = decimal place ++ blank ++ decimal (a .rule) ++ blank ++ decimal (
 
 -- a run that came to these numbers and answers; the text does not say how many records were done
 abbrev pub came-to : ℕ → ℕ → ℕ → ℕ → Bytes → Outcome
-came-to stop terms repeats count answers = record { stop = stop; records = 0; answers = decode-answers count answers; terms = terms; repeats = repeats }
+came-to stop terms repeats count answers = record { stop = stop; records = 0; answers = decode-answers number-bytes count answers; terms = terms; repeats = repeats }
 
 -- the text, where the answers are all there and a memory of `space` bytes is long enough for any such text
 unfoldable pub report-text : ℕ → ℕ → ℕ → ℕ → Bytes → ℕ → Bytes
 report-text stop terms repeats count answers space =
-    cond (leb (count * answer-bytes) (length answers) && leb (head-space + count * line-space) space)
+    cond (leb (count * answer-bytes number-bytes) (length answers) && leb (head-space + count * line-space) space)
     (outcome-text (came-to stop terms repeats count answers))
     []
 

@@ -3,7 +3,7 @@ ghost use mathlib.Core.Path.{_≡_};
 ghost use mathlib.Core.List.{[], _∷_, _++_};
 ghost use Prim.Native.Nat.{_+_, _*_, _<_, _≤_};
 ghost use lib.ListN.{length, drop};
-ghost use Rattle.theory.specs.Limit.{answer-bytes};
+ghost use Rattle.theory.specs.Limit.{answer-bytes, number-bytes};
 ghost use Rattle.theory.specs.Record.{word};
 ghost use Rattle.theory.specs.Answer.{decode-answer, decode-answers};
 ghost use Rattle.theory.specs.Program.{decimal, answer-lines};
@@ -102,8 +102,8 @@ fn put_head(steps: u32, terms: u32, repeats: u32, stop: u32, out: &mut [u8]) -> 
 
 // Writes the line of answer k, counted from 0: its place from 1, rule, code and depth.
 fn put_line(answers: &[u8], k: u32, out: &mut [u8], at: usize) -> usize
-    requires { ⌜ (k < 4294967295) × (k * answer-bytes + answer-bytes ≤ length (now answers)) × (at + line-space ≤ length (now out)) ⌝ }
-    ensures { λ r. ⌜ Wrote (now (out .entry)) at (line (k + 1) (decode-answer (drop (k * answer-bytes) (now (answers .entry))))) (now (out .exit)) r × (r ≤ at + line-space) ⌝ }
+    requires { ⌜ (k < 4294967295) × (k * answer-bytes number-bytes + answer-bytes number-bytes ≤ length (now answers)) × (at + line-space ≤ length (now out)) ⌝ }
+    ensures { λ r. ⌜ Wrote (now (out .entry)) at (line (k + 1) (decode-answer number-bytes (drop (k * answer-bytes number-bytes) (now (answers .entry))))) (now (out .exit)) r × (r ≤ at + line-space) ⌝ }
 {
     let i = k as usize * ANSWER_BYTES;
     let a = put_ended(k + 1, SPACE, out, at);
@@ -114,8 +114,8 @@ fn put_line(answers: &[u8], k: u32, out: &mut [u8], at: usize) -> usize
 
 // Writes the lines of the first `count` answers.
 fn put_lines(answers: &[u8], count: u32, out: &mut [u8], at: usize) -> usize
-    requires { ⌜ (count * answer-bytes ≤ length (now answers)) × (at + count * line-space ≤ length (now out)) ⌝ }
-    ensures { λ r. ⌜ Wrote (now (out .entry)) at (answer-lines 1 (decode-answers count (now (answers .entry)))) (now (out .exit)) r ⌝ }
+    requires { ⌜ (count * answer-bytes number-bytes ≤ length (now answers)) × (at + count * line-space ≤ length (now out)) ⌝ }
+    ensures { λ r. ⌜ Wrote (now (out .entry)) at (answer-lines 1 (decode-answers number-bytes count (now (answers .entry)))) (now (out .exit)) r ⌝ }
 {
     let mut next = at;
     for k in 0..count {

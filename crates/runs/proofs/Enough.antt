@@ -37,15 +37,15 @@ few-cut (suc fuel) bs =
     next-few (whole bs) n (take n bs) (cut fuel (drop n bs)) (length bs) (λ w. let p = whole-parts bs w in (let a = p .low in omega arith, p .fit)) (omega arith)
 
 -- ---- one record
-room-same : (limits : Limits) (more less : ℕ) (list : Plain) → term-bytes number-bytes * (suc (length list) - first-terms) ≤ less → less ≤ more → room limits less list ≡ room limits more list
+room-same : (limits : Limits) (more less : ℕ) (list : Plain) → term-bytes number-bytes * (suc (length list) - first-terms) ≤ less → less ≤ more → room number-bytes limits less list ≡ room number-bytes limits more list
 room-same limits more less list h k =
     ap (λ (b : Bool). b && ltb (length list) (limits .terms)) (le-leb (term-bytes number-bytes * (suc (length list) - first-terms)) less h ∙ sym (le-leb (term-bytes number-bytes * (suc (length list) - first-terms)) more (omega arith)))
 
-fault-same : (limits : Limits) (more less space : ℕ) (list : Plain) (n : ℕ) (r : Bytes) → room (capped limits) less list ≡ room (capped limits) more list → fault limits less space list n r ≡ fault limits more space list n r
+fault-same : (limits : Limits) (more less space : ℕ) (list : Plain) (n : ℕ) (r : Bytes) → room number-bytes (capped limits) less list ≡ room number-bytes (capped limits) more list → fault number-bytes limits less space list n r ≡ fault number-bytes limits more space list n r
 unfolding fault
-fault-same limits more less space list n r e = go (read r)
+fault-same limits more less space list n r e = go (read number-bytes r)
   where
-    go : (i : Item) → first-fault (tests limits less space list n r i) ≡ first-fault (tests limits more space list n r i)
+    go : (i : Item) → first-fault (tests number-bytes limits less space list n r i) ≡ first-fault (tests number-bytes limits more space list n r i)
     go unknown = refl
     go misfit = refl
     go (term o ks) = ap (λ (b : Bool). first-fault ((all-below (length list) ks, 6) ∷ (well-sorted (capped limits) (term-of list o ks), 7) ∷ (has list r || b, 8) ∷ [])) e
@@ -57,9 +57,9 @@ put-short : (list : Plain) (r : Bytes) (t : Term) (b : Bool) → length (cond b 
 put-short list r t true = omega arith
 put-short list r t false = let l = length-append list (entry t r ∷ []) in omega arith
 
-feed-short : (list : Plain) (r : Bytes) → length (feed list r) ≤ suc (length list)
+feed-short : (list : Plain) (r : Bytes) → length (feed number-bytes list r) ≤ suc (length list)
 unfolding feed
-feed-short list r = go (read r)
+feed-short list r = go (read number-bytes r)
   where
     of-term : (q : Option Term) → length (put list r q) ≤ suc (length list)
     of-term none = omega arith
@@ -80,15 +80,15 @@ by-fault zero f e = e
 by-fault (suc code) f e = refl
 
 run-from-same : (limits : Limits) (more less space end : ℕ) → less ≤ more → (rs : List Bytes) (done repeats : ℕ) (earlier : Earlier) (list : Plain) (given : List Answer)
-    → term-bytes number-bytes * (length list + length rs - first-terms) ≤ less → run-from limits less space end done repeats earlier list given rs ≡ run-from limits more space end done repeats earlier list given rs
+    → term-bytes number-bytes * (length list + length rs - first-terms) ≤ less → run-from number-bytes limits less space end done repeats earlier list given rs ≡ run-from number-bytes limits more space end done repeats earlier list given rs
 unfolding run-from
 run-from-same limits more less space end k [] done repeats earlier list given h = refl
 run-from-same limits more less space end k (r ∷ rs) done repeats earlier list given h =
     let s = feed-short list r in
     let stop : ℕ → Outcome = λ code. outcome (suc code) done repeats given list in
-    ap (λ (c : ℕ). elim c as (λ w. Outcome) [ zero ↦ run-from limits less space end (suc done) (repeats + repeat-of list r) (recall earlier list r) (feed list r) (given ++ answers-to earlier list r) rs | suc code ↦ stop code ])
+    ap (λ (c : ℕ). elim c as (λ w. Outcome) [ zero ↦ run-from number-bytes limits less space end (suc done) (repeats + repeat-of number-bytes list r) (recall number-bytes earlier list r) (feed number-bytes list r) (given ++ answers-to number-bytes earlier list r) rs | suc code ↦ stop code ])
     (fault-same limits more less space list (length given) r (room-same (capped limits) more less list (omega arith) k))
-    ∙ by-fault (fault limits more space list (length given) r) stop (run-from-same limits more less space end k rs (suc done) (repeats + repeat-of list r) (recall earlier list r) (feed list r) (given ++ answers-to earlier list r) (omega arith))
+    ∙ by-fault (fault number-bytes limits more space list (length given) r) stop (run-from-same limits more less space end k rs (suc done) (repeats + repeat-of number-bytes list r) (recall number-bytes earlier list r) (feed number-bytes list r) (given ++ answers-to number-bytes earlier list r) (omega arith))
 
 by-length : (b : Bool) {x y : Outcome} (z : Outcome) → x ≡ y
     → _≡_ {A = Outcome} (elim b as (λ w. Outcome) [ true ↦ x | false ↦ z ]) (elim b as (λ w. Outcome) [ true ↦ y | false ↦ z ])

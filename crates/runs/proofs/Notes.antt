@@ -10,7 +10,7 @@ use native.Mathlib.Decide.{decLt}
 use lib.Dec.{eqb}
 use lib.ListN.{length, take, drop, getElem?, length-append, length-drop, length-map}
 use lib.Seq.{take-take, take-append-le, drop-append-le, drop-append-add, drop-at, drop-drop, length-take-le, take-at}
-use Rattle.theory.specs.Limit.{answer-bytes}
+use Rattle.theory.specs.Limit.{answer-bytes, number-bytes}
 use Rattle.theory.specs.Optional.{either}
 use Rattle.theory.specs.Record.{Bytes, little-endian, whole, Item, term, step, chain, back, unknown, misfit, read, claim-of}
 use Rattle.theory.specs.Plain.{Plain}
@@ -36,38 +36,38 @@ front-part memory more q p n h l =
     ap (take n) (drop-append-le p (take q memory) more (omega arith) ∙ ap (λ (bs : Bytes). bs ++ more) (drop-take p q memory))
     ∙ take-append-le n (take (q - p) (drop p memory)) more (omega arith) ∙ take-take n (q - p) (drop p memory) (omega arith)
 
-module _ (memory : Bytes) (k place : ℕ) (fits : answer-bytes * k ≤ length memory) where
+module _ (memory : Bytes) (k place : ℕ) (fits : answer-bytes number-bytes * k ≤ length memory) where
   -- the answers before stay
   module _ (new : List Answer) (j : ℕ) (h : j < k) where
     pub place-before : step-place (with-notes memory k place new) j ≡ step-place memory j
     unfolding with-notes
-    place-before = ap little-endian (front-part memory _ (answer-bytes * k) (answer-bytes * j) 3 (omega arith) fits)
+    place-before = ap little-endian (front-part memory _ (answer-bytes number-bytes * k) (answer-bytes number-bytes * j) 3 (omega arith) fits)
 
     code-before : step-code (with-notes memory k place new) j ≡ step-code memory j
     unfolding with-notes
-    code-before = ap little-endian (front-part memory _ (answer-bytes * k) (answer-bytes * j + 6) 2 (omega arith) fits)
+    code-before = ap little-endian (front-part memory _ (answer-bytes number-bytes * k) (answer-bytes number-bytes * j + 6) 2 (omega arith) fits)
 
   -- and the new one is there
   module _ (a : Answer) where
-    here : drop (answer-bytes * k) (with-notes memory k place (a ∷ [])) ≡ note place a ++ drop (answer-bytes * (k + 1)) memory
+    here : drop (answer-bytes number-bytes * k) (with-notes memory k place (a ∷ [])) ≡ note place a ++ drop (answer-bytes number-bytes * (k + 1)) memory
     unfolding with-notes
-    here = drop-at (take (answer-bytes * k) memory) (note place a ++ drop (answer-bytes * (k + 1)) memory) (answer-bytes * k) (length-take-le (answer-bytes * k) memory fits)
+    here = drop-at (take (answer-bytes number-bytes * k) memory) (note place a ++ drop (answer-bytes number-bytes * (k + 1)) memory) (answer-bytes number-bytes * k) (length-take-le (answer-bytes number-bytes * k) memory fits)
 
     pub place-new : place < 16777216 → step-place (with-notes memory k place (a ∷ [])) k ≡ place
     place-new s = ap (λ (bs : Bytes). little-endian (take 3 bs)) here ∙ omega arith
 
     code-new : a .code < 65536 → step-code (with-notes memory k place (a ∷ [])) k ≡ a .code
     code-new s =
-        ap (λ (bs : Bytes). little-endian (take 2 bs)) (sym (drop-drop 6 (answer-bytes * k) (with-notes memory k place (a ∷ []))) ∙ ap (drop 6) here) ∙ omega arith
+        ap (λ (bs : Bytes). little-endian (take 2 bs)) (sym (drop-drop 6 (answer-bytes number-bytes * k) (with-notes memory k place (a ∷ []))) ∙ ap (drop 6) here) ∙ omega arith
 
 -- ---- the marks
-module _ (job memory : Bytes) (k place : ℕ) (fits : answer-bytes * k ≤ length memory) (near : place < 16777216) where
+module _ (job memory : Bytes) (k place : ℕ) (fits : answer-bytes number-bytes * k ≤ length memory) (near : place < 16777216) where
   mark-before : (new : List Answer) (j : ℕ) → j < k → mark-at job (with-notes memory k place new) j ≡ mark-at job memory j
   unfolding left-at
   mark-before new j h =
       ap₂ (λ (p c : ℕ). (p, cond (eqb c 0) (claimed-at job p) none)) (place-before memory k place fits new j h) (code-before memory k place fits new j h)
 
-  mark-new : (a : Answer) → a .code < 65536 → (n : ℕ) (ks : List ℕ) → claim-of (read (record-at job place)) ≡ some (n, ks)
+  mark-new : (a : Answer) → a .code < 65536 → (n : ℕ) (ks : List ℕ) → claim-of (read number-bytes (record-at job place)) ≡ some (n, ks)
       → mark-at job (with-notes memory k place (a ∷ [])) k ≡ (place, leaves ks a)
   unfolding left-at claimed-at
   mark-new a s n ks e =
@@ -78,7 +78,7 @@ module _ (job memory : Bytes) (k place : ℕ) (fits : answer-bytes * k ≤ lengt
   none-more = ap₂ (marks-in job) (none-written memory k place) (add-zero k)
 
   -- a step of either kind
-  step-marks : (n : ℕ) (ks : List ℕ) → claim-of (read (record-at job place)) ≡ some (n, ks) → (new : List Answer) → length new ≤ 1 → AllSmall new
+  step-marks : (n : ℕ) (ks : List ℕ) → claim-of (read number-bytes (record-at job place)) ≡ some (n, ks) → (new : List Answer) → length new ≤ 1 → AllSmall number-bytes new
       → marks-in job (with-notes memory k place new) (k + length new) ≡ marks-in job memory k ++ map (λ (a : Answer). (place, leaves ks a)) new
   unfolding marks-in
   step-marks n ks e [] l s = none-more ∙ sym (append-nil (marks-in job memory k))
@@ -88,13 +88,13 @@ module _ (job memory : Bytes) (k place : ℕ) (fits : answer-bytes * k ≤ lengt
       (column-same (mark-at job (with-notes memory k place (a ∷ []))) (mark-at job memory) k (λ j h. mark-before (a ∷ []) j h)) (mark-new a (s 0 a refl .code-small) n ks e)
   step-marks n ks e (a ∷ b ∷ new) l s = absurd (omega arith)
 
-  pub marks-more : (earlier : Earlier) (list : Plain) → AllSmall (answers-to earlier list (record-at job place))
-      → marks-in job (with-notes memory k place (answers-to earlier list (record-at job place))) (k + length (answers-to earlier list (record-at job place)))
-      ≡ marks-item (marks-in job memory k) place (read (record-at job place)) (answers-to earlier list (record-at job place))
+  pub marks-more : (earlier : Earlier) (list : Plain) → AllSmall number-bytes (answers-to number-bytes earlier list (record-at job place))
+      → marks-in job (with-notes memory k place (answers-to number-bytes earlier list (record-at job place))) (k + length (answers-to number-bytes earlier list (record-at job place)))
+      ≡ marks-item (marks-in job memory k) place (read number-bytes (record-at job place)) (answers-to number-bytes earlier list (record-at job place))
   unfolding answers-to
-  marks-more earlier list s = go (read (record-at job place)) refl s
+  marks-more earlier list s = go (read number-bytes (record-at job place)) refl s
     where
-      go : (i : Item) → read (record-at job place) ≡ i → AllSmall (item-answers earlier list i)
+      go : (i : Item) → read number-bytes (record-at job place) ≡ i → AllSmall number-bytes (item-answers earlier list i)
           → marks-in job (with-notes memory k place (item-answers earlier list i)) (k + length (item-answers earlier list i))
           ≡ marks-item (marks-in job memory k) place i (item-answers earlier list i)
       go (term o ks) e s = none-more
@@ -126,14 +126,14 @@ at-record place new = map (λ (a : Answer). (place, a)) new
 
 -- the memory with these in it
 abbrev pub notes-after : List Note → Bytes → Bytes
-notes-after ms old = all-notes ms ++ drop (answer-bytes * length ms) old
+notes-after ms old = all-notes ms ++ drop (answer-bytes number-bytes * length ms) old
 
 pub answers-more : (ms : List Note) (place : ℕ) (new : List Answer) → answers-of (ms ++ at-record place new) ≡ answers-of ms ++ new
 answers-more [] place [] = refl
 answers-more [] place (a ∷ new) = ap (λ (xs : List Answer). a ∷ xs) (answers-more [] place new)
 answers-more (m ∷ ms) place new = ap (λ (xs : List Answer). m .1 ∷ xs) (answers-more ms place new)
 
-notes-length : (ms : List Note) → length (all-notes ms) ≡ answer-bytes * length ms
+notes-length : (ms : List Note) → length (all-notes ms) ≡ answer-bytes number-bytes * length ms
 notes-length [] = refl
 notes-length (m ∷ ms) = omega (arith, notes-length ms)
 
@@ -151,22 +151,22 @@ unfolding with-notes
 notes-more old ms place new {k} e =
     let bs = all-notes ms in
     let cs = notes place new in
-    let l : length bs ≡ answer-bytes * length ms = notes-length ms in
+    let l : length bs ≡ answer-bytes number-bytes * length ms = notes-length ms in
     let i : length (at-record place new) ≡ length new = length-map new (λ (a : Answer). (place, a)) in
-    let m : length cs ≡ answer-bytes * length new = ap length (notes-are place new) ∙ notes-length (at-record place new) ∙ ap (λ (x : ℕ). answer-bytes * x) i in
-    let p : length bs ≡ answer-bytes * k = omega arith in
-    let q : answer-bytes * (k + length new) ≡ length bs + length cs = omega arith in
+    let m : length cs ≡ answer-bytes number-bytes * length new = ap length (notes-are place new) ∙ notes-length (at-record place new) ∙ ap (λ (x : ℕ). answer-bytes number-bytes * x) i in
+    let p : length bs ≡ answer-bytes number-bytes * k = omega arith in
+    let q : answer-bytes number-bytes * (k + length new) ≡ length bs + length cs = omega arith in
     let j : length (ms ++ at-record place new) ≡ length ms + length new = length-append ms (at-record place new) ∙ ap (λ (x : ℕ). length ms + x) i in
-    let n : answer-bytes * length ms + length cs ≡ answer-bytes * length (ms ++ at-record place new) = omega arith in
-    ap₂ (λ (x y : Bytes). x ++ (cs ++ y)) (take-at bs (drop (answer-bytes * length ms) old) (answer-bytes * k) p)
-    (ap (λ (x : ℕ). drop x (bs ++ drop (answer-bytes * length ms) old)) q ∙ drop-append-add bs (drop (answer-bytes * length ms) old) (length cs)
-    ∙ drop-drop (length cs) (answer-bytes * length ms) old)
-    ∙ sym (append-assoc bs cs (drop (answer-bytes * length ms + length cs) old))
+    let n : answer-bytes number-bytes * length ms + length cs ≡ answer-bytes number-bytes * length (ms ++ at-record place new) = omega arith in
+    ap₂ (λ (x y : Bytes). x ++ (cs ++ y)) (take-at bs (drop (answer-bytes number-bytes * length ms) old) (answer-bytes number-bytes * k) p)
+    (ap (λ (x : ℕ). drop x (bs ++ drop (answer-bytes number-bytes * length ms) old)) q ∙ drop-append-add bs (drop (answer-bytes number-bytes * length ms) old) (length cs)
+    ∙ drop-drop (length cs) (answer-bytes number-bytes * length ms) old)
+    ∙ sym (append-assoc bs cs (drop (answer-bytes number-bytes * length ms + length cs) old))
     ∙ ap₂ (λ (x : Bytes) (y : ℕ). x ++ drop y old) (ap (λ (zs : Bytes). bs ++ zs) (notes-are place new) ∙ sym (notes-append ms (at-record place new))) n
 
 -- when the job has ended
-pub notes-sealed : (old : Bytes) (ms : List Note) {k : ℕ} → k ≡ length ms → sealed k (notes-after ms old) ≡ answers-after (answers-of ms) old
+pub notes-sealed : (old : Bytes) (ms : List Note) {k : ℕ} → k ≡ length ms → sealed k (notes-after ms old) ≡ answers-after number-bytes (answers-of ms) old
 notes-sealed old ms e =
     let l : length (answers-of ms) ≡ length ms = length-map ms (λ (m : Note). m .1) in
-    let n : answer-bytes * length ms ≡ length (encode-answers (answers-of ms)) = sym (bytes-length (answers-of ms) ∙ ap (λ (x : ℕ). answer-bytes * x) l) in
-    ap (λ (i : ℕ). sealed i (notes-after ms old)) e ∙ sealed-all ms (drop (answer-bytes * length ms) old) ∙ ap (λ (i : ℕ). encode-answers (answers-of ms) ++ drop i old) n
+    let n : answer-bytes number-bytes * length ms ≡ length (encode-answers number-bytes (answers-of ms)) = sym (bytes-length number-bytes (answers-of ms) ∙ ap (λ (x : ℕ). answer-bytes number-bytes * x) l) in
+    ap (λ (i : ℕ). sealed i (notes-after ms old)) e ∙ sealed-all ms (drop (answer-bytes number-bytes * length ms) old) ∙ ap (λ (i : ℕ). encode-answers number-bytes (answers-of ms) ++ drop i old) n

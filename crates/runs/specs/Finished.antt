@@ -3,7 +3,7 @@ use mathlib.Core.Path.{_≡_}
 use Prim.Native.Nat.{_+_, _≤_}
 use lib.ListN.{length}
 use Rattle.theory.specs.Limit.{Limits, first-terms, max-terms, max-job}
-use Rattle.theory.specs.Record.{Bytes}
+use Rattle.theory.specs.Record.{Bytes, number-length}
 use Rattle.theory.specs.Plain.{plain-after}
 use Rattle.theory.specs.Job.{returned, run, answers-after}
 use Rattle.store.specs.Store.{listed}
@@ -21,7 +21,7 @@ pub record Small (s : State) : Type 0 where
 -- what the host is to be told, and both memories; where the job does not stop early, the rows are the terms after the last record
 pub record Finished (limits : Limits) (job work old work′ answers : Bytes) (s : State) : Type 0 where
   pub result-is : reached s ≡ returned (run limits job (length work) (length old))
-  pub answers-are : answers ≡ answers-after (run limits job (length work) (length old) .answers) old
+  pub answers-are : answers ≡ answers-after (number-length job) (run limits job (length work) (length old) .answers) old
   pub memory-is : work′ ≡ memory-left limits job work (length old)
   pub small : Small s
   pub shelf : s .stop ≡ 0 → Shelf job work′ (s .rows)

@@ -5,7 +5,7 @@ use Prim.Native.Nat.{ℕ, zero, suc, _+_, _-_, _*_, _≤_, _<_}
 use lib.Dec.{leb}
 use lib.ListN.{length, take, drop}
 use Rattle.theory.specs.Limit.{Limits, first-terms, max-terms, max-job, answer-bytes}
-use Rattle.theory.specs.Record.{Bytes, extent, whole, records-of, total-length}
+use Rattle.theory.specs.Record.{Bytes, extent, whole, records-of, total-length, number-length}
 use Rattle.theory.specs.Plain.{plain-after}
 use Rattle.theory.specs.Job.{Returned, returned, run, answers-after}
 use Rattle.terms.specs.declared.Frame.the-variants.{Broken}
@@ -75,8 +75,8 @@ pub record Walked (limits : Limits) (job lent old work answers : Bytes) (s : Sta
   pub result-is : reached s ≡ returned (run limits job (length lent) (length old))
   pub at-is : s .at ≡ total-length (take (s .records) (records-of job))
   pub memory-is : work ≡ memory-run job (cleared lent) (s .records)
-  pub roomy : answer-bytes * s .answers ≤ length answers
-  pub answers-are : sealed (s .answers) answers ≡ answers-after (run limits job (length lent) (length old) .answers) old
+  pub roomy : answer-bytes (number-length job) * s .answers ≤ length answers
+  pub answers-are : sealed (s .answers) answers ≡ answers-after (number-length job) (run limits job (length lent) (length old) .answers) old
   pub few-records : s .records ≤ max-job
   pub few-answers : s .answers ≤ max-job
   pub few-terms : s .rows + first-terms ≤ max-terms

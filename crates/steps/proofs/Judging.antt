@@ -99,7 +99,7 @@ pub others-unjudged : (n : ℕ) (rule : Rule) (list : Plain) (job : Bytes) (a : 
     → given n (reply c 0) ≡ answer-to n rule (map (tree-at list) (words-in job a))
 others-unjudged n rule list job a h f =
     ap (λ (c : ℕ). given n (reply c 0)) f
-    ∙ not-one n rule (map (tree-at list) (words-in job a)) (λ e. h (sym (words-length (a .count) _) ∙ sym (length-map (words-in job a) (tree-at list)) ∙ e))
+    ∙ not-one n rule (map (tree-at list) (words-in job a)) (λ e. h (sym (words-length (a .bytes) (a .count) _) ∙ sym (length-map (words-in job a) (tree-at list)) ∙ e))
 
 -- the literal of a clause of one is kept
 pub one-below : (b : ℕ) (ks : List ℕ) → length ks ≡ 1 → all-below b ks ≡ true → {x : ℕ} → x ≡ getD ks 0 0 → x < b
@@ -118,4 +118,4 @@ one-literal n {v} rule list (k ∷ []) l {x} e f {r} g =
 -- by its literals in the job
 pub one-judged : (n : ℕ) {v : Verdict} (rule : Rule) (list : Plain) (job : Bytes) (a : Args) → a .count ≡ 1 → {x : ℕ} → x ≡ getD (words-in job a) 0 0 → v ≡ verdict rule (tree-at list x)
     → {r : Reply} → Judged v (tree-at list x) r → given n r ≡ answer-to n rule (map (tree-at list) (words-in job a))
-one-judged n rule list job a c e f j = one-literal n rule list (words-in job a) (words-length (a .count) _ ∙ c) e f j
+one-judged n rule list job a c e f j = one-literal n rule list (words-in job a) (words-length (a .bytes) (a .count) _ ∙ c) e f j

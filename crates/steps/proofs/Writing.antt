@@ -7,7 +7,7 @@ use native.Mathlib.Omega.{arith}
 use native.Mathlib.Numerals.{towards-suc, add-one}
 use lib.ListN.{length, take, drop, set, length-append, length-drop, take-append-drop}
 use lib.Seq.{sets, sets-eq, length-take-le, drop-drop}
-use Rattle.theory.specs.Limit.{answer-bytes}
+use Rattle.theory.specs.Limit.{answer-bytes, number-bytes}
 use Rattle.theory.specs.Term.{Term}
 use Rattle.theory.specs.RuleTable.{Rule, rule-at, ChainRule, chain-rule-at}
 use Rattle.theory.specs.Record.{Bytes, bytes-of, word-bytes, Item, term, step, chain, back, unknown, misfit, read}
@@ -21,22 +21,22 @@ use Rattle.steps.specs.Answering.{note, notes, with-notes, encode-head, 
 -- no answer changes nothing
 pub none-written : (old : Bytes) (k place : ℕ) → with-notes old k place [] ≡ old
 unfolding with-notes
-none-written old k place = let e : answer-bytes * (k + 0) ≡ answer-bytes * k = omega arith in ap (λ (n : ℕ). take (answer-bytes * k) old ++ drop n old) e ∙ take-append-drop (answer-bytes * k) old
+none-written old k place = let e : answer-bytes number-bytes * (k + 0) ≡ answer-bytes number-bytes * k = omega arith in ap (λ (n : ℕ). take (answer-bytes number-bytes * k) old ++ drop n old) e ∙ take-append-drop (answer-bytes number-bytes * k) old
 
-notes-length : (place : ℕ) (new : List Answer) → length (notes place new) ≡ answer-bytes * length new
+notes-length : (place : ℕ) (new : List Answer) → length (notes place new) ≡ answer-bytes number-bytes * length new
 notes-length place [] = refl
 notes-length place (a ∷ rest) = omega (arith, notes-length place rest)
 
 -- the memory has room for them, if it keeps its length
-pub written-fits : (old : Bytes) (k place : ℕ) (new : List Answer) → answer-bytes * k ≤ length old → length (with-notes old k place new) ≡ length old
-    → answer-bytes * (k + length new) ≤ length old
+pub written-fits : (old : Bytes) (k place : ℕ) (new : List Answer) → answer-bytes number-bytes * k ≤ length old → length (with-notes old k place new) ≡ length old
+    → answer-bytes number-bytes * (k + length new) ≤ length old
 unfolding with-notes
 written-fits old k place new h e =
-    let front = take (answer-bytes * k) old in
-    let rest = drop (answer-bytes * (k + length new)) old in
-    let a : length front ≡ answer-bytes * k = length-take-le (answer-bytes * k) old h in
-    let b : length rest ≡ length old - answer-bytes * (k + length new) = length-drop (answer-bytes * (k + length new)) old in
-    let c : length (notes place new) ≡ answer-bytes * length new = notes-length place new in
+    let front = take (answer-bytes number-bytes * k) old in
+    let rest = drop (answer-bytes number-bytes * (k + length new)) old in
+    let a : length front ≡ answer-bytes number-bytes * k = length-take-le (answer-bytes number-bytes * k) old h in
+    let b : length rest ≡ length old - answer-bytes number-bytes * (k + length new) = length-drop (answer-bytes number-bytes * (k + length new)) old in
+    let c : length (notes place new) ≡ answer-bytes number-bytes * length new = notes-length place new in
     let d : length (front ++ (notes place new ++ rest)) ≡ length front + (length (notes place new) + length rest)
     = length-append front (notes place new ++ rest) ∙ ap (λ (m : ℕ). length front + m) (length-append (notes place new) rest) in
     omega arith
@@ -64,21 +64,21 @@ one-item earlier list i = go i
     go misfit = omega arith
 
 -- so has a record
-pub one-answer : (earlier : Earlier) (list : Plain) (r : Bytes) → length (answers-to earlier list r) ≤ 1
+pub one-answer : (earlier : Earlier) (list : Plain) (r : Bytes) → length (answers-to number-bytes earlier list r) ≤ 1
 unfolding answers-to
-one-answer earlier list r = one-item earlier list (read r)
+one-answer earlier list r = one-item earlier list (read number-bytes r)
 
 -- four numbers stored one after the other are an answer, as it stands while the job runs
-pub four : (d d₁ d₂ d₃ d₄ : Bytes) (k place : ℕ) (a : Answer) → answer-bytes * suc k ≤ length d
-    → d₁ ≡ sets d (answer-bytes * k) (bytes-of 4 place)
-    → d₂ ≡ sets d₁ (answer-bytes * k + 4) (word-bytes (a .rule))
-    → d₃ ≡ sets d₂ (answer-bytes * k + 6) (word-bytes (a .code))
-    → d₄ ≡ sets d₃ (answer-bytes * k + 8) (word-bytes (a .depth))
+pub four : (d d₁ d₂ d₃ d₄ : Bytes) (k place : ℕ) (a : Answer) → answer-bytes number-bytes * suc k ≤ length d
+    → d₁ ≡ sets d (answer-bytes number-bytes * k) (bytes-of 4 place)
+    → d₂ ≡ sets d₁ (answer-bytes number-bytes * k + 4) (word-bytes (a .rule))
+    → d₃ ≡ sets d₂ (answer-bytes number-bytes * k + 6) (word-bytes (a .code))
+    → d₄ ≡ sets d₃ (answer-bytes number-bytes * k + 8) (word-bytes (a .depth))
     → d₄ ≡ with-notes d k place (a ∷ [])
 unfolding with-notes
 four d d₁ d₂ d₃ d₄ k place a h e₁ e₂ e₃ e₄ =
-    let p = answer-bytes * k in
-    let q : p + 10 ≡ answer-bytes * (k + 1) = omega arith in
+    let p = answer-bytes number-bytes * k in
+    let q : p + 10 ≡ answer-bytes number-bytes * (k + 1) = omega arith in
     let stored : d₄ ≡ sets d p (note place a) = rw (e₄, e₃, e₂, e₁) (simp towards-suc) in
     stored ∙ sets-eq (note place a) d p (omega arith) ∙ append-assoc (take p d) (note place a) (drop (p + 10) d)
     ∙ ap (λ (n : ℕ). take p d ++ (note place a ++ drop n d)) q
@@ -102,7 +102,7 @@ sealed-first d h =
     sym (sets-eq encode-head d 0 (omega arith)
     ∙ ap (λ (zs : Bytes). encode-head ++ zs) (sym (take-append-drop 6 (drop 4 d)) ∙ ap (λ (zs : Bytes). take 6 (drop 4 d) ++ zs) (drop-drop 6 4 d ∙ ap (λ (j : ℕ). drop j d) e)))
 
-sealed-next : (k : ℕ) (d : Bytes) → answer-bytes * suc k ≤ length d → sealed (suc k) d ≡ sets (sealed k d) (answer-bytes * k) encode-head
+sealed-next : (k : ℕ) (d : Bytes) → answer-bytes number-bytes * suc k ≤ length d → sealed (suc k) d ≡ sets (sealed k d) (answer-bytes number-bytes * k) encode-head
 unfolding sealed
 sealed-next zero d h = sealed-first d (omega arith)
 sealed-next (suc k) d h =
@@ -110,11 +110,11 @@ sealed-next (suc k) d h =
     let front = encode-head ++ mid in
     let m : length mid ≡ 6 = length-take-le 6 (drop 4 d) (let q = length-drop 4 d in omega arith) in
     let l : length front ≡ 10 = length-append encode-head mid ∙ omega arith in
-    let e : length front + answer-bytes * k ≡ answer-bytes * suc k = omega arith in
+    let e : length front + answer-bytes number-bytes * k ≡ answer-bytes number-bytes * suc k = omega arith in
     let ih = sealed-next k (drop 10 d) (let q = length-drop 10 d in omega arith) in
     ap (λ (zs : Bytes). encode-head ++ (mid ++ zs)) ih
-    ∙ sym (append-assoc encode-head mid (sets (sealed k (drop 10 d)) (answer-bytes * k) encode-head))
-    ∙ sym (sets-after front (sealed k (drop 10 d)) (answer-bytes * k) encode-head)
+    ∙ sym (append-assoc encode-head mid (sets (sealed k (drop 10 d)) (answer-bytes number-bytes * k) encode-head))
+    ∙ sym (sets-after front (sealed k (drop 10 d)) (answer-bytes number-bytes * k) encode-head)
     ∙ ap₂ (λ (zs : Bytes) (j : ℕ). sets zs j encode-head) (append-assoc encode-head mid (sealed k (drop 10 d))) e
 
 pub sealed-start : (d : Bytes) → d ≡ sealed 0 d
@@ -122,10 +122,10 @@ unfolding sealed
 sealed-start d = refl
 
 -- two numbers stored
-pub sealed-more : (d d₀ d₁ d₂ : Bytes) (k : ℕ) → answer-bytes * suc k ≤ length d → d₀ ≡ sealed k d → d₁ ≡ sets d₀ (answer-bytes * k) (word-bytes 8)
-    → d₂ ≡ sets d₁ (answer-bytes * k + 2) (word-bytes 200) → d₂ ≡ sealed (k + 1) d
+pub sealed-more : (d d₀ d₁ d₂ : Bytes) (k : ℕ) → answer-bytes number-bytes * suc k ≤ length d → d₀ ≡ sealed k d → d₁ ≡ sets d₀ (answer-bytes number-bytes * k) (word-bytes 8)
+    → d₂ ≡ sets d₁ (answer-bytes number-bytes * k + 2) (word-bytes 200) → d₂ ≡ sealed (k + 1) d
 sealed-more d d₀ d₁ d₂ k h e₀ e₁ e₂ =
-    let p = answer-bytes * k in
+    let p = answer-bytes number-bytes * k in
     let stored : d₂ ≡ sets (sealed k d) p encode-head = rw (e₂, e₁, e₀) (simp towards-suc) in
     stored ∙ sym (sealed-next k d h) ∙ ap (λ (j : ℕ). sealed j d) (sym (add-one k))
 
@@ -138,7 +138,7 @@ all-notes [] = []
 all-notes (m ∷ ms) = note (m .0) (m .1) ++ all-notes ms
 
 -- they are the answers then
-pub sealed-all : (ms : List Note) (rest : Bytes) → sealed (length ms) (all-notes ms ++ rest) ≡ encode-answers (map (λ (m : Note). m .1) ms) ++ rest
+pub sealed-all : (ms : List Note) (rest : Bytes) → sealed (length ms) (all-notes ms ++ rest) ≡ encode-answers number-bytes (map (λ (m : Note). m .1) ms) ++ rest
 unfolding sealed
 sealed-all [] rest = refl
-sealed-all (m ∷ ms) rest = ap (λ (zs : Bytes). encode-answer (m .1) ++ zs) (sealed-all ms rest)
+sealed-all (m ∷ ms) rest = ap (λ (zs : Bytes). encode-answer number-bytes (m .1) ++ zs) (sealed-all ms rest)

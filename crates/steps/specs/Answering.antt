@@ -47,24 +47,24 @@ notes place (a ∷ rest) = note place a ++ notes place rest
 
 -- the memory with these in it, after the first k
 unfoldable pub with-notes : Bytes → ℕ → ℕ → List Answer → Bytes
-with-notes old k place new = take (answer-bytes * k) old ++ (notes place new ++ drop (answer-bytes * (k + length new)) old)
+with-notes old k place new = take (answer-bytes number-bytes * k) old ++ (notes place new ++ drop (answer-bytes number-bytes * (k + length new)) old)
 
 -- the place of the record of answer k's step
 abbrev pub step-place : Bytes → ℕ → ℕ
-step-place memory k = number-at memory (answer-bytes * k) offset-bytes
+step-place memory k = number-at memory (answer-bytes number-bytes * k) offset-bytes
 
 -- the code of answer k
 abbrev pub step-code : Bytes → ℕ → ℕ
-step-code memory k = number-at memory (answer-bytes * k + (head-bytes + number-bytes)) number-bytes
+step-code memory k = number-at memory (answer-bytes number-bytes * k + (head-bytes + number-bytes)) number-bytes
 
 -- an answer's length and kind
 abbrev pub encode-head : Bytes
-encode-head = word-bytes (answer-bytes - number-bytes) ++ word-bytes answer-kind
+encode-head = word-bytes (answer-bytes number-bytes - number-bytes) ++ word-bytes answer-kind
 
 -- length and kind are written into the first n answers
 unfoldable pub sealed : ℕ → Bytes → Bytes
 sealed zero memory = memory
-sealed (suc n) memory = encode-head ++ (take (answer-bytes - head-bytes) (drop head-bytes memory) ++ sealed n (drop answer-bytes memory))
+sealed (suc n) memory = encode-head ++ (take (answer-bytes number-bytes - head-bytes) (drop head-bytes memory) ++ sealed n (drop (answer-bytes number-bytes) memory))
 
 -- the literals of a clause lie in the job, and each is kept
 pub record Literals (job work : Bytes) (n : ℕ) (literals : Args) : Type 0 where

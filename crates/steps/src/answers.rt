@@ -4,7 +4,7 @@ ghost use mathlib.Core.Path.{_≡_};
 ghost use mathlib.Core.List.{[], _∷_};
 ghost use Prim.Native.Nat.{suc, _*_, _≤_};
 ghost use lib.ListN.{length};
-ghost use Rattle.theory.specs.Limit.{answer-bytes, max-job};
+ghost use Rattle.theory.specs.Limit.{answer-bytes, max-job, number-bytes};
 ghost use Rattle.rows.specs.Layout.{Bounded, number-end};
 ghost use Rattle.steps.specs.Answering.{given, step-place, step-code, with-notes, sealed};
 use rows::bytes::number;
@@ -30,7 +30,7 @@ const ANSWER_KIND: usize = 200;
 
 // Stores answer k while the job runs: the place of the step's record, the rule, the code and the depth.
 pub fn put_answer(d: &mut [u8], k: usize, place: usize, rule: u32, reply: Reply)
-    requires { ⌜ answer-bytes * suc k ≤ length (now d) ⌝ }
+    requires { ⌜ answer-bytes number-bytes * suc k ≤ length (now d) ⌝ }
     ensures { λ _. ⌜ now (d .exit) ≡ with-notes (now (d .entry)) k place (given rule reply ∷ []) ⌝ }
 {
     let at = ANSWER_BYTES * k;
@@ -42,7 +42,7 @@ pub fn put_answer(d: &mut [u8], k: usize, place: usize, rule: u32, reply: Reply)
 
 // The place of the record of answer k's step.
 pub fn place_at(d: &[u8], k: usize) -> usize
-    requires { ⌜ answer-bytes * suc k ≤ length (now d) ⌝ }
+    requires { ⌜ answer-bytes number-bytes * suc k ≤ length (now d) ⌝ }
     ensures { λ r. ⌜ Bounded r (step-place (now (d .entry)) k) max-job ⌝ }
 {
     number(d, ANSWER_BYTES * k, OFFSET_BYTES)
@@ -50,7 +50,7 @@ pub fn place_at(d: &[u8], k: usize) -> usize
 
 // The code of answer k.
 pub fn code_at(d: &[u8], k: usize) -> usize
-    requires { ⌜ answer-bytes * suc k ≤ length (now d) ⌝ }
+    requires { ⌜ answer-bytes number-bytes * suc k ≤ length (now d) ⌝ }
     ensures { λ r. ⌜ Bounded r (step-code (now (d .entry)) k) number-end ⌝ }
 {
     number(d, ANSWER_BYTES * k + CODE_AT, Term::NUMBER_BYTES)
@@ -58,7 +58,7 @@ pub fn code_at(d: &[u8], k: usize) -> usize
 
 // Writes the length and the kind of the first n answers.
 pub fn seal(d: &mut [u8], n: usize)
-    requires { ⌜ answer-bytes * n ≤ length (now d) ⌝ }
+    requires { ⌜ answer-bytes number-bytes * n ≤ length (now d) ⌝ }
     ensures { λ _. ⌜ now (d .exit) ≡ sealed n (now (d .entry)) ⌝ }
 {
     let mut k: usize = 0;

@@ -21,7 +21,7 @@ count-length job None = refl
 count-length job (One x) = refl
 count-length job (Two x y) = refl
 count-length job (Three x y z) = refl
-count-length job (Listed a) = words-length (a .count) (drop (a .at) job)
+count-length job (Listed a) = words-length (a .bytes) (a .count) (drop (a .at) job)
 
 below-at : (m : ℕ) (ks : List ℕ) (i : ℕ) → all-below m ks ≡ true → i < length ks → getD ks i 0 < m
 below-at m [] i e h = absurd (omega arith)

@@ -8,7 +8,7 @@ use lib.Dec.{T, ltb, ltb→lt, eqb, eqb→eq, eqb-refl}
 use lib.Ieee.Fits.{and-l, and-r}
 use lib.ListN.{length}
 use mathlib.Core.Path.{subst}
-use Rattle.theory.specs.Limit.{max-terms}
+use Rattle.theory.specs.Limit.{max-terms, number-bytes}
 use Rattle.theory.specs.Term.{Term, same-term}
 use Rattle.theory.specs.Bits.{select}
 use Rattle.theory.specs.Verdict.{Verdict, terms-differ}
@@ -27,7 +27,7 @@ use native.Mathlib.Nat.{add-zero, zero-add}
 use Rattle.theory.proofs.Basics.{T-same}
 use Rattle.theory.proofs.Indexed.{bits-same}
 
-module _ (list : Plain) (w : WellKept list) (few : length list ≤ max-terms) where
+module _ (list : Plain) (w : WellKept number-bytes list) (few : length list ≤ max-terms) where
   -- a term of the list has its place as number
   pub own-number : (k : ℕ) → k < length list → number-of list w few (tree-at list k) ≡ k
   own-number k h = ap number (tree-place list w k h)

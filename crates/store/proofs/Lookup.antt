@@ -9,7 +9,7 @@ use native.Mathlib.Omega.{arith}
 use lib.Dec.{T, leb, ltb, eqb, lt→ltb, leb→le}
 use lib.Ieee.Fits.{and-l, and-r, and-i}
 use lib.ListN.{length, drop, getElem?, length-map}
-use Rattle.theory.specs.Limit.{first-terms, max-terms}
+use Rattle.theory.specs.Limit.{first-terms, max-terms, number-bytes}
 use Rattle.theory.specs.Kind.{Op, True, False, Not, And, Or, Xor, Equals, Ite, BvBitOf, BvBbTerm, Const, kind, many, arity, takes}
 use Rattle.theory.specs.Term.{Term, node, nil, cons, fold, folds, from-list, same-numbers, same-op}
 use Rattle.theory.specs.Optional.{either, cons-some, collect}
@@ -39,19 +39,19 @@ abbrev AllSound : Plain → Type 0
 AllSound [] = Unit {0}
 AllSound (e ∷ rest) = Sound (e .bytes) × AllSound rest
 
-module _ (x : Bytes) (o : Op) (ks : List ℕ) (s : Sound x) (d : read x ≡ term o ks) where
-  same-agrees : (e : Entry) → Sound (e .bytes) → same-numbers x (e .bytes) ≡ agrees e o ks
+module _ (x : Bytes) (o : Op) (ks : List ℕ) (s : Sound x) (d : read number-bytes x ≡ term o ks) where
+  same-agrees : (e : Entry) → Sound (e .bytes) → same-numbers x (e .bytes) ≡ agrees number-bytes e o ks
   same-agrees e h =
-      T-same (same-numbers x (e .bytes)) (agrees e o ks)
-      (λ t. says-item o ks e (ap read (sym (same-sound x (e .bytes) (T-true _ t))) ∙ d))
-      (λ t. true-T _ (subst (λ (y : Bytes). same-numbers x y ≡ true) (same-record x (e .bytes) o ks s h d (item-says (read (e .bytes)) o ks t)) (same-refl x)))
+      T-same (same-numbers x (e .bytes)) (agrees number-bytes e o ks)
+      (λ t. says-item number-bytes o ks e (ap (read number-bytes) (sym (same-sound x (e .bytes) (T-true _ t))) ∙ d))
+      (λ t. true-T _ (subst (λ (y : Bytes). same-numbers x y ≡ true) (same-record number-bytes x (e .bytes) o ks s h d (item-says (read number-bytes (e .bytes)) o ks t)) (same-refl x)))
 
-  place-rest : (p : ℕ) (rest : Plain) → AllSound rest → place-from p x (map (λ (e : Entry). e .bytes) rest) ≡ number (find-from p rest o ks)
+  place-rest : (p : ℕ) (rest : Plain) → AllSound rest → place-from p x (map (λ (e : Entry). e .bytes) rest) ≡ number (find-from number-bytes p rest o ks)
   unfolding place-from find-from
   place-rest p [] h = refl
   place-rest p (e ∷ rest) h =
       ap₂ (λ (b : Bool) (k : ℕ). cond b p k) (same-agrees e (h .0)) (place-rest (suc p) rest (h .1))
-      ∙ number-cond (agrees e o ks) p (find-from (suc p) rest o ks)
+      ∙ number-cond (agrees number-bytes e o ks) p (find-from number-bytes (suc p) rest o ks)
     where
       number-cond : (b : Bool) (k : ℕ) (q : Option ℕ) → cond b k (number q) ≡ number (cond b (some k) q)
       number-cond true k q = refl
@@ -62,32 +62,32 @@ sound-from : (list : Plain) → ((i : ℕ) (e : Entry) → getElem? list i ≡ s
 sound-from [] f = tt
 sound-from (e ∷ list) f = (f 0 e refl, sound-from list (λ i x g. f (suc i) x g))
 
-empty-item : (o : Op) (ks : List ℕ) → item-is (read []) o ks ≡ false
+empty-item : (o : Op) (ks : List ℕ) → item-is (read number-bytes []) o ks ≡ false
 unfolding read shape-of
 empty-item o ks = refl
 
-skips : (e d : Entry) (rest : Plain) (o : Op) (ks : List ℕ) → (kind o < 2 → ⊥) → e .bytes ≡ [] → d .bytes ≡ [] → find (e ∷ d ∷ rest) o ks ≡ find-from first-terms rest o ks
+skips : (e d : Entry) (rest : Plain) (o : Op) (ks : List ℕ) → (kind o < 2 → ⊥) → e .bytes ≡ [] → d .bytes ≡ [] → find number-bytes (e ∷ d ∷ rest) o ks ≡ find-from number-bytes first-terms rest o ks
 unfolding find find-from
 skips e d rest o ks f p q =
-    none-of (same-op True o && same-numbers [] ks) (same-op False o && same-numbers [] ks) (agrees e o ks) (agrees d o ks)
+    none-of (same-op True o && same-numbers [] ks) (same-op False o && same-numbers [] ks) (agrees number-bytes e o ks) (agrees number-bytes d o ks)
     (λ t. f (subst (λ (r : Op). kind r < 2) (same-op-eq True o (and-l (same-op True o) _ t)) (omega arith)))
     (λ t. f (subst (λ (r : Op). kind r < 2) (same-op-eq False o (and-l (same-op False o) _ t)) (omega arith)))
-    (ap (λ (bs : Bytes). item-is (read bs) o ks) p ∙ empty-item o ks) (ap (λ (bs : Bytes). item-is (read bs) o ks) q ∙ empty-item o ks)
+    (ap (λ (bs : Bytes). item-is (read number-bytes bs) o ks) p ∙ empty-item o ks) (ap (λ (bs : Bytes). item-is (read number-bytes bs) o ks) q ∙ empty-item o ks)
   where
     none-of : (a b c g : Bool) → (T a → ⊥) → (T b → ⊥) → c ≡ false → g ≡ false
-        → cond a (some 0) (cond b (some 1) (cond c (some 0) (cond g (some 1) (find-from 2 rest o ks)))) ≡ find-from 2 rest o ks
+        → cond a (some 0) (cond b (some 1) (cond c (some 0) (cond g (some 1) (find-from number-bytes 2 rest o ks)))) ≡ find-from number-bytes 2 rest o ks
     none-of true b c g h k x y = absurd (h tt)
     none-of false true c g h k x y = absurd (k tt)
     none-of false false c g h k x y = rw (x, y)
 
 -- a record that says a term has as many arguments as its kind may have
-pub says-count : (r : Bytes) (o : Op) (ks : List ℕ) → SaysTerm r o ks → T (takes (arity o) (length ks))
+pub says-count : (r : Bytes) (o : Op) (ks : List ℕ) → SaysTerm number-bytes r o ks → T (takes (arity o) (length ks))
 says-count r o ks s =
     let n = (length (body-of r) - front (s .shape)) / 2 in
     let t : T (takes (arity o) n) = and-r (eqb ((length (body-of r) - front (s .shape)) % 2) 0) _ (and-r (leb (front (s .shape)) (length (body-of r))) _ (s .fit)) in
-    subst (λ (k : ℕ). T (takes (arity o) k)) (sym (words-length n (drop (front (s .shape)) (body-of r))) ∙ ap length (s .args)) t
+    subst (λ (k : ℕ). T (takes (arity o) k)) (sym (words-length number-bytes n (drop (front (s .shape)) (body-of r))) ∙ ap length (s .args)) t
 
-module _ (list : Plain) (w : WellKept list) where
+module _ (list : Plain) (w : WellKept number-bytes list) where
   -- the first two entries, and the others
   record Parts : Type 0 where
     first : Entry
@@ -112,15 +112,15 @@ module _ (list : Plain) (w : WellKept list) where
   }
 
   -- a record that says a term is found where a record that says it is
-  pub place-find : (x : Bytes) (o : Op) (ks : List ℕ) → Sound x → read x ≡ term o ks → place-of x (records list) ≡ number (find list o ks)
+  pub place-find : (x : Bytes) (o : Op) (ks : List ℕ) → Sound x → read number-bytes x ≡ term o ks → place-of x (records list) ≡ number (find number-bytes list o ks)
   place-find x o ks s d =
       let p = parts-of list refl in
       ap (λ (l : Plain). place-of x (records l)) (p .whole)
       ∙ place-rest x o ks s d first-terms (p .rest) (p .sound)
-      ∙ ap number (sym (ap (λ (l : Plain). find l o ks) (p .whole) ∙ skips (p .first) (p .second) (p .rest) o ks (not-constant x o ks d) (p .first-empty) (p .second-empty)))
+      ∙ ap number (sym (ap (λ (l : Plain). find number-bytes l o ks) (p .whole) ∙ skips (p .first) (p .second) (p .rest) o ks (not-constant number-bytes x o ks d) (p .first-empty) (p .second-empty)))
 
   -- one that says none is not found, and neither is a term with a number of arguments that its kind has not
-  place-none : (x : Bytes) → read x ≡ misfit → (p : ℕ) (rest : Plain) → ((e : Entry) (i : ℕ) → getElem? rest i ≡ some e → read (e .bytes) ≡ misfit → ⊥)
+  place-none : (x : Bytes) → read number-bytes x ≡ misfit → (p : ℕ) (rest : Plain) → ((e : Entry) (i : ℕ) → getElem? rest i ≡ some e → read number-bytes (e .bytes) ≡ misfit → ⊥)
       → place-from p x (map (λ (e : Entry). e .bytes) rest) ≡ missing
   unfolding place-from
   place-none x d p [] f = refl
@@ -128,10 +128,10 @@ module _ (list : Plain) (w : WellKept list) where
       ap₂ (λ (b : Bool) (k : ℕ). cond b p k) (off (same-numbers x (e .bytes)) (same-sound x (e .bytes))) (place-none x d (suc p) rest (λ y i g. f y (suc i) g))
     where
       off : (b : Bool) → (b ≡ true → x ≡ e .bytes) → b ≡ false
-      off true g = absurd (f e 0 refl (ap read (sym (g refl)) ∙ d))
+      off true g = absurd (f e 0 refl (ap (read number-bytes) (sym (g refl)) ∙ d))
       off false g = refl
 
-  kept-says : (p : Parts) (e : Entry) (i : ℕ) → getElem? (p .rest) i ≡ some e → read (e .bytes) ≡ misfit → ⊥
+  kept-says : (p : Parts) (e : Entry) (i : ℕ) → getElem? (p .rest) i ≡ some e → read number-bytes (e .bytes) ≡ misfit → ⊥
   kept-says p e i g d =
       let k = w .kept (suc (suc i)) e (omega arith) (ap (λ (l : Plain). getElem? l (suc (suc i))) (p .whole) ∙ g) in
       let z : term (k .op) (k .args) ≡ misfit = sym (k .says) ∙ d in
@@ -139,33 +139,33 @@ module _ (list : Plain) (w : WellKept list) where
       omega arith
 
   -- what is found says it, and stands on the list
-  find-says : (o : Op) (ks : List ℕ) (k : ℕ) → (kind o < 2 → ⊥) → find list o ks ≡ some k → (e : Entry) × (getElem? list k ≡ some e) × (read (e .bytes) ≡ term o ks)
+  find-says : (o : Op) (ks : List ℕ) (k : ℕ) → (kind o < 2 → ⊥) → find number-bytes list o ks ≡ some k → (e : Entry) × (getElem? list k ≡ some e) × (read number-bytes (e .bytes) ≡ term o ks)
   find-says o ks k f d =
       let p = parts-of list refl in
-      let q = found-from first-terms (p .rest) o ks k
-      (sym (skips (p .first) (p .second) (p .rest) o ks f (p .first-empty) (p .second-empty)) ∙ ap (λ (l : Plain). find l o ks) (sym (p .whole)) ∙ d) in
+      let q = found-from number-bytes first-terms (p .rest) o ks k
+      (sym (skips (p .first) (p .second) (p .rest) o ks f (p .first-empty) (p .second-empty)) ∙ ap (λ (l : Plain). find number-bytes l o ks) (sym (p .whole)) ∙ d) in
       let z : k ≡ suc (suc (q .0)) = q .2 ∙ add-two′ (q .0) in
       (q .1, ap₂ (λ (l : Plain) (j : ℕ). getElem? l j) (p .whole) z ∙ q .3, q .4)
     where
       add-two′ : (j : ℕ) → first-terms + j ≡ suc (suc j)
       add-two′ j = omega arith
 
-  find-unfit : (o : Op) (ks : List ℕ) → (kind o < 2 → ⊥) → (T (takes (arity o) (length ks)) → ⊥) → find list o ks ≡ none
-  find-unfit o ks f g = go (find list o ks) refl
+  find-unfit : (o : Op) (ks : List ℕ) → (kind o < 2 → ⊥) → (T (takes (arity o) (length ks)) → ⊥) → find number-bytes list o ks ≡ none
+  find-unfit o ks f g = go (find number-bytes list o ks) refl
     where
-      go : (q : Option ℕ) → find list o ks ≡ q → find list o ks ≡ none
+      go : (q : Option ℕ) → find number-bytes list o ks ≡ q → find number-bytes list o ks ≡ none
       go none c = c
       go (some k) c =
           let x = find-says o ks k f c in
-          let s = says-term (x .0 .bytes) o ks (x .2) in
+          let s = says-term number-bytes (x .0 .bytes) o ks (x .2) in
           absurd (g (says-count (x .0 .bytes) o ks s))
 
   -- the number of a gate whose arguments have these numbers
   gate-found : (o : Op) (ks : List ℕ) → kind o < 100 → (kind o < 2 → ⊥) → shape-of (kind o) ≡ some (plain o) → (T (takes (arity o) (length ks)) → length ks ≤ 64)
-      → T (all-places ks) → place-of (record-of (kind o) (words-bytes ks)) (records list) ≡ number (find list o ks)
+      → T (all-places ks) → place-of (record-of (kind o) (words-bytes ks)) (records list) ≡ number (find number-bytes list o ks)
   gate-found o ks h f e small p = go (takes (arity o) (length ks)) refl
     where
-      go : (b : Bool) → takes (arity o) (length ks) ≡ b → place-of (record-of (kind o) (words-bytes ks)) (records list) ≡ number (find list o ks)
+      go : (b : Bool) → takes (arity o) (length ks) ≡ b → place-of (record-of (kind o) (words-bytes ks)) (records list) ≡ number (find number-bytes list o ks)
       go true c =
           let l = small (true-T _ c) in
           let n = words-bytes-length ks in
@@ -215,16 +215,16 @@ collect-none (some k ∷ ps) e = go (collect ps) (collect-none ps) e
 ten-bytes : (n v : ℕ) → AllBytes (bytes-of 2 n ++ bytes-of 8 v)
 ten-bytes n v = (omega arith, (omega arith, (omega arith, (omega arith, (omega arith, (omega arith, (omega arith, (omega arith, (omega arith, (omega arith, tt))))))))))
 
-module _ (list : Plain) (w : WellKept list) (few : length list ≤ max-terms) where
+module _ (list : Plain) (w : WellKept number-bytes list) (few : length list ≤ max-terms) where
   -- a gate without indices: the looked-up number is the number of what `lookup` finds
   pub gate-number : (o : Op) → kind o < 100 → (kind o < 2 → ⊥) → shape-of (kind o) ≡ some (plain o) → (ps : List (Option ℕ))
       → (T (takes (arity o) (length ps)) → length ps ≤ 64) → ArePlaces ps
-      → place-list (kind o) (map number ps) (records list) ≡ number (lookup list o ps)
+      → place-list (kind o) (map number ps) (records list) ≡ number (lookup number-bytes list o ps)
   unfolding place-list
   gate-number o h f e ps small q = go (collect ps) (collect-some ps q) (collect-none ps)
     where
       go : (c : Option (List ℕ)) → ((ks : List ℕ) → c ≡ some ks → (map number ps ≡ ks) × T (all-places ks)) → (c ≡ none → all-places (map number ps) ≡ false)
-          → cond (all-places (map number ps)) (place-of (record-of (kind o) (words-bytes (map number ps))) (records list)) missing ≡ number (either none (find list o) c)
+          → cond (all-places (map number ps)) (place-of (record-of (kind o) (words-bytes (map number ps))) (records list)) missing ≡ number (either none (find number-bytes list o) c)
       go none a b = ap (λ (t : Bool). cond t (place-of (record-of (kind o) (words-bytes (map number ps))) (records list)) missing) (b refl)
       go (some ks) a b =
           let r = a ks refl in
@@ -234,32 +234,32 @@ module _ (list : Plain) (w : WellKept list) (few : length list ≤ max-terms) wh
           ∙ gate-found list w o ks h f e (λ t. let m = small (subst (λ (n : ℕ). T (takes (arity o) n)) l t) in omega arith) (r .1)
 
   -- a place that is found is one
-  find-place : (o : Op) (ks : List ℕ) (k : ℕ) → find list o ks ≡ some k → k < length list
+  find-place : (o : Op) (ks : List ℕ) (k : ℕ) → find number-bytes list o ks ≡ some k → k < length list
   unfolding find
   find-place o ks k e = go (same-op True o && same-numbers [] ks) (same-op False o && same-numbers [] ks) e
     where
-      go : (a b : Bool) → cond a (some 0) (cond b (some 1) (find-from 0 list o ks)) ≡ some k → k < length list
+      go : (a b : Bool) → cond a (some 0) (cond b (some 1) (find-from number-bytes 0 list o ks)) ≡ some k → k < length list
       go true b d = subst (λ (j : ℕ). j < length list) (some-inj 0 k d) (getElem-lt list 0 _ (w .is-true))
       go false true d = subst (λ (j : ℕ). j < length list) (some-inj 1 k d) (getElem-lt list 1 _ (w .is-false))
-      go false false d = let q = found-from 0 list o ks k d in let z : k ≡ 0 + q .0 = q .2 in omega (arith, getElem-lt list (q .0) (q .1) (q .3))
+      go false false d = let q = found-from number-bytes 0 list o ks k d in let z : k ≡ 0 + q .0 = q .2 in omega (arith, getElem-lt list (q .0) (q .1) (q .3))
 
-  lookup-place : (o : Op) (c : Option (List ℕ)) → IsPlace (either none (find list o) c)
+  lookup-place : (o : Op) (c : Option (List ℕ)) → IsPlace (either none (find number-bytes list o) c)
   lookup-place o none = tt
-  lookup-place o (some ks) = go (find list o ks) refl
+  lookup-place o (some ks) = go (find number-bytes list o ks) refl
     where
-      go : (q : Option ℕ) → find list o ks ≡ q → IsPlace q
+      go : (q : Option ℕ) → find number-bytes list o ks ≡ q → IsPlace q
       go none e = tt
       go (some k) e = let l = find-place o ks k e in omega arith
 
   -- the number of a term
   abbrev pub number-of : Term → ℕ
-  number-of t = number (place list t)
+  number-of t = number (place number-bytes list t)
 
-  is-place : (t : Term) → IsPlace (place list t)
+  is-place : (t : Term) → IsPlace (place number-bytes list t)
   unfolding fold
-  is-place (node o ts) = lookup-place o (collect (folds (lookup list) ts))
+  is-place (node o ts) = lookup-place o (collect (folds (lookup number-bytes list) ts))
 
-  are-places : (ts : List Term) → ArePlaces (map (place list) ts)
+  are-places : (ts : List Term) → ArePlaces (map (place number-bytes list) ts)
   are-places [] = tt
   are-places (t ∷ ts) = (is-place t, are-places ts)
 
@@ -268,16 +268,16 @@ module _ (list : Plain) (w : WellKept list) (few : length list ≤ max-terms) wh
       → number-of (node o (from-list ts)) ≡ place-list (kind o) (map number-of ts) (records list)
   unfolding fold
   placed o h f e ts small =
-      ap (λ (ps : List (Option ℕ)). number (lookup list o ps)) (folds-from-list (lookup list) ts)
-      ∙ sym (gate-number o h f e (map (place list) ts) (λ t. let l = length-map ts (place list) in let m = small (subst (λ (n : ℕ). T (takes (arity o) n)) l t) in omega arith) (are-places ts))
-      ∙ ap (λ (ks : List ℕ). place-list (kind o) ks (records list)) (map-map number (place list) ts)
+      ap (λ (ps : List (Option ℕ)). number (lookup number-bytes list o ps)) (folds-from-list (lookup number-bytes list) ts)
+      ∙ sym (gate-number o h f e (map (place number-bytes list) ts) (λ t. let l = length-map ts (place number-bytes list) in let m = small (subst (λ (n : ℕ). T (takes (arity o) n)) l t) in omega arith) (are-places ts))
+      ∙ ap (λ (ks : List ℕ). place-list (kind o) ks (records list)) (map-map number (place number-bytes list) ts)
 
   -- THE BRIDGE: looking gates up respects the gates, so a circuit of looked-up numbers is the number of the circuit's term
   pub number-hom : Hom term-gates (numbers (records list)) number-of
   unfolding shape-of
   number-hom = record {
-    true-hom = ap number (constants-placed list .0);
-    false-hom = ap number (constants-placed list .1);
+    true-hom = ap number (constants-placed number-bytes list .0);
+    false-hom = ap number (constants-placed number-bytes list .1);
     not-hom = λ x. placed Not (omega arith) (λ h. omega arith) refl (x ∷ []) (λ t. omega arith);
     and-hom = λ x y. placed And (omega arith) (λ h. omega arith) refl (x ∷ y ∷ []) (λ t. omega arith);
     or-hom = λ x y. placed Or (omega arith) (λ h. omega arith) refl (x ∷ y ∷ []) (λ t. omega arith);
@@ -304,7 +304,7 @@ module _ (list : Plain) (w : WellKept list) (few : length list ≤ max-terms) wh
       go true x = refl
       go false x = refl
 
-  bit-found : (i k : ℕ) → i < 64 → k < max-terms → bit-number (records list) i k ≡ number (find list (BvBitOf i) (k ∷ []))
+  bit-found : (i k : ℕ) → i < 64 → k < max-terms → bit-number (records list) i k ≡ number (find number-bytes list (BvBitOf i) (k ∷ []))
   unfolding place-list all-places shape-of
   bit-found i k h l =
       let p : T (all-places (i ∷ k ∷ [])) = and-i (ltb i max-terms) (ltb k max-terms && true) (lt→ltb i max-terms (omega arith)) (and-i (ltb k max-terms) true (lt→ltb k max-terms l) tt) in
@@ -316,9 +316,9 @@ module _ (list : Plain) (w : WellKept list) (few : length list ≤ max-terms) wh
 
   pub bit-hom : (i : ℕ) → i < 64 → (t : Term) → number-of (node (BvBitOf i) (cons t nil)) ≡ bit-number (records list) i (number-of t)
   unfolding fold
-  bit-hom i h t = go (place list t) (is-place t)
+  bit-hom i h t = go (place number-bytes list t) (is-place t)
     where
-      go : (q : Option ℕ) → IsPlace q → number (either none (find list (BvBitOf i)) (cons-some q (some []))) ≡ bit-number (records list) i (number q)
+      go : (q : Option ℕ) → IsPlace q → number (either none (find number-bytes list (BvBitOf i)) (cons-some q (some []))) ≡ bit-number (records list) i (number q)
       go none p = sym (bit-missing i)
       go (some k) p = sym (bit-found i k h p)
 
@@ -332,8 +332,8 @@ module _ (list : Plain) (w : WellKept list) (few : length list ≤ max-terms) wh
   -- a looked-up number is the claimed one exactly where the claimed term is the expected one
   pub number-exact : (k : ℕ) → k < length list → (t : Term) → (number-of t ≡ k) ↔ (tree-at list k ≡ t)
   number-exact k h t = (
-    λ e. place-tree list w t k (some-number (place list t) k (omega arith) e),
-    λ e. ap number (ap (place list) (sym e) ∙ tree-place list w k h),
+    λ e. place-tree list w t k (some-number (place number-bytes list t) k (omega arith) e),
+    λ e. ap number (ap (place number-bytes list) (sym e) ∙ tree-place list w k h),
   )
     where
       some-number : (q : Option ℕ) (j : ℕ) → j < missing → number q ≡ j → q ≡ some j

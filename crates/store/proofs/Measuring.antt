@@ -75,19 +75,19 @@ depth-is o ts = go (has-depth (kind o)) refl
     go false e = rw e (sym (depth-none o ts e))
 
 -- ---- widths by rows
-bb-count : (r : Bytes) (o : Op) (ks : List ℕ) → read r ≡ term o ks → Sound r → T (eqb (kind o) 31) → (word r - 2) / number-bytes ≡ length ks
+bb-count : (r : Bytes) (o : Op) (ks : List ℕ) → read number-bytes r ≡ term o ks → Sound r → T (eqb (kind o) 31) → (word r - 2) / number-bytes ≡ length ks
 unfolding shape-of
 bb-count r o ks e sound h =
-    let s = says-term r o ks e in
-    let k : kind-of r ≡ 31 = term-kind r o ks e ∙ eqb→eq (kind o) 31 h in
+    let s = says-term number-bytes r o ks e in
+    let k : kind-of r ≡ 31 = term-kind number-bytes r o ks e ∙ eqb→eq (kind o) 31 h in
     let shape-is : s .shape ≡ plain BvBbTerm = some-inj (s .shape) (plain BvBbTerm) (sym (s .is-shape) ∙ ap shape-of k) in
     let l : length (body-of r) ≡ word r - 2 = length-drop 4 r ∙ (let z = sound .size in omega arith) in
     sym
-    (sym (ap length (s .args)) ∙ words-length ((length (body-of r) - front (s .shape)) / number-bytes) _
+    (sym (ap length (s .args)) ∙ words-length number-bytes ((length (body-of r) - front (s .shape)) / number-bytes) _
     ∙ ap (λ (sh : Shape). (length (body-of r) - front sh) / number-bytes) shape-is
     ∙ ap (λ (m : ℕ). m / number-bytes) (let z : length (body-of r) - 0 ≡ word r - 2 = omega arith in z))
 
-module _ (r : Bytes) (o : Op) (ks : List ℕ) (f : ℕ → Term) (says : read r ≡ term o ks) (sound : Sound r) (fine : T (good (sort-of (node o (from-list (map f ks)))))) where
+module _ (r : Bytes) (o : Op) (ks : List ℕ) (f : ℕ → Term) (says : read number-bytes r ≡ term o ks) (sound : Sound r) (fine : T (good (sort-of (node o (from-list (map f ks)))))) where
   abbrev ts : Terms
   ts = from-list (map f ks)
 

@@ -21,7 +21,7 @@ use Rattle.theory.proofs.Basics.{T-true}
 word-of : (x : ℕ) (more : Bytes) → x < 65536 → word (x % 256 ∷ x / 256 % 256 ∷ more) ≡ x
 word-of x more h = omega arith
 
-pub words-of-bytes : (xs : List ℕ) → T (all-places xs) → words (length xs) (words-bytes xs) ≡ xs
+pub words-of-bytes : (xs : List ℕ) → T (all-places xs) → words number-bytes (length xs) (words-bytes xs) ≡ xs
 unfolding words-bytes all-places
 words-of-bytes [] h = refl
 words-of-bytes (x ∷ xs) h =
@@ -54,7 +54,7 @@ record-sound k body h b = record {
 }
 
 -- a term's record: not a step's kind, not a chain's, not a back's
-read-as : (k : ℕ) (s : Shape) (body : Bytes) → k < 100 → shape-of k ≡ some s → read (record-of k body) ≡ read-term (some s) body
+read-as : (k : ℕ) (s : Shape) (body : Bytes) → k < 100 → shape-of k ≡ some s → read number-bytes (record-of k body) ≡ read-term number-bytes (some s) body
 unfolding read
 read-as k s body h e =
     let kk : kind-of (record-of k body) ≡ k = record-kind k body (omega arith) in
@@ -62,12 +62,12 @@ read-as k s body h e =
     (λ t. let z = eqb→eq (kind-of (record-of k body)) 100 t in omega arith)
     (λ t. let z = eqb→eq (kind-of (record-of k body)) 104 t in omega arith)
     (λ t. let z = eqb→eq (kind-of (record-of k body)) 101 t in omega arith)
-    ∙ ap₂ read-term (ap shape-of kk ∙ e) (record-body k body)
+    ∙ ap₂ (read-term number-bytes) (ap shape-of kk ∙ e) (record-body k body)
   where
     by-kind : (a b c : Bool) → (T a → ⊥) → (T b → ⊥) → (T c → ⊥)
-        → cond a (read-step (body-of (record-of k body))) (cond b (read-chain (body-of (record-of k body)))
-        (cond c (read-back (body-of (record-of k body))) (read-term (shape-of (kind-of (record-of k body))) (body-of (record-of k body)))))
-        ≡ read-term (shape-of (kind-of (record-of k body))) (body-of (record-of k body))
+        → cond a (read-step number-bytes (body-of (record-of k body))) (cond b (read-chain number-bytes (body-of (record-of k body)))
+        (cond c (read-back number-bytes (body-of (record-of k body))) (read-term number-bytes (shape-of (kind-of (record-of k body))) (body-of (record-of k body)))))
+        ≡ read-term number-bytes (shape-of (kind-of (record-of k body))) (body-of (record-of k body))
     by-kind true b c f g h = absurd (f tt)
     by-kind false true c f g h = absurd (g tt)
     by-kind false false true f g h = absurd (h tt)
@@ -77,7 +77,7 @@ read-as k s body h e =
 front-length : (pre : Bytes) (ks : List ℕ) → length (pre ++ words-bytes ks) ≡ length pre + length ks * 2
 front-length pre ks = length-append pre (words-bytes ks) ∙ ap (λ (n : ℕ). length pre + n) (words-bytes-length ks)
 
-fits-front : (pre : Bytes) (ks : List ℕ) (allowed : ℕ → Bool) → fits (length pre) allowed (pre ++ words-bytes ks) ≡ allowed (length ks)
+fits-front : (pre : Bytes) (ks : List ℕ) (allowed : ℕ → Bool) → fits number-bytes (length pre) allowed (pre ++ words-bytes ks) ≡ allowed (length ks)
 fits-front pre ks allowed =
     go (length (pre ++ words-bytes ks)) (front-length pre ks)
   where
@@ -89,15 +89,15 @@ fits-front pre ks allowed =
         let c : (l - length pre) / 2 ≡ length ks = omega arith in
         rw (a, b, c)
 
-arguments-front : (pre : Bytes) (ks : List ℕ) → T (all-places ks) → arguments (length pre) (pre ++ words-bytes ks) ≡ ks
+arguments-front : (pre : Bytes) (ks : List ℕ) → T (all-places ks) → arguments number-bytes (length pre) (pre ++ words-bytes ks) ≡ ks
 arguments-front pre ks h =
     let l = front-length pre ks in
     let c : (length (pre ++ words-bytes ks) - length pre) / 2 ≡ length ks = omega arith in
-    ap₂ words c (drop-at pre (words-bytes ks) (length pre) refl) ∙ words-of-bytes ks h
+    ap₂ (words number-bytes) c (drop-at pre (words-bytes ks) (length pre) refl) ∙ words-of-bytes ks h
 
 -- what a record of kind o with these arguments says
 abbrev pub Says : Bytes → Op → List ℕ → Type 0
-Says r o ks = read r ≡ cond (takes (arity o) (length ks)) (term o ks) misfit
+Says r o ks = read number-bytes r ≡ cond (takes (arity o) (length ks)) (term o ks) misfit
 
 -- a kind without indices
 pub read-plain : (o : Op) (ks : List ℕ) → kind o < 100 → shape-of (kind o) ≡ some (plain o) → T (all-places ks) → Says (record-of (kind o) (words-bytes ks)) o ks
@@ -107,7 +107,7 @@ read-plain o ks h e p =
 
 -- a kind with one index, which stands before the argument
 pub read-indexed : (f : ℕ → Op) (i x : ℕ) → kind (f i) < 100 → shape-of (kind (f i)) ≡ some (indexed f) → arity (f i) ≡ exactly 1
-    → T (all-places (i ∷ x ∷ [])) → read (record-of (kind (f i)) (words-bytes (i ∷ x ∷ []))) ≡ term (f i) (x ∷ [])
+    → T (all-places (i ∷ x ∷ [])) → read number-bytes (record-of (kind (f i)) (words-bytes (i ∷ x ∷ []))) ≡ term (f i) (x ∷ [])
 unfolding words-bytes all-places
 read-indexed f i x h e a p =
     let l : i < 65535 = ltb→lt i max-terms (and-l (ltb i max-terms) _ p) in
@@ -120,7 +120,7 @@ read-indexed f i x h e a p =
 
 -- a constant
 pub read-constant : (n v : ℕ) → n < 65536 → v < 18446744073709551616
-    → read (record-of (kind (Const n v)) (bytes-of number-bytes n ++ bytes-of value-bytes v)) ≡ term (Const n v) []
+    → read number-bytes (record-of (kind (Const n v)) (bytes-of number-bytes n ++ bytes-of value-bytes v)) ≡ term (Const n v) []
 unfolding shape-of
 read-constant n v h l =
     read-as 12 (valued Const) (bytes-of 2 n ++ bytes-of 8 v) (omega arith) refl

@@ -3,7 +3,7 @@ use mathlib.Core.Path.{_≡_}
 use mathlib.Core.List.{List, map, foldl}
 use Prim.Native.Nat.{ℕ, _+_, _<_}
 use lib.ListN.{length, drop}
-use Rattle.theory.specs.Limit.{first-terms}
+use Rattle.theory.specs.Limit.{first-terms, number-bytes}
 use Rattle.theory.specs.Record.{Bytes}
 use Rattle.theory.specs.Plain.{Entry, Plain, start, feed}
 use Rattle.theory.specs.Places.{tree-at}
@@ -15,7 +15,7 @@ use Rattle.store.specs.Measure.{measure}
 
 -- the plain list that these records build
 abbrev pub stored : List Bytes → Plain
-stored rows = foldl feed start rows
+stored rows = foldl (feed number-bytes) start rows
 
 -- the list of the first n rows
 abbrev pub listed : Bytes → Bytes → ℕ → Plain
@@ -28,7 +28,7 @@ records list = map (λ (e : Entry). e .bytes) (drop first-terms list)
 -- THE INVARIANT: the rows are kept as they should be, each builds a term of its own, and has that term's measure
 pub record Store (job work : Bytes) (n : ℕ) : Type 0 where
   pub table : Table job work n
-  pub well : WellKept (listed job work n)
+  pub well : WellKept number-bytes (listed job work n)
   pub sorted : AllGood (listed job work n)
   pub count : length (listed job work n) ≡ first-terms + n
   pub records-are : records (listed job work n) ≡ kept job work n

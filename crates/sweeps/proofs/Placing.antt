@@ -34,7 +34,7 @@ pub record PlacedAt (list : Plain) (P : ℕ → Type 0) (k : ℕ) (u : Term) : T
   pub has : P place
 
 -- P holds of the places of the arguments where it holds of the term's
-module _ (list : Plain) (w : WellKept list) (P : ℕ → Type 0)
+module _ {b : ℕ} (list : Plain) (w : WellKept b list) (P : ℕ → Type 0)
     (closed : (q : ℕ) (h : first-terms ≤ q) (l : q < length list) → P q → (j : ℕ) → T (element j (kept-at list w q h l .args)) → P j) where
   in-args : (u : Term) (ks : List ℕ) (m : ℕ) → T (all-below m ks)
       → ((j : ℕ) → j < m → T (element j ks) → T (stands u (tree-at list j)) → PlacedAt list P m u)

@@ -11,14 +11,14 @@ use Rattle.theory.specs.Answer.{decode-answer, decode-answers}
 use Rattle.theory.specs.Tally.{how-many}
 
 -- the code of answer k
-pub code-at : (bs : Bytes) (k : ℕ) → word (drop (k * answer-bytes + 3 * number-bytes) bs) ≡ decode-answer (drop (k * answer-bytes) bs) .code
-code-at bs k = ap word (sym (drop-drop (3 * number-bytes) (k * answer-bytes) bs))
+pub code-at : (bs : Bytes) (k : ℕ) → word (drop (k * answer-bytes number-bytes + 3 * number-bytes) bs) ≡ decode-answer number-bytes (drop (k * answer-bytes number-bytes) bs) .code
+code-at bs k = ap word (sym (drop-drop (3 * number-bytes) (k * answer-bytes number-bytes) bs))
 
 -- n are counted in the first k answers, of `count`
 pub record Counted (p : ℕ → Bool) (bs : Bytes) (count n k : ℕ) : Type 0 where
   pub within : k ≤ count
   pub few : n ≤ k
-  pub whole : n + how-many p (decode-answers (count - k) (drop (k * answer-bytes) bs)) ≡ how-many p (decode-answers count bs)
+  pub whole : n + how-many p (decode-answers number-bytes (count - k) (drop (k * answer-bytes number-bytes) bs)) ≡ how-many p (decode-answers number-bytes count bs)
 
 one-more : (b : Bool) (m : ℕ) → cond b (suc m) m ≡ cond b 1 0 + m
 one-more true m = omega arith
@@ -28,24 +28,24 @@ module _ {p : ℕ → Bool} {bs : Bytes} {count : ℕ} where
   pub counted-start : Counted p bs count 0 0
   counted-start =
       let e : count - 0 ≡ count = omega arith in
-      record { within = omega arith; few = omega arith; whole = (let f = ap (λ (m : ℕ). how-many p (decode-answers m bs)) e in omega arith) }
+      record { within = omega arith; few = omega arith; whole = (let f = ap (λ (m : ℕ). how-many p (decode-answers number-bytes m bs)) e in omega arith) }
 
   -- answer k has the code x, which counts r
-  pub counted-turn : {n k x r : ℕ} → k < count → x ≡ decode-answer (drop (k * answer-bytes) bs) .code → (r ≡ cond (p x) 1 0) × (r ≤ 1)
+  pub counted-turn : {n k x r : ℕ} → k < count → x ≡ decode-answer number-bytes (drop (k * answer-bytes number-bytes) bs) .code → (r ≡ cond (p x) 1 0) × (r ≤ 1)
       → Counted p bs count n k → Counted p bs count (n + r) (k + 1)
   counted-turn {n} {k} {x} {r} h e one c =
-      let rest = how-many p (decode-answers (count - (k + 1)) (drop ((k + 1) * answer-bytes) bs)) in
+      let rest = how-many p (decode-answers number-bytes (count - (k + 1)) (drop ((k + 1) * answer-bytes number-bytes) bs)) in
       let left : count - k ≡ suc (count - (k + 1)) = omega arith in
-      let next : k * answer-bytes + answer-bytes ≡ (k + 1) * answer-bytes = omega arith in
-      let turn : how-many p (decode-answers (count - k) (drop (k * answer-bytes) bs)) ≡ cond (p x) 1 0 + rest
-      = ap (λ (m : ℕ). how-many p (decode-answers m (drop (k * answer-bytes) bs))) left
-      ∙ one-more (p (decode-answer (drop (k * answer-bytes) bs) .code)) _
-      ∙ ap (λ (y : ℕ). cond (p y) 1 0 + how-many p (decode-answers (count - (k + 1)) (drop answer-bytes (drop (k * answer-bytes) bs)))) (sym e)
-      ∙ ap (λ (l : Bytes). cond (p x) 1 0 + how-many p (decode-answers (count - (k + 1)) l)) (drop-drop answer-bytes (k * answer-bytes) bs ∙ ap (λ (j : ℕ). drop j bs) next) in
+      let next : k * answer-bytes number-bytes + answer-bytes number-bytes ≡ (k + 1) * answer-bytes number-bytes = omega arith in
+      let turn : how-many p (decode-answers number-bytes (count - k) (drop (k * answer-bytes number-bytes) bs)) ≡ cond (p x) 1 0 + rest
+      = ap (λ (m : ℕ). how-many p (decode-answers number-bytes m (drop (k * answer-bytes number-bytes) bs))) left
+      ∙ one-more (p (decode-answer number-bytes (drop (k * answer-bytes number-bytes) bs) .code)) _
+      ∙ ap (λ (y : ℕ). cond (p y) 1 0 + how-many p (decode-answers number-bytes (count - (k + 1)) (drop (answer-bytes number-bytes) (drop (k * answer-bytes number-bytes) bs)))) (sym e)
+      ∙ ap (λ (l : Bytes). cond (p x) 1 0 + how-many p (decode-answers number-bytes (count - (k + 1)) l)) (drop-drop (answer-bytes number-bytes) (k * answer-bytes number-bytes) bs ∙ ap (λ (j : ℕ). drop j bs) next) in
       record { within = omega arith; few = omega arith; whole = omega arith }
 
-  pub counted-end : {n k : ℕ} → count ≤ k → Counted p bs count n k → n ≡ how-many p (decode-answers count bs)
+  pub counted-end : {n k : ℕ} → count ≤ k → Counted p bs count n k → n ≡ how-many p (decode-answers number-bytes count bs)
   counted-end {n} {k} h c =
       let w = c .within in
       let e : count - k ≡ 0 = omega arith in
-      (let z : n ≡ n + 0 = omega arith in z) ∙ ap (λ (m : ℕ). n + how-many p (decode-answers m (drop (k * answer-bytes) bs))) (sym e) ∙ c .whole
+      (let z : n ≡ n + 0 = omega arith in z) ∙ ap (λ (m : ℕ). n + how-many p (decode-answers number-bytes m (drop (k * answer-bytes number-bytes) bs))) (sym e) ∙ c .whole

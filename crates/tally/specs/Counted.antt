@@ -4,7 +4,7 @@ use mathlib.Core.List.{List}
 use Prim.Native.Nat.{ℕ, _/_, min}
 use lib.Dec.{eqb, leb, ltb}
 use lib.ListN.{length}
-use Rattle.theory.specs.Limit.{answer-bytes}
+use Rattle.theory.specs.Limit.{answer-bytes, number-bytes}
 use Rattle.theory.specs.Record.{Bytes}
 use Rattle.theory.specs.Answer.{Answer, decode-answers}
 use Rattle.theory.specs.Tally.{Tally}
@@ -20,8 +20,8 @@ in-class class code = cond (ltb class 2) (eqb code class) (leb 2 code)
 
 -- how many of `count` answers a memory of `size` bytes has whole
 abbrev pub whole-answers : ℕ → ℕ → ℕ
-whole-answers size count = min count (size / answer-bytes)
+whole-answers size count = min count (size / answer-bytes number-bytes)
 
 -- the answers that are counted: the first `count` in these bytes, or, where the bytes are fewer, the whole ones among them
 abbrev pub answers-in : ℕ → Bytes → List Answer
-answers-in count bytes = decode-answers (whole-answers (length bytes) count) bytes
+answers-in count bytes = decode-answers number-bytes (whole-answers (length bytes) count) bytes

@@ -4,7 +4,7 @@ ghost use mathlib.Core.Bool.{cond};
 ghost use Prim.Native.Nat.{_+_, _*_, _≤_};
 ghost use lib.ListN.{length, drop};
 ghost use Rattle.theory.specs.Answer.{decode-answer, decode-answers};
-ghost use Rattle.theory.specs.Limit.{answer-bytes};
+ghost use Rattle.theory.specs.Limit.{answer-bytes, number-bytes};
 ghost use Rattle.theory.specs.Tally.{up as held-up, how-many};
 ghost use Rattle.tally.specs.Counted.{in-class, whole-answers, answers-in};
 use terms::ANSWER_BYTES;
@@ -34,8 +34,8 @@ pub const REFUSED: u32 = 2;
 
 // The code of answer k, counted from 0.
 fn answer_code(answers: &[u8], k: usize) -> u32
-    requires { ⌜ k * answer-bytes + answer-bytes ≤ length (now answers) ⌝ }
-    ensures { λ r. ⌜ r ≡ decode-answer (drop (k * answer-bytes) (now (answers .entry))) .code ⌝ }
+    requires { ⌜ k * answer-bytes number-bytes + answer-bytes number-bytes ≤ length (now answers) ⌝ }
+    ensures { λ r. ⌜ r ≡ decode-answer number-bytes (drop (k * answer-bytes number-bytes) (now (answers .entry))) .code ⌝ }
 {
     Term::number(answers, k * ANSWER_BYTES + CODE_AT)
 }
@@ -58,8 +58,8 @@ fn one_if(code: u32, class: u32) -> u64
 
 // How many of the first `count` answers have a code of the class.
 fn count_class(answers: &[u8], count: usize, class: u32) -> u64
-    requires { ⌜ count * answer-bytes ≤ length (now answers) ⌝ }
-    ensures { λ r. ⌜ r ≡ how-many (in-class class) (decode-answers count (now (answers .entry))) ⌝ }
+    requires { ⌜ count * answer-bytes number-bytes ≤ length (now answers) ⌝ }
+    ensures { λ r. ⌜ r ≡ how-many (in-class class) (decode-answers number-bytes count (now (answers .entry))) ⌝ }
 {
     let mut n: u64 = 0;
     for k in 0..count {

@@ -4,13 +4,13 @@ use mathlib.Core.Bool.{Bool, true, false, _&&_}
 use mathlib.Core.List.{List, [], _∷_}
 use Prim.Native.Nat.{ℕ, zero, suc, _+_, _*_, _<_, _≤_}
 use native.Mathlib.Numerals.{add-one}
+use native.Mathlib.Nat.{mul-le-mul-left}
 use native.Mathlib.Omega.{arith}
 use lib.Dec.{ltb}
-use lib.ListN.{length, drop, getD, drop-of-length-le}
+use lib.ListN.{length, take, drop, getD, drop-of-length-le}
 use lib.Seq.{drop-drop, drop-cons}
 use borrow.Author.Tests.{lt-ltb, le-ltb}
-use Rattle.theory.specs.Limit.{number-bytes}
-use Rattle.theory.specs.Record.{Bytes, word, words}
+use Rattle.theory.specs.Record.{Bytes, little-endian, words}
 use Rattle.theory.specs.Codes.{all-below}
 use Rattle.theory.proofs.Bytes.{words-length}
 use Rattle.terms.specs.declared.Args.{Args}
@@ -20,18 +20,25 @@ use Rattle.terms.specs.declared.Operands.the-variants.{List as Listed}
 use Rattle.terms.specs.Decoded.{Inside, OperandsPlaced, words-in, operands-of, numbers-of, arguments-of}
 
 -- ---- argument i is the number at its place
-words-at : (k : ℕ) (bs : Bytes) (i : ℕ) → i < k → getD (words k bs) i 0 ≡ word (drop (number-bytes * i) bs)
-words-at zero bs i h = absurd (omega arith)
-words-at (suc k) bs zero h = refl
-words-at (suc k) bs (suc i) h =
-    let e : number-bytes + number-bytes * i ≡ number-bytes * suc i = omega arith in
-    words-at k (drop number-bytes bs) i (omega arith) ∙ rw (drop-drop, e)
+words-at : (b k : ℕ) (bs : Bytes) (i : ℕ) → i < k → getD (words b k bs) i 0 ≡ little-endian (take b (drop (b * i) bs))
+words-at b zero bs i h = absurd (omega arith)
+words-at b (suc k) bs zero h = let e : b * 0 ≡ 0 = omega arith in rw e
+words-at b (suc k) bs (suc i) h =
+    let e : b + b * i ≡ b * suc i = omega arith in
+    words-at b k (drop b bs) i (omega arith) ∙ rw (drop-drop, e)
 
-pub argument-is : (job : Bytes) (a : Args) (i : ℕ) → i < a .count → {x : ℕ} → x ≡ word (drop (a .at + number-bytes * i) job) → x ≡ getD (words-in job a) i 0
-argument-is job a i h e = e ∙ sym (words-at (a .count) (drop (a .at) job) i h ∙ rw drop-drop)
+pub argument-is : (job : Bytes) (a : Args) (i : ℕ) → i < a .count → {x : ℕ} → x ≡ little-endian (take (a .bytes) (drop (a .at + a .bytes * i) job)) → x ≡ getD (words-in job a) i 0
+argument-is job a i h e = e ∙ sym (words-at (a .bytes) (a .count) (drop (a .at) job) i h ∙ rw drop-drop)
+
+-- it lies in the job
+pub argument-inside : {job : Bytes} {a : Args} (i : ℕ) → Inside job a → i < a .count → a .at + a .bytes * i + a .bytes ≤ length job
+argument-inside {job} {a} i p h =
+    let e = p .end in
+    let m : a .bytes * suc i ≤ a .bytes * a .count = mul-le-mul-left (a .bytes) (omega arith) in
+    omega arith
 
 pub words-in-length : (job : Bytes) (a : Args) → length (words-in job a) ≡ a .count
-words-in-length job a = words-length (a .count) (drop (a .at) job)
+words-in-length job a = words-length (a .bytes) (a .count) (drop (a .at) job)
 
 -- ---- one number is tested
 pub below-on : {n x : ℕ} (xs : List ℕ) → x < n → all-below n (x ∷ xs) ≡ all-below n xs

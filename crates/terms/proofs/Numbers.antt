@@ -1,13 +1,14 @@
 -- Bytes, and numbers in bytes: the loop that sums the bytes of a number from the highest down.
-use mathlib.Core.Path.{_≡_, refl, sym, _∙_}
+use mathlib.Core.Path.{_≡_, refl, sym, ap, ap₂, _∙_}
 use mathlib.Core.List.{[], _∷_}
 use Prim.Native.Nat.{ℕ, suc, _+_, _-_, _*_, _^_, _<_, _≤_}
-use native.Mathlib.Nat.{pow-succ', pow-le-pow-right}
+use native.Mathlib.Nat.{add-zero, pow-succ', pow-le-pow-right}
 use native.Mathlib.Omega.{arith}
 use mir.Syntax.{w8}
 use mir.Val.{Fits}
 use lib.ListN.{length, take, drop, getD, length-drop, List·getD-eq-default}
 use lib.Seq.{take-nil, getD-drop, drop-drop}
+use Rattle.theory.specs.Limit.{long-bytes}
 use Rattle.theory.specs.Record.{Bytes, AllBytes, little-endian, number-length}
 use Rattle.terms.specs.Bodies.{Length}
 
@@ -74,5 +75,32 @@ pub length-of : (job : Bytes) → Length (number-length job)
 length-of job = record { some-bytes = omega arith; few-bytes = omega arith }
 
 -- a number of so many bytes fits into 32 bits
-pub place-small : (b x : ℕ) → b ≤ 4 → x < 256 ^ b → x < 4294967296
+pub place-small : (b x : ℕ) → b ≤ long-bytes → x < 256 ^ b → x < 4294967296
 place-small b x h l = let q : 256 ^ b ≤ 256 ^ 4 = pow-le-pow-right (omega arith) h in omega arith
+
+-- ---- a number of few bytes, byte by byte
+byte-of : (s : Bytes) (at k : ℕ) → getD (drop k (drop at s)) 0 0 ≡ getD s (at + k) 0
+byte-of s at k = getD-drop k (drop at s) 0 0 ∙ ap (λ (j : ℕ). getD (drop at s) j 0) (add-zero k) ∙ getD-drop at s k 0
+
+peel : (m : ℕ) (s : Bytes) (at k : ℕ) → little-endian (take (suc m) (drop k (drop at s))) ≡ getD s (at + k) 0 + 256 * little-endian (take m (drop (k + 1) (drop at s)))
+peel m s at k =
+    digit m (drop k (drop at s))
+    ∙ ap₂ (λ (x : ℕ) (bs : Bytes). x + 256 * little-endian (take m bs)) (byte-of s at k) (drop-drop 1 k (drop at s))
+
+module _ (s : Bytes) (at : ℕ) {x : ℕ} (p : x ≡ getD s at 0) where
+  first-byte : getD s (at + 0) 0 ≡ x
+  first-byte = ap (λ (j : ℕ). getD s j 0) (add-zero at) ∙ sym p
+
+  pub one-byte : x ≡ little-endian (take 1 (drop at s))
+  one-byte = omega (arith, peel 0 s at 0, first-byte)
+
+  module _ {y : ℕ} (q : y ≡ getD s (at + 1) 0) where
+    pub two-bytes : x + 256 * y ≡ little-endian (take 2 (drop at s))
+    two-bytes = omega (arith, peel 1 s at 0, peel 0 s at 1, first-byte, q)
+
+    module _ {z : ℕ} (r : z ≡ getD s (at + 2) 0) where
+      pub three-bytes : x + 256 * y + 65536 * z ≡ little-endian (take 3 (drop at s))
+      three-bytes = omega (arith, peel 2 s at 0, peel 1 s at 1, peel 0 s at 2, first-byte, q, r)
+
+      pub four-bytes : {w : ℕ} → w ≡ getD s (at + 3) 0 → x + 256 * y + 65536 * z + 16777216 * w ≡ little-endian (take 4 (drop at s))
+      four-bytes t = omega (arith, peel 3 s at 0, peel 2 s at 1, peel 1 s at 2, peel 0 s at 3, first-byte, q, r, t)

@@ -26,11 +26,11 @@ drop-take (suc i) (suc n) (b ∷ bs) = let e : suc n - suc i ≡ n - i = omega a
 pub word-take : (n : ℕ) (bs : Bytes) → number-bytes ≤ n → word (take n bs) ≡ word bs
 word-take n bs h = ap little-endian (take-take number-bytes n bs h)
 
-pub words-take : (k n : ℕ) (bs : Bytes) → number-bytes * k ≤ n → words k (take n bs) ≡ words k bs
-words-take zero n bs h = refl
-words-take (suc k) n bs h =
-    ap₂ (λ (x : ℕ) (xs : List ℕ). x ∷ xs) (word-take n bs (omega arith))
-    (ap (words k) (drop-take number-bytes n bs) ∙ words-take k (n - number-bytes) (drop number-bytes bs) (omega arith))
+pub words-take : (b k n : ℕ) (bs : Bytes) → b * k ≤ n → words b k (take n bs) ≡ words b k bs
+words-take b zero n bs h = refl
+words-take b (suc k) n bs h =
+    ap₂ (λ (x : ℕ) (xs : List ℕ). x ∷ xs) (ap little-endian (take-take b n bs (omega arith)))
+    (ap (words b k) (drop-take b n bs) ∙ words-take b k (n - b) (drop b bs) (omega arith))
 
 -- the numbers in front of the arguments
 pub make-take : (s : Shape) (n : ℕ) (bs : Bytes) → front s ≤ n → make s (take n bs) ≡ make s bs

@@ -6,18 +6,18 @@ use mathlib.Core.Option.{Option, none, some}
 use Prim.Native.Nat.{ℕ, _+_, _-_, _*_, _/_, _%_, _<_, _≤_}
 use native.Mathlib.Omega.{arith}
 use lib.Dec.{leb, eqb, leb·zero}
-use lib.ListN.{length, drop, length-drop}
-use lib.Seq.{drop-drop}
+use lib.ListN.{length, take, drop, length-drop}
+use lib.Seq.{drop-drop, take-take}
 use borrow.Author.Tests.{le-leb, lt-leb, eq-eqb, ne-eqb, leb-true, leb-false, eqb-true}
 use Rattle.theory.specs.Limit.{number-bytes, max-arguments}
 use Rattle.theory.specs.Kind.{Arity, exactly, many, arity, takes}
-use Rattle.theory.specs.Record.{Bytes, word, words, extent, whole, kind-of, body-of, fits, arguments, step, chain, back, unknown, misfit, premise-count, chain-front, chain-fits, Shape, plain, indexed, twice-indexed, valued, front, make, shapes, find-shape, shape-of, read, read-term, read-step, read-chain, read-back}
+use Rattle.theory.specs.Record.{Bytes, little-endian, word, words, extent, whole, kind-of, body-of, fits, arguments, step, chain, back, unknown, misfit, premise-count, chain-front, before-literal, chain-fits, Shape, plain, indexed, twice-indexed, valued, front, make, shapes, find-shape, shape-of, read, read-term, read-step, read-chain, read-back}
 use Rattle.terms.specs.declared.Frame.the-variants.{Broken, Whole as Ends}
 use Rattle.terms.specs.declared.Form.the-variants.{Unknown, Known}
 use Rattle.terms.specs.Framing.{part, record-at, frame-of}
-use Rattle.terms.specs.Bodies.{form-of, sized, fitting, made, least, most}
+use Rattle.terms.specs.Bodies.{Length, form-of, front-of, sized, fitting, made, least, most}
 use Rattle.terms.proofs.Parts.{both, drop-take, word-take, words-take, length-part, whole-parts}
-use Rattle.terms.proofs.Arms.{Sized}
+use Rattle.terms.proofs.Arms.{Sized, sized-whole}
 
 -- ---- where a record ends
 module _ (bs : Bytes) where
@@ -106,72 +106,82 @@ pub steady-of : (k : ℕ) → IfSome Steady (shape-of k)
 unfolding shape-of
 steady-of k = find-steady k shapes (λ b. refl, (λ b. refl, (λ b. refl, (λ b. refl, (λ b. refl, (λ b. refl, (λ b. refl, (λ b. refl, (λ b. refl, (λ b. refl, tt))))))))))
 
-fits-of : (s : Shape) → Steady s → (b : Bytes) {size : ℕ} → length b ≡ size
-    → sized size (front s) (least (arity (make s []))) (most (arity (make s []))) ≡ fits (front s) (takes (arity (make s b))) b
-fits-of s h b e = rw (← e, h b, between (arity (make s [])))
+fits-of : (c : ℕ) (s : Shape) → Steady s → (b : Bytes) {size : ℕ} → length b ≡ size
+    → sized c size (front s) (least (arity (make s []))) (most (arity (make s []))) ≡ fits c (front s) (takes (arity (make s b))) b
+fits-of c s h b e = rw (← e, h b, between (arity (make s [])))
 
 -- ---- a kind's body, by its form
-module _ (o : Option Shape) (h : IfSome Steady o) (b : Bytes) {size : ℕ} (e : length b ≡ size) where
-  pub test-of : {f l m : ℕ} → Known f l m ≡ form-of o → sized size f l m ≡ fitting o b
+module _ (c : ℕ) (o : Option Shape) (h : IfSome Steady o) (b : Bytes) {size : ℕ} (e : length b ≡ size) where
+  pub test-of : {f l m : ℕ} → Known f l m ≡ form-of o → sized c size f l m ≡ fitting c o b
   test-of g = go o h g
     where
-      go : (q : Option Shape) → IfSome Steady q → {f l m : ℕ} → Known f l m ≡ form-of q → sized size f l m ≡ fitting q b
+      go : (q : Option Shape) → IfSome Steady q → {f l m : ℕ} → Known f l m ≡ form-of q → sized c size f l m ≡ fitting c q b
       go none k {f} {l} {m} d = absurd (let z : _≡_ {A = ℕ} 0 1 = cc in omega arith)
       go (some s) k {f} {l} {m} d =
           let x : f ≡ front s = cc in
           let y : l ≡ least (arity (make s [])) = cc in
           let z : m ≡ most (arity (make s [])) = cc in
-          rw (x, y, z) (fits-of s k b e)
+          rw (x, y, z) (fits-of c s k b e)
 
-pub form-unknown : (o : Option Shape) → Unknown ≡ form-of o → (b : Bytes) → unknown ≡ read-term o b
-form-unknown none e b = refl
-form-unknown (some s) e b = absurd (let z : _≡_ {A = ℕ} 0 1 = cc in omega arith)
+-- the bytes before the arguments, by a form that is known
+pub known-front : (o : Option Shape) {f l m : ℕ} → Known f l m ≡ form-of o → f ≡ front-of o
+known-front none g = absurd (let z : _≡_ {A = ℕ} 0 1 = cc in omega arith)
+known-front (some s) g = cc
 
-pub term-fits : (o : Option Shape) (b : Bytes) → fitting o b ≡ true → made o b ≡ read-term o b
-term-fits none b e = refl
-term-fits (some s) b e = rw e
+pub form-unknown : (c : ℕ) (o : Option Shape) → Unknown ≡ form-of o → (b : Bytes) → unknown ≡ read-term c o b
+form-unknown c none e b = refl
+form-unknown c (some s) e b = absurd (let z : _≡_ {A = ℕ} 0 1 = cc in omega arith)
+
+pub term-fits : (c : ℕ) (o : Option Shape) (b : Bytes) → fitting c o b ≡ true → made c o b ≡ read-term c o b
+term-fits c none b e = refl
+term-fits c (some s) b e = rw e
 
 -- a form is known, so there is a shape
-pub term-misfit : (o : Option Shape) (b : Bytes) {f l m : ℕ} → Known f l m ≡ form-of o → fitting o b ≡ false → misfit ≡ read-term o b
-term-misfit none b g e = absurd (let z : _≡_ {A = ℕ} 0 1 = cc in omega arith)
-term-misfit (some s) b g e = rw e
+pub term-misfit : (c : ℕ) (o : Option Shape) (b : Bytes) {f l m : ℕ} → Known f l m ≡ form-of o → fitting c o b ≡ false → misfit ≡ read-term c o b
+term-misfit c none b g e = absurd (let z : _≡_ {A = ℕ} 0 1 = cc in omega arith)
+term-misfit c (some s) b g e = rw e
 
 -- ---- a step's body
-step-test : (b : Bytes) {size : ℕ} → length b ≡ size → sized size number-bytes 0 max-arguments ≡ fits number-bytes (λ n. leb n max-arguments) b
-step-test b e = rw (← e, leb·zero)
+step-test : (c : ℕ) (b : Bytes) {size : ℕ} → length b ≡ size → sized c size number-bytes 0 max-arguments ≡ fits c number-bytes (λ n. leb n max-arguments) b
+step-test c b e = rw (← e, leb·zero)
 
-module _ (job : Bytes) (body size : ℕ) (h : body + size ≤ length job) where
-  pub step-misfit : sized size number-bytes 0 max-arguments ≡ false → misfit ≡ read-step (part job body size)
-  step-misfit e = rw (sym (step-test (part job body size) (length-part job body size h)) ∙ e)
+module _ (c : ℕ) (job : Bytes) (body size : ℕ) (h : body + size ≤ length job) where
+  pub step-misfit : sized c size number-bytes 0 max-arguments ≡ false → misfit ≡ read-step c (part job body size)
+  step-misfit e = rw (sym (step-test c (part job body size) (length-part job body size h)) ∙ e)
 
   -- the literals lie in the body, and are not too many
-  pub step-sizes : sized size number-bytes 0 max-arguments ≡ true → Sized number-bytes size × ((size - number-bytes) / number-bytes ≤ max-arguments)
+  pub step-sizes : sized c size number-bytes 0 max-arguments ≡ true → Sized c number-bytes size × ((size - number-bytes) / c ≤ max-arguments)
   step-sizes e =
       let p = both (leb number-bytes size) _ e in
-      let q = both (eqb ((size - number-bytes) % number-bytes) 0) _ (p .1) in
-      let r = both (leb 0 ((size - number-bytes) / number-bytes)) _ (q .1) in
-      (record { long = leb-true number-bytes size (p .0); even = eqb-true ((size - number-bytes) % number-bytes) 0 (q .0) }, leb-true _ max-arguments (r .1))
+      let q = both (eqb ((size - number-bytes) % c) 0) _ (p .1) in
+      let r = both (leb 0 ((size - number-bytes) / c)) _ (q .1) in
+      (record { long = leb-true number-bytes size (p .0); even = eqb-true ((size - number-bytes) % c) 0 (q .0) }, leb-true _ max-arguments (r .1))
 
-  pub step-fits : sized size number-bytes 0 max-arguments ≡ true → {n : ℕ} → n ≡ word (drop body job)
-      → step n (words ((size - number-bytes) / number-bytes) (drop (body + number-bytes) job)) ≡ read-step (part job body size)
+  -- and end where it does
+  pub step-end : sized c size number-bytes 0 max-arguments ≡ true → body + number-bytes + c * ((size - number-bytes) / c) ≤ length job
+  step-end e = let w = sized-whole (step-sizes e .0) in omega arith
+
+  pub step-fits : sized c size number-bytes 0 max-arguments ≡ true → {n : ℕ} → n ≡ word (drop body job)
+      → step n (words c ((size - number-bytes) / c) (drop (body + number-bytes) job)) ≡ read-step c (part job body size)
   step-fits e {n} f =
       let b = part job body size in
       let len : length b ≡ size = length-part job body size h in
       let s = step-sizes e .0 in
       let l = s .long in
-      let k = (size - number-bytes) / number-bytes in
-      let t : fits number-bytes (λ i. leb i max-arguments) b ≡ true = sym (step-test b len) ∙ e in
+      let v = sized-whole s in
+      let k = (size - number-bytes) / c in
+      let t : fits c number-bytes (λ i. leb i max-arguments) b ≡ true = sym (step-test c b len) ∙ e in
       let w : word b ≡ n = word-take size (drop body job) l ∙ sym f in
-      let a : arguments number-bytes b ≡ words k (drop (body + number-bytes) job)
-      = ap (λ (m : ℕ). words ((m - number-bytes) / number-bytes) (drop number-bytes b)) len
-      ∙ ap (words k) (drop-take number-bytes size (drop body job))
-      ∙ words-take k (size - number-bytes) (drop number-bytes (drop body job)) (omega arith)
-      ∙ ap (words k) (drop-drop number-bytes body job) in
-      sym (ap (λ (c : Bool). cond c (step (word b) (arguments number-bytes b)) misfit) t ∙ ap₂ step w a)
+      let a : arguments c number-bytes b ≡ words c k (drop (body + number-bytes) job)
+      = ap (λ (m : ℕ). words c ((m - number-bytes) / c) (drop number-bytes b)) len
+      ∙ ap (words c k) (drop-take number-bytes size (drop body job))
+      ∙ words-take c k (size - number-bytes) (drop number-bytes (drop body job)) (omega arith)
+      ∙ ap (words c k) (drop-drop number-bytes body job) in
+      sym (ap (λ (q : Bool). cond q (step (word b) (arguments c number-bytes b)) misfit) t ∙ ap₂ step w a)
 
   -- ---- a chain's body
   -- the body has not both numbers in front
-  pub chain-short : size < chain-front → misfit ≡ read-chain (part job body size)
+  pub chain-short : size < chain-front → misfit ≡ read-chain c (part job body size)
   chain-short l = rw (length-part job body size h, lt-leb chain-front size l)
 
   module _ (l : chain-front ≤ size) {n : ℕ} (f : n ≡ word (drop (body + number-bytes) job)) where
@@ -181,46 +191,46 @@ module _ (job : Bytes) (body size : ℕ) (h : body + size ≤ length job) where
         ap word (drop-take number-bytes size (drop body job)) ∙ word-take (size - number-bytes) (drop number-bytes (drop body job)) (omega arith)
         ∙ ap word (drop-drop number-bytes body job) ∙ sym f
 
-    chain-test : chain-fits (part job body size) ≡ (takes many n && eqb size (chain-front + number-bytes * n + number-bytes))
+    chain-test : chain-fits c (part job body size) ≡ (takes many n && eqb size (chain-front + number-bytes * n + c))
     chain-test = rw (length-part job body size h, chain-count, le-leb chain-front size l)
 
     -- no premise
-    pub chain-none : n < 1 → misfit ≡ read-chain (part job body size)
+    pub chain-none : n < 1 → misfit ≡ read-chain c (part job body size)
     chain-none k = rw (chain-test, lt-leb 1 n k)
 
     -- too many
-    pub chain-many : max-arguments < n → misfit ≡ read-chain (part job body size)
+    pub chain-many : max-arguments < n → misfit ≡ read-chain c (part job body size)
     chain-many k = rw (chain-test, le-leb 1 n (omega arith), lt-leb n max-arguments k)
 
     -- another length
-    pub chain-length : 1 ≤ n → n ≤ max-arguments → (size ≡ chain-front + number-bytes * n + number-bytes → ⊥) → misfit ≡ read-chain (part job body size)
-    chain-length k m e = rw (chain-test, le-leb 1 n k, le-leb n max-arguments m, ne-eqb size (chain-front + number-bytes * n + number-bytes) e)
+    pub chain-length : 1 ≤ n → n ≤ max-arguments → (size ≡ chain-front + number-bytes * n + c → ⊥) → misfit ≡ read-chain c (part job body size)
+    chain-length k m e = rw (chain-test, le-leb 1 n k, le-leb n max-arguments m, ne-eqb size (chain-front + number-bytes * n + c) e)
 
-    pub chain-made : 1 ≤ n → n ≤ max-arguments → size ≡ chain-front + number-bytes * n + number-bytes
-        → {rule literal : ℕ} → rule ≡ word (drop body job) → literal ≡ word (drop (body + (chain-front + number-bytes * n)) job)
-        → chain rule (words n (drop (body + chain-front) job)) literal ≡ read-chain (part job body size)
+    pub chain-made : 1 ≤ n → n ≤ max-arguments → size ≡ chain-front + number-bytes * n + c
+        → {rule literal : ℕ} → rule ≡ word (drop body job) → literal ≡ little-endian (take c (drop (body + (chain-front + number-bytes * n)) job))
+        → chain rule (words number-bytes n (drop (body + chain-front) job)) literal ≡ read-chain c (part job body size)
     chain-made k m e {rule} {literal} p q =
         let b = part job body size in
-        let t : chain-fits b ≡ true = rw (chain-test, le-leb 1 n k, le-leb n max-arguments m, eq-eqb size (chain-front + number-bytes * n + number-bytes) e) in
+        let t : chain-fits c b ≡ true = rw (chain-test, le-leb 1 n k, le-leb n max-arguments m, eq-eqb size (chain-front + number-bytes * n + c) e) in
         let w : word b ≡ rule = word-take size (drop body job) (omega arith) ∙ sym p in
-        let a : words n (drop chain-front b) ≡ words n (drop (body + chain-front) job)
-        = ap (words n) (drop-take chain-front size (drop body job))
-        ∙ words-take n (size - chain-front) (drop chain-front (drop body job)) (omega arith)
-        ∙ ap (words n) (drop-drop chain-front body job) in
-        let z : word (drop (chain-front + number-bytes * n) b) ≡ literal
-        = ap word (drop-take (chain-front + number-bytes * n) size (drop body job))
-        ∙ word-take (size - (chain-front + number-bytes * n)) (drop (chain-front + number-bytes * n) (drop body job)) (omega arith)
-        ∙ ap word (drop-drop (chain-front + number-bytes * n) body job) ∙ sym q in
+        let a : words number-bytes n (drop chain-front b) ≡ words number-bytes n (drop (body + chain-front) job)
+        = ap (words number-bytes n) (drop-take chain-front size (drop body job))
+        ∙ words-take number-bytes n (size - chain-front) (drop chain-front (drop body job)) (omega arith)
+        ∙ ap (words number-bytes n) (drop-drop chain-front body job) in
+        let z : little-endian (take c (drop (chain-front + number-bytes * n) b)) ≡ literal
+        = ap (λ (bs : Bytes). little-endian (take c bs)) (drop-take (chain-front + number-bytes * n) size (drop body job))
+        ∙ ap little-endian (take-take c (size - (chain-front + number-bytes * n)) (drop (chain-front + number-bytes * n) (drop body job)) (omega arith))
+        ∙ ap (λ (bs : Bytes). little-endian (take c bs)) (drop-drop (chain-front + number-bytes * n) body job) ∙ sym q in
         sym (rw (t, chain-count, w, a, z))
 
   -- ---- a back's body
-  pub back-misfit : (size ≡ number-bytes → ⊥) → misfit ≡ read-back (part job body size)
-  back-misfit n = rw (length-part job body size h, ne-eqb size number-bytes n)
+  pub back-misfit : (size ≡ c → ⊥) → misfit ≡ read-back c (part job body size)
+  back-misfit n = rw (length-part job body size h, ne-eqb size c n)
 
-  pub back-fits : size ≡ number-bytes → {n : ℕ} → n ≡ word (drop body job) → back n ≡ read-back (part job body size)
+  pub back-fits : size ≡ c → {n : ℕ} → n ≡ little-endian (take c (drop body job)) → back n ≡ read-back c (part job body size)
   back-fits s {n} f =
-      let w : word (part job body size) ≡ n = word-take size (drop body job) (omega arith) ∙ sym f in
-      rw (length-part job body size h, eq-eqb size number-bytes s, w)
+      let w : little-endian (take c (part job body size)) ≡ n = ap little-endian (take-take c size (drop body job) (omega arith)) ∙ sym f in
+      rw (length-part job body size h, eq-eqb size c s, w)
 
 -- ---- a record's kind and body, by its place in the job
 -- the record lies in the job, and has a kind
@@ -249,19 +259,19 @@ module _ {job : Bytes} {at : ℕ} (s : Stands job at) where
       let e : extent bs - (number-bytes + number-bytes) ≡ n - number-bytes = omega arith in
       drop-take (number-bytes + number-bytes) (extent bs) bs ∙ rw (drop-drop, e)
 
-module _ (r : Bytes) {b : Bytes} (h : body-of r ≡ b) where
-  pub read-as-step : kind-of r ≡ 100 → read-step b ≡ read r
+module _ (c : ℕ) (r : Bytes) {b : Bytes} (h : body-of r ≡ b) where
+  pub read-as-step : kind-of r ≡ 100 → read-step c b ≡ read c r
   unfolding read
   read-as-step e = rw (eq-eqb (kind-of r) 100 e, ← h)
 
-  pub read-as-back : kind-of r ≡ 101 → read-back b ≡ read r
+  pub read-as-back : kind-of r ≡ 101 → read-back c b ≡ read c r
   unfolding read
   read-as-back e = rw (ne-eqb (kind-of r) 100 (λ f. omega arith), ne-eqb (kind-of r) 104 (λ f. omega arith), eq-eqb (kind-of r) 101 e, ← h)
 
-  pub read-as-chain : kind-of r ≡ 104 → read-chain b ≡ read r
+  pub read-as-chain : kind-of r ≡ 104 → read-chain c b ≡ read c r
   unfolding read
   read-as-chain e = rw (ne-eqb (kind-of r) 100 (λ f. omega arith), eq-eqb (kind-of r) 104 e, ← h)
 
-  pub read-as-term : {k : ℕ} → kind-of r ≡ k → (k ≡ 100 → ⊥) → (k ≡ 101 → ⊥) → (k ≡ 104 → ⊥) → read-term (shape-of k) b ≡ read r
+  pub read-as-term : {k : ℕ} → kind-of r ≡ k → (k ≡ 100 → ⊥) → (k ≡ 101 → ⊥) → (k ≡ 104 → ⊥) → read-term c (shape-of k) b ≡ read c r
   unfolding read
   read-as-term {k} e f g i = rw (e, ne-eqb k 100 f, ne-eqb k 104 i, ne-eqb k 101 g, ← h)

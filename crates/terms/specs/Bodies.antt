@@ -6,7 +6,7 @@ use mathlib.Core.Option.{Option, none, some}
 use Prim.Native.Nat.{ℕ, _+_, _-_, _/_, _%_, _<_, _≤_}
 use lib.Dec.{leb, eqb}
 use lib.ListN.{length}
-use Rattle.theory.specs.Limit.{max-arguments, number-bytes, long-bytes}
+use Rattle.theory.specs.Limit.{max-arguments, long-bytes}
 use Rattle.theory.specs.Kind.{Arity, exactly, many, arity, takes}
 use Rattle.theory.specs.Record.{Bytes, fits, arguments, Shape, front, make, shape-of, Item, term, unknown}
 use Rattle.terms.specs.declared.Form.{Form}
@@ -32,24 +32,31 @@ abbrev pub form-of : Option Shape → Form
 form-of none = Unknown
 form-of (some s) = Known (front s) (least (arity (make s []))) (most (arity (make s [])))
 
--- a body of so many bytes is `before` bytes and then from `low` to `high` arguments
-abbrev pub sized : ℕ → ℕ → ℕ → ℕ → Bool
-sized size before low high =
+-- a body of so many bytes is `before` bytes and then from `low` to `high` arguments of b bytes
+abbrev pub sized : ℕ → ℕ → ℕ → ℕ → ℕ → Bool
+sized b size before low high =
     leb before size
-    && (eqb ((size - before) % number-bytes) 0
-    && (leb low ((size - before) / number-bytes) && leb ((size - before) / number-bytes) high))
+    && (eqb ((size - before) % b) 0
+    && (leb low ((size - before) / b) && leb ((size - before) / b) high))
+
+-- the bytes before the arguments
+abbrev pub front-of : Option Shape → ℕ
+front-of none = 0
+front-of (some s) = front s
 
 -- the body has the length of the kind's shape
-abbrev pub fitting : Option Shape → Bytes → Bool
-fitting none body = true
-fitting (some s) body = fits (front s) (takes (arity (make s body))) body
+abbrev pub fitting : ℕ → Option Shape → Bytes → Bool
+fitting b none body = true
+fitting b (some s) body = fits b (front s) (takes (arity (make s body))) body
 
 -- what a body that fits says
-abbrev pub made : Option Shape → Bytes → Item
-made none body = unknown
-made (some s) body = term (make s body) (arguments (front s) body)
+abbrev pub made : ℕ → Option Shape → Bytes → Item
+made b none body = unknown
+made b (some s) body = term (make s body) (arguments b (front s) body)
 
--- a body stands in the job, and has the length of its kind
-pub record Body (job : Bytes) (kind body size : ℕ) : Type 0 where
+-- a body stands in the job, and has the length of its kind; `before` bytes stand before its arguments
+pub record Body (b : ℕ) (job : Bytes) (kind body size before : ℕ) : Type 0 where
+  pub length-b : Length b
   pub end : body + size ≤ length job
-  pub fit : fitting (shape-of kind) (part job body size) ≡ true
+  pub fit : fitting b (shape-of kind) (part job body size) ≡ true
+  pub front-is : before ≡ front-of (shape-of kind)

@@ -3,7 +3,7 @@ use mathlib.Core.Path.{_≡_}
 use mathlib.Core.List.{List, [], _∷_}
 use Prim.Native.Nat.{ℕ, _+_, _*_, _≤_}
 use lib.ListN.{length, drop}
-use Rattle.theory.specs.Limit.{max-arguments, number-bytes}
+use Rattle.theory.specs.Limit.{max-arguments}
 use Rattle.theory.specs.Kind.{Op}
 use Rattle.theory.specs.Rule.{nth}
 use Rattle.theory.specs.Record.{Bytes, words}
@@ -17,16 +17,18 @@ use Rattle.terms.specs.declared.Operands.the-variants.{None, One, Two, T
 use Rattle.terms.specs.declared.Item.{Item}
 use Rattle.terms.specs.declared.Term.the-variants as D
 use Rattle.terms.specs.declared.Item.the-variants as I
+use Rattle.terms.specs.Bodies.{Length}
 
 -- ---- argument lists
 -- the numbers of a list
 abbrev pub words-in : Bytes → Args → List ℕ
-words-in job a = words (a .count) (drop (a .at) job)
+words-in job a = words (a .bytes) (a .count) (drop (a .at) job)
 
--- a list lies in the job, and is not too long
+-- a list lies in the job, is not too long, and its numbers have a length that is allowed
 pub record Inside (job : Bytes) (a : Args) : Type 0 where
-  pub end : a .at + number-bytes * a .count ≤ length job
+  pub end : a .at + a .bytes * a .count ≤ length job
   pub few : a .count ≤ max-arguments
+  pub sized : Length (a .bytes)
 
 -- ---- a decoded term
 -- its kind

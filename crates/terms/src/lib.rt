@@ -1,16 +1,16 @@
 // A job's bytes as decoded records: the numbers in them, where a record ends, and what it says.
 ghost use mathlib.Core.Path.{_≡_};
 ghost use mathlib.Core.Bool.{true};
-ghost use Prim.Native.Nat.{_+_, _^_, _<_, _≤_};
+ghost use Prim.Native.Nat.{_+_, _*_, _^_, _<_, _≤_};
 ghost use lib.ListN.{length, take, drop, getD};
-ghost use Rattle.theory.specs.Limit.{number-bytes, value-bytes};
+ghost use Rattle.theory.specs.Limit.{number-bytes, long-bytes, value-bytes};
 ghost use Rattle.theory.specs.Record.{little-endian, word, whole, shape-of, read, read-term, read-step, read-chain, read-back, number-length};
 ghost use Rattle.theory.specs.Codes.{all-below};
 ghost use Rattle.terms.specs.Framing.{part, record-at, frame-of};
 ghost use Rattle.terms.specs.Decoded.{Inside, OperandsPlaced, Placed, Says, words-in, item-of, head-of, operands-of, arguments-of};
-ghost use Rattle.terms.specs.Bodies.{Body, form-of, sized, made};
+ghost use Rattle.terms.specs.Bodies.{Body, Length, form-of, sized, made};
 
-// The bytes of an answer: its length, its kind, a rule, a code and a depth.
+// The bytes of an answer: its length, its kind, a rule, a code and a depth, which has as many bytes as a term's number.
 pub const ANSWER_BYTES: usize = 5 * Term::NUMBER_BYTES;
 
 // Where an answer's kind stands in it, its rule, its code and its depth; the length stands first.
@@ -22,10 +22,11 @@ pub const CODE_AT: usize = 3 * Term::NUMBER_BYTES;
 
 pub const DEPTH_AT: usize = 4 * Term::NUMBER_BYTES;
 
-// An argument list: its place in the job's bytes, and how many numbers stand there.
+// An argument list: its place in the job's bytes, how many numbers stand there, and the bytes of each.
 pub struct Args {
     pub at: usize,
     pub count: usize,
+    pub bytes: usize,
 }
 
 // A term, with the numbers of its arguments. No record says `True` or `False`: they are terms 0 and 1.
@@ -131,7 +132,7 @@ impl Term {
     pub const MAX_ARGUMENTS: usize = 64;
     // the greatest number of terms, `True` and `False` counted
     pub const MAX_TERMS: usize = 65535;
-    // bytes of a number in a record
+    // bytes of a number in a record, but for the numbers of terms
     pub const NUMBER_BYTES: usize = 2;
     // the most bytes that a term's number may have
     pub const LONG_BYTES: usize = 4;
@@ -173,18 +174,26 @@ impl Term {
         Term::bytes(s, at, Term::NUMBER_BYTES) as u32
     }
 
+    // The term's number at `at`, of so many bytes.
+    pub fn place(s: &[u8], at: usize, bytes: usize) -> u32
+        requires { ⌜ bytes ≤ long-bytes ⌝ }
+        ensures { λ r. ⌜ r ≡ little-endian (take bytes (drop at (now (s .entry)))) ⌝ }
+    {
+        Term::bytes(s, at, bytes) as u32
+    }
+
+    // The bytes of a term's number in a job: two, in every job.
+    pub fn number_length(job: &[u8]) -> usize
+        ensures { λ r. ⌜ r ≡ number-length (now (job .entry)) ⌝ }
+    {
+        Term::NUMBER_BYTES
+    }
+
     // A constant's value at `at`.
     pub fn value(s: &[u8], at: usize) -> u64
         ensures { λ r. ⌜ r ≡ little-endian (take value-bytes (drop at (now (s .entry)))) ⌝ }
     {
         Term::bytes(s, at, Term::VALUE_BYTES)
-    }
-
-    // The bytes of a term's number in a job.
-    pub fn number_length(job: &[u8]) -> usize
-        ensures { λ r. ⌜ r ≡ number-length (now (job .entry)) ⌝ }
-    {
-        Term::NUMBER_BYTES
     }
 
     // What stands at the place `at` of a job.
@@ -236,63 +245,79 @@ impl Term {
         }
     }
 
-    // Is a body of `size` bytes `front` bytes and then from `least` to `most` arguments?
-    fn fits(size: usize, front: usize, least: usize, most: usize) -> bool
-        ensures { λ r. ⌜ r ≡ sized size front least most ⌝ }
+    // Is a body of `size` bytes `front` bytes and then from `least` to `most` arguments of so many bytes?
+    fn fits(size: usize, front: usize, least: usize, most: usize, bytes: usize) -> bool
+        requires { ⌜ Length bytes ⌝ }
+        ensures { λ r. ⌜ r ≡ sized bytes size front least most ⌝ }
     {
         if size < front {
             return false;
         }
         let rest = size - front;
-        if rest % Term::NUMBER_BYTES != 0 {
+        if rest % bytes != 0 {
             return false;
         }
-        let count = rest / Term::NUMBER_BYTES;
+        let count = rest / bytes;
         if count < least {
             return false;
         }
         count <= most
     }
 
-    // A term of a kind below 40, from a body that fits its kind.
-    fn core_term(job: &[u8], kind: u32, body: usize, size: usize) -> Item
-        requires { ⌜ Body (now job) kind body size × (kind < 40) ⌝ }
-        ensures { λ r. ⌜ Says (now (job .entry)) r (made (shape-of kind) (part (now (job .entry)) body size)) ⌝ }
+    // A term of a kind below 40, from a body that fits its kind: `front` bytes of indices, then arguments. Past the end a byte is 0.
+    fn core_term(
+        job: &[u8],
+        kind: u32,
+        body: usize,
+        size: usize,
+        front: usize,
+        bytes: usize,
+    ) -> Item
+        requires { ⌜ Body bytes (now job) kind body size front × (kind < 40) ⌝ }
+        ensures { λ r. ⌜ Says (now (job .entry)) r (made bytes (shape-of kind) (part (now (job .entry)) body size)) ⌝ }
     {
-        let x = Term::number(job, body);
-        let y = Term::number(job, body + Term::NUMBER_BYTES);
-        let z = Term::number(job, body + 2 * Term::NUMBER_BYTES);
+        let first = body + front;
+        let x = Term::place(job, first, bytes);
+        let y = Term::place(job, first + bytes, bytes);
         let list = Args {
             at: body,
-            count: size / Term::NUMBER_BYTES,
+            count: size / bytes,
+            bytes: bytes,
         };
         match kind {
-            10 => Item::Term(Term::BoolVar(x)),
-            11 => Item::Term(Term::BvVar(x, y)),
-            12 => Item::Term(Term::Const(x, Term::value(job, body + Term::NUMBER_BYTES))),
+            10 => Item::Term(Term::BoolVar(Term::number(job, body))),
+            11 => Item::Term(Term::BvVar(
+                Term::number(job, body),
+                Term::number(job, body + Term::NUMBER_BYTES),
+            )),
+            12 => Item::Term(Term::Const(
+                Term::number(job, body),
+                Term::value(job, body + Term::NUMBER_BYTES),
+            )),
             20 => Item::Term(Term::Not(x)),
             21 => Item::Term(Term::And(list)),
             22 => Item::Term(Term::Or(list)),
             23 => Item::Term(Term::Xor(x, y)),
             24 => Item::Term(Term::Equals(x, y)),
-            25 => Item::Term(Term::Ite(x, y, z)),
-            30 => Item::Term(Term::BvBitOf(x, y)),
+            25 => Item::Term(Term::Ite(x, y, Term::place(job, first + 2 * bytes, bytes))),
+            30 => Item::Term(Term::BvBitOf(Term::number(job, body), x)),
             31 => Item::Term(Term::BvBbTerm(list)),
             _ => Item::Unknown,
         }
     }
 
     // A term of a kind from 40 on, from a body that fits its kind.
-    fn bv_term(job: &[u8], kind: u32, body: usize, size: usize) -> Item
-        requires { ⌜ Body (now job) kind body size × (40 ≤ kind) ⌝ }
-        ensures { λ r. ⌜ Says (now (job .entry)) r (made (shape-of kind) (part (now (job .entry)) body size)) ⌝ }
+    fn bv_term(job: &[u8], kind: u32, body: usize, size: usize, front: usize, bytes: usize) -> Item
+        requires { ⌜ Body bytes (now job) kind body size front × (40 ≤ kind) ⌝ }
+        ensures { λ r. ⌜ Says (now (job .entry)) r (made bytes (shape-of kind) (part (now (job .entry)) body size)) ⌝ }
     {
-        let x = Term::number(job, body);
-        let y = Term::number(job, body + Term::NUMBER_BYTES);
-        let z = Term::number(job, body + 2 * Term::NUMBER_BYTES);
+        let first = body + front;
+        let x = Term::place(job, first, bytes);
+        let y = Term::place(job, first + bytes, bytes);
         let list = Args {
             at: body,
-            count: size / Term::NUMBER_BYTES,
+            count: size / bytes,
+            bytes: bytes,
         };
         match kind {
             40 => Item::Term(Term::BvNot(x)),
@@ -312,54 +337,60 @@ impl Term {
             54 => Item::Term(Term::BvUDiv(x, y)),
             55 => Item::Term(Term::BvURem(x, y)),
             56 => Item::Term(Term::BvConcat(list)),
-            57 => Item::Term(Term::BvExtract(x, y, z)),
-            58 => Item::Term(Term::SignExtend(x, y)),
-            60 => Item::Term(Term::ZeroExtend(x, y)),
-            61 => Item::Term(Term::RotateLeft(x, y)),
-            62 => Item::Term(Term::RotateRight(x, y)),
-            63 => Item::Term(Term::Repeat(x, y)),
+            57 => Item::Term(Term::BvExtract(
+                Term::number(job, body),
+                Term::number(job, body + Term::NUMBER_BYTES),
+                x,
+            )),
+            58 => Item::Term(Term::SignExtend(Term::number(job, body), x)),
+            60 => Item::Term(Term::ZeroExtend(Term::number(job, body), x)),
+            61 => Item::Term(Term::RotateLeft(Term::number(job, body), x)),
+            62 => Item::Term(Term::RotateRight(Term::number(job, body), x)),
+            63 => Item::Term(Term::Repeat(Term::number(job, body), x)),
             _ => Item::Unknown,
         }
     }
 
     // What a record of that kind says that is no step and no back. Its body is the `size` bytes from `body` on.
-    fn read_term(job: &[u8], kind: u32, body: usize, size: usize) -> Item
-        requires { ⌜ body + size ≤ length (now job) ⌝ }
-        ensures { λ r. ⌜ Says (now (job .entry)) r (read-term (shape-of kind) (part (now (job .entry)) body size)) ⌝ }
+    fn read_term(job: &[u8], kind: u32, body: usize, size: usize, bytes: usize) -> Item
+        requires { ⌜ (body + size ≤ length (now job)) × Length bytes ⌝ }
+        ensures { λ r. ⌜ Says (now (job .entry)) r (read-term bytes (shape-of kind) (part (now (job .entry)) body size)) ⌝ }
     {
         let Form::Known(front, least, most) = Term::form(kind) else {
             return Item::Unknown;
         };
-        if !Term::fits(size, front, least, most) {
+        if !Term::fits(size, front, least, most, bytes) {
             return Item::Misfit;
         }
         if kind < 40 {
-            Term::core_term(job, kind, body, size)
+            Term::core_term(job, kind, body, size, front, bytes)
         } else {
-            Term::bv_term(job, kind, body, size)
+            Term::bv_term(job, kind, body, size, front, bytes)
         }
     }
 
     // What a step with that body says.
-    fn read_step(job: &[u8], body: usize, size: usize) -> Item
-        requires { ⌜ body + size ≤ length (now job) ⌝ }
-        ensures { λ r. ⌜ Says (now (job .entry)) r (read-step (part (now (job .entry)) body size)) ⌝ }
+    fn read_step(job: &[u8], body: usize, size: usize, bytes: usize) -> Item
+        requires { ⌜ (body + size ≤ length (now job)) × Length bytes ⌝ }
+        ensures { λ r. ⌜ Says (now (job .entry)) r (read-step bytes (part (now (job .entry)) body size)) ⌝ }
     {
-        if !Term::fits(size, Term::NUMBER_BYTES, 0, Term::MAX_ARGUMENTS) {
+        if !Term::fits(size, Term::NUMBER_BYTES, 0, Term::MAX_ARGUMENTS, bytes) {
             return Item::Misfit;
         }
         let rule = Term::number(job, body);
         let literals = Args {
             at: body + Term::NUMBER_BYTES,
-            count: (size - Term::NUMBER_BYTES) / Term::NUMBER_BYTES,
+            count: (size - Term::NUMBER_BYTES) / bytes,
+            bytes: bytes,
         };
         Item::Step(rule, literals)
     }
 
-    // What a chain with that body says: its rule, the number of its premises, from 1 to 64, the premises, and one literal.
-    fn read_chain(job: &[u8], body: usize, size: usize) -> Item
-        requires { ⌜ body + size ≤ length (now job) ⌝ }
-        ensures { λ r. ⌜ Says (now (job .entry)) r (read-chain (part (now (job .entry)) body size)) ⌝ }
+    // What a chain with that body says: its rule, the number of its premises, from 1 to 64, the premises, which are places of steps and so numbers
+    // of two bytes, and one literal.
+    fn read_chain(job: &[u8], body: usize, size: usize, bytes: usize) -> Item
+        requires { ⌜ (body + size ≤ length (now job)) × Length bytes ⌝ }
+        ensures { λ r. ⌜ Says (now (job .entry)) r (read-chain bytes (part (now (job .entry)) body size)) ⌝ }
     {
         if size < 2 * Term::NUMBER_BYTES {
             return Item::Misfit;
@@ -373,42 +404,53 @@ impl Term {
             return Item::Misfit;
         }
         let end = 2 * Term::NUMBER_BYTES + Term::NUMBER_BYTES * count;
-        if size != end + Term::NUMBER_BYTES {
+        if size != end + bytes {
             return Item::Misfit;
         }
         let premises = Args {
             at: body + 2 * Term::NUMBER_BYTES,
             count: count,
+            bytes: Term::NUMBER_BYTES,
         };
-        Item::Chain(rule, premises, Term::number(job, body + end))
+        Item::Chain(rule, premises, Term::place(job, body + end, bytes))
     }
 
     // What a back with that body says.
-    fn read_back(job: &[u8], body: usize, size: usize) -> Item
-        requires { ⌜ body + size ≤ length (now job) ⌝ }
-        ensures { λ r. ⌜ Says (now (job .entry)) r (read-back (part (now (job .entry)) body size)) ⌝ }
+    fn read_back(job: &[u8], body: usize, size: usize, bytes: usize) -> Item
+        requires { ⌜ (body + size ≤ length (now job)) × Length bytes ⌝ }
+        ensures { λ r. ⌜ Says (now (job .entry)) r (read-back bytes (part (now (job .entry)) body size)) ⌝ }
     {
-        if size != Term::NUMBER_BYTES {
+        if size != bytes {
             return Item::Misfit;
         }
-        Item::Back(Term::number(job, body))
+        Item::Back(Term::place(job, body, bytes))
     }
 
-    // What the whole record at `at` says: 100 is a step, 101 a back, 104 a chain, and any other kind a term or unknown.
-    pub fn read(job: &[u8], at: usize) -> Item
-        requires { ⌜ whole (drop at (now job)) ≡ true ⌝ }
-        ensures says { λ r. ⌜ item-of (now (job .entry)) r ≡ read (record-at (now (job .entry)) at) ⌝ }
+    // What the whole record at `at` says, where the numbers of terms have so many bytes: 100 is a step, 101 a back, 104 a chain, and any other kind
+    // a term or unknown.
+    pub fn read_as(job: &[u8], at: usize, bytes: usize) -> Item
+        requires { ⌜ (whole (drop at (now job)) ≡ true) × Length bytes ⌝ }
+        ensures says { λ r. ⌜ item-of (now (job .entry)) r ≡ read bytes (record-at (now (job .entry)) at) ⌝ }
         ensures placed { λ r. ⌜ Placed (now (job .entry)) r ⌝ }
     {
         let size = Term::number(job, at) as usize - Term::NUMBER_BYTES;
         let kind = Term::number(job, at + Term::NUMBER_BYTES);
         let body = at + 2 * Term::NUMBER_BYTES;
         match kind {
-            100 => Term::read_step(job, body, size),
-            101 => Term::read_back(job, body, size),
-            104 => Term::read_chain(job, body, size),
-            _ => Term::read_term(job, kind, body, size),
+            100 => Term::read_step(job, body, size, bytes),
+            101 => Term::read_back(job, body, size, bytes),
+            104 => Term::read_chain(job, body, size, bytes),
+            _ => Term::read_term(job, kind, body, size, bytes),
         }
+    }
+
+    // What the whole record at `at` says, in the job's own number length.
+    pub fn read(job: &[u8], at: usize) -> Item
+        requires { ⌜ whole (drop at (now job)) ≡ true ⌝ }
+        ensures says { λ r. ⌜ item-of (now (job .entry)) r ≡ read (number-length (now (job .entry))) (record-at (now (job .entry)) at) ⌝ }
+        ensures placed { λ r. ⌜ Placed (now (job .entry)) r ⌝ }
+    {
+        Term::read_as(job, at, Term::number_length(job))
     }
 
     // Argument i of a list.
@@ -416,8 +458,23 @@ impl Term {
         requires { ⌜ Inside (now job) list × (i < list .count) ⌝ }
         ensures { λ r. ⌜ r ≡ getD (words-in (now (job .entry)) list) i 0 ⌝ }
     {
-        let at = list.at;
-        Term::number(job, at + Term::NUMBER_BYTES * i)
+        let start = list.at;
+        let bytes = list.bytes;
+        let at = start + bytes * i;
+        // Byte by byte: a loop over so few is several times as long, in every caller.
+        let one = wide(job[at]);
+        if bytes == 1 {
+            return one as u32;
+        }
+        let two = one + 256 * wide(job[at + 1]);
+        if bytes == 2 {
+            return two as u32;
+        }
+        let three = two + 65536 * wide(job[at + 2]);
+        if bytes == 3 {
+            return three as u32;
+        }
+        (three + 16777216 * wide(job[at + 3])) as u32
     }
 
     // Is each number of a list below n?

@@ -9,7 +9,7 @@ use lib.Dec.{eqb, ltb}
 use lib.ListN.{length, length-append}
 use lib.Seq.{drop-at}
 use borrow.Author.Tests.{le-leb, eq-eqb, ne-eqb, ltb-true}
-use Rattle.theory.specs.Limit.{value-bytes}
+use Rattle.theory.specs.Limit.{value-bytes, number-bytes}
 use Rattle.theory.specs.Kind.{Op, True, False, Not, And, Or, Xor, Equals, Ite, BoolVar, BvVar, Const, BvBitOf, BvBbTerm, BvNot, BvNeg, BvAnd, BvOr, BvXor, BvAdd, BvMul, BvXNor, BvComp, BvULt, BvSLt, BvShl, BvLShr, BvAShr, BvUDiv, BvURem, BvConcat, BvExtract, SignExtend, ZeroExtend, RotateLeft, RotateRight, Repeat, kind, arity, takes}
 use Rattle.theory.specs.Record.{Bytes, little-endian, word, words, bytes-of, word-bytes, kind-of, body-of, fits, arguments, Shape, plain, indexed, twice-indexed, valued, front, make, shape-of, term, step, misfit, read, read-term, read-step, read-chain, read-back}
 use Rattle.theory.specs.Codes.{all-below}
@@ -50,7 +50,7 @@ pub words-length : (ks : List ℕ) → length (words-bytes ks) ≡ 2 * length ks
 words-length [] = refl
 words-length (k ∷ ks) = let e = words-length ks in omega arith
 
-pub words-back : (ks : List ℕ) → all-below number-end ks ≡ true → words (length ks) (words-bytes ks) ≡ ks
+pub words-back : (ks : List ℕ) → all-below number-end ks ≡ true → words number-bytes (length ks) (words-bytes ks) ≡ ks
 words-back [] h = refl
 words-back (k ∷ ks) h =
     let p = and-true (ltb k number-end) (all-below number-end ks) h in
@@ -145,7 +145,7 @@ formed (RotateRight n) h k = formed-indexed RotateRight n h refl refl (omega ari
 formed (Repeat n) h k = formed-indexed Repeat n h refl refl (omega arith) (omega arith)
 
 -- ---- what the record of a term says
-fits-all : (n : ℕ) (allowed : ℕ → Bool) (xs : Bytes) (ks : List ℕ) → length xs ≡ n → allowed (length ks) ≡ true → fits n allowed (xs ++ words-bytes ks) ≡ true
+fits-all : (n : ℕ) (allowed : ℕ → Bool) (xs : Bytes) (ks : List ℕ) → length xs ≡ n → allowed (length ks) ≡ true → fits number-bytes n allowed (xs ++ words-bytes ks) ≡ true
 fits-all n allowed xs ks e a =
     let l : length (xs ++ words-bytes ks) ≡ n + 2 * length ks = length-append xs (words-bytes ks) ∙ (let w = words-length ks in omega arith) in
     let d : (length (xs ++ words-bytes ks) - n) % 2 ≡ 0 = omega arith in
@@ -153,21 +153,21 @@ fits-all n allowed xs ks e a =
     let m : n ≤ length (xs ++ words-bytes ks) = omega arith in
     rw (le-leb n (length (xs ++ words-bytes ks)) m, eq-eqb ((length (xs ++ words-bytes ks) - n) % 2) 0 d, h) a
 
-arguments-all : (n : ℕ) (xs : Bytes) (ks : List ℕ) → length xs ≡ n → all-below number-end ks ≡ true → arguments n (xs ++ words-bytes ks) ≡ ks
+arguments-all : (n : ℕ) (xs : Bytes) (ks : List ℕ) → length xs ≡ n → all-below number-end ks ≡ true → arguments number-bytes n (xs ++ words-bytes ks) ≡ ks
 arguments-all n xs ks e a =
     let l : length (xs ++ words-bytes ks) ≡ n + 2 * length ks = length-append xs (words-bytes ks) ∙ (let w = words-length ks in omega arith) in
     let h : (length (xs ++ words-bytes ks) - n) / 2 ≡ length ks = omega arith in
-    ap₂ (λ (m : ℕ) (b : Bytes). words m b) h (drop-at xs (words-bytes ks) n e) ∙ words-back ks a
+    ap₂ (λ (m : ℕ) (b : Bytes). words number-bytes m b) h (drop-at xs (words-bytes ks) n e) ∙ words-back ks a
 
 -- by its shape: the front is xs
 said : (s : Shape) (o : Op) (xs : Bytes) (ks : List ℕ) → length xs ≡ front s → make s (xs ++ words-bytes ks) ≡ o → takes (arity o) (length ks) ≡ true → all-below number-end ks ≡ true
-    → read-term (some s) (xs ++ words-bytes ks) ≡ term o ks
+    → read-term number-bytes (some s) (xs ++ words-bytes ks) ≡ term o ks
 said s o xs ks e m t a =
-    ap (λ (p : Op). cond (fits (front s) (takes (arity p)) (xs ++ words-bytes ks)) (term p (arguments (front s) (xs ++ words-bytes ks))) misfit) m
+    ap (λ (p : Op). cond (fits number-bytes (front s) (takes (arity p)) (xs ++ words-bytes ks)) (term p (arguments number-bytes (front s) (xs ++ words-bytes ks))) misfit) m
     ∙ ap₂ (λ (b : Bool) (l : List ℕ). cond b (term o l) misfit) (fits-all (front s) (takes (arity o)) xs ks e t) (arguments-all (front s) xs ks e a)
 
 by-front : (o : Op) (s : Shape) (ks : List ℕ) (xs : Bytes) → shape-of (kind o) ≡ some s → front-bytes o ≡ xs → 2 ≤ kind o → kind o < 100
-    → read-term (some s) (xs ++ words-bytes ks) ≡ term o ks → read (term-record o ks) ≡ term o ks
+    → read-term number-bytes (some s) (xs ++ words-bytes ks) ≡ term o ks → read number-bytes (term-record o ks) ≡ term o ks
 unfolding read term-record
 by-front o s ks xs e f lo hi d =
     let r = record-of (kind o) (front-bytes o ++ words-bytes ks) in
@@ -175,13 +175,13 @@ by-front o s ks xs e f lo hi d =
     let a : eqb (kind-of r) 100 ≡ false = ne-eqb (kind-of r) 100 (λ q. omega arith) in
     let b : eqb (kind-of r) 104 ≡ false = ne-eqb (kind-of r) 104 (λ q. omega arith) in
     let c : eqb (kind-of r) 101 ≡ false = ne-eqb (kind-of r) 101 (λ q. omega arith) in
-    let t = read-term (shape-of (kind-of r)) (body-of r) in
-    ap (λ (x : Bool). cond x (read-step (body-of r)) (cond (eqb (kind-of r) 104) (read-chain (body-of r)) (cond (eqb (kind-of r) 101) (read-back (body-of r)) t))) a
-    ∙ ap₂ (λ (x y : Bool). cond x (read-chain (body-of r)) (cond y (read-back (body-of r)) t)) b c
-    ∙ ap₂ (λ (q : Option Shape) (x : Bytes). read-term q (x ++ words-bytes ks)) (ap shape-of k ∙ e) f ∙ d
+    let t = read-term number-bytes (shape-of (kind-of r)) (body-of r) in
+    ap (λ (x : Bool). cond x (read-step number-bytes (body-of r)) (cond (eqb (kind-of r) 104) (read-chain number-bytes (body-of r)) (cond (eqb (kind-of r) 101) (read-back number-bytes (body-of r)) t))) a
+    ∙ ap₂ (λ (x y : Bool). cond x (read-chain number-bytes (body-of r)) (cond y (read-back number-bytes (body-of r)) t)) b c
+    ∙ ap₂ (λ (q : Option Shape) (x : Bytes). read-term number-bytes q (x ++ words-bytes ks)) (ap shape-of k ∙ e) f ∙ d
 
 module _ (ks : List ℕ) (a : all-below number-end ks ≡ true) where
-  by-form : {o : Op} → Formed o → takes (arity o) (length ks) ≡ true → read (term-record o ks) ≡ term o ks
+  by-form : {o : Op} → Formed o → takes (arity o) (length ks) ≡ true → read number-bytes (term-record o ks) ≡ term o ks
   by-form (formed-plain o e f lo hi) t = by-front o (plain o) ks [] e f lo hi (said (plain o) o [] ks refl refl t a)
   by-form (formed-indexed f x h e g lo hi) t =
       by-front (f x) (indexed f) ks (word-bytes x) e g lo hi (said (indexed f) (f x) (word-bytes x) ks refl (ap f (word-back x (words-bytes ks) h)) t a)
@@ -193,11 +193,11 @@ module _ (ks : List ℕ) (a : all-below number-end ks ≡ true) where
       (said (valued f) (f x y) (word-bytes x ++ bytes-of value-bytes y) ks refl (ap₂ f (word-back x (bytes-of value-bytes y ++ words-bytes ks) h) (value-back y j)) t a)
 
 -- A TERM'S RECORD SAYS THE TERM
-pub term-says : (o : Op) (ks : List ℕ) → Fit o → 2 ≤ kind o → takes (arity o) (length ks) ≡ true → all-below number-end ks ≡ true → read (term-record o ks) ≡ term o ks
+pub term-says : (o : Op) (ks : List ℕ) → Fit o → 2 ≤ kind o → takes (arity o) (length ks) ≡ true → all-below number-end ks ≡ true → read number-bytes (term-record o ks) ≡ term o ks
 term-says o ks f k t a = by-form ks a (formed o f k) t
 
 -- A STEP'S RECORD SAYS THE STEP
-pub step-says : (rule literal : ℕ) → rule < number-end → literal < number-end → read (step-record rule literal) ≡ step rule (literal ∷ [])
+pub step-says : (rule literal : ℕ) → rule < number-end → literal < number-end → read number-bytes (step-record rule literal) ≡ step rule (literal ∷ [])
 unfolding read step-record
 step-says rule literal h k =
     ap₂ (λ (x y : ℕ). step x (y ∷ [])) (word-back rule (word-bytes literal) h) (word-back literal [] k)

@@ -9,7 +9,7 @@ use lib.Dec.{T, leb, eqb, eqb→eq}
 use lib.Ieee.Fits.{and-l, and-r}
 use lib.Seq.{drop-append-le, getD-append-seam}
 use lib.ListN.{length, drop, getElem?, length-append, length-drop, length-map}
-use Rattle.theory.specs.Limit.{first-terms, value-bytes}
+use Rattle.theory.specs.Limit.{first-terms, value-bytes, number-bytes}
 use Rattle.theory.specs.Kind.{Op, True, False, kind, indices}
 use Rattle.theory.specs.Term.{Term, node, nil, same-numbers}
 use Rattle.theory.specs.Record.{Bytes, AllBytes, word, bytes-of, word-bytes, records-of, kind-of, step-kind, Item, term, read, is-step, step-count}
@@ -38,8 +38,8 @@ bytes-on es = map (λ e. e .bytes) es
 -- a job's list: the records fed, in order
 pub record Holds (job : Bytes) (list : Plain) : Type 0 where
   pub clean : Clean job
-  pub list-is : foldl feed start (records-of job) ≡ list
-  pub well : WellKept list
+  pub list-is : foldl (feed number-bytes) start (records-of job) ≡ list
+  pub well : WellKept number-bytes list
   pub same : kept job ≡ bytes-on (drop first-terms list)
 
 -- a longer list
@@ -96,7 +96,7 @@ place-none r (x ∷ es) p e t = go (same-numbers r (x .bytes)) refl (place-none 
     go false f ih d false s t = ih d t
 
 -- the first two have no record
-past-two : (list : Plain) (r : Bytes) → WellKept list → (r ≡ [] → ⊥) → T (has list r) → T (has (drop first-terms list) r)
+past-two : (list : Plain) (r : Bytes) → WellKept number-bytes list → (r ≡ [] → ⊥) → T (has list r) → T (has (drop first-terms list) r)
 past-two [] r w n t = t
 past-two (a ∷ []) r w n t = absurd (none-some (entry (node False nil) []) (w .is-false))
 past-two (a ∷ b ∷ es) r w n t =
@@ -113,7 +113,7 @@ drop-two [] j = refl
 drop-two (a ∷ []) j = let e : 2 + j ≡ suc (suc j) = omega arith in sym (ap (getElem? (a ∷ [])) e)
 drop-two (a ∷ b ∷ es) j = let e : 2 + j ≡ suc (suc j) = omega arith in sym (ap (getElem? (a ∷ b ∷ es)) e)
 
-pub two-long : (list : Plain) → WellKept list → 2 ≤ length list
+pub two-long : (list : Plain) → WellKept number-bytes list → 2 ≤ length list
 two-long list w = getElem-lt list 1 _ (w .is-false)
 
 -- as many kept records as places after the first two
@@ -127,7 +127,7 @@ kept-length {job} {list} h =
 -- ---- a term's record is put, or is there
 -- a record that says the term o of arguments on the list
 pub record Says (list : Plain) (r : Bytes) (o : Op) (ks : List ℕ) : Type 0 where
-  pub says : read r ≡ term o ks
+  pub says : read number-bytes r ≡ term o ks
   pub sound : Sound r
   pub lone : Lone r
   pub no-step : kind-of r ≡ step-kind → ⊥
@@ -137,14 +137,14 @@ pub record Says (list : Plain) (r : Bytes) (o : Op) (ks : List ℕ) : Type 0 whe
 pub record Grows (old new : Bytes) : Type 0 where
   pub records : List Bytes
   pub are : records-of new ≡ records-of old ++ records
-  pub no-steps : step-count records ≡ 0
+  pub no-steps : step-count number-bytes records ≡ 0
 
-pub count-append : (xs ys : List Bytes) → step-count (xs ++ ys) ≡ step-count xs + step-count ys
+pub count-append : (xs ys : List Bytes) → step-count number-bytes (xs ++ ys) ≡ step-count number-bytes xs + step-count number-bytes ys
 count-append [] ys = omega arith
-count-append (x ∷ xs) ys = go (is-step (read x)) (count-append xs ys)
+count-append (x ∷ xs) ys = go (is-step (read number-bytes x)) (count-append xs ys)
   where
-    go : (b : Bool) → step-count (xs ++ ys) ≡ step-count xs + step-count ys
-        → cond b (suc (step-count (xs ++ ys))) (step-count (xs ++ ys)) ≡ cond b (suc (step-count xs)) (step-count xs) + step-count ys
+    go : (b : Bool) → step-count number-bytes (xs ++ ys) ≡ step-count number-bytes xs + step-count number-bytes ys
+        → cond b (suc (step-count number-bytes (xs ++ ys))) (step-count number-bytes (xs ++ ys)) ≡ cond b (suc (step-count number-bytes xs)) (step-count number-bytes xs) + step-count number-bytes ys
     go true e = omega arith
     go false e = e
 
@@ -179,7 +179,7 @@ module _ {job : Bytes} {list : Plain} (h : Holds job list) {r : Bytes} {o : Op} 
       let g : getElem? list k ≡ some (a .at-entry) = ap (getElem? list) w ∙ sym (drop-two list (a .off)) ∙ a .there in
       let l : k < length list = getElem-lt list k (a .at-entry) g in
       let c = h .well .kept k (a .at-entry) (omega arith) g in
-      let q : term (c .op) (c .args) ≡ term o ks = sym (c .says) ∙ ap read (a .is-r) ∙ s .says in
+      let q : term (c .op) (c .args) ≡ term o ks = sym (c .says) ∙ ap (read number-bytes) (a .is-r) ∙ s .says in
       let qo : c .op ≡ o = cc in
       let qa : c .args ≡ ks = cc in
       let te : tree-at list k ≡ a .at-entry .tree = ap (λ (x : Entry). x .tree) (some-inj _ _ (sym (getElem-of list k (entry (node True nil) []) l) ∙ g)) in
@@ -189,7 +189,7 @@ module _ {job : Bytes} {list : Plain} (h : Holds job list) {r : Bytes} {o : Op} 
   new-entry : Entry
   new-entry = entry (tree-of list o ks) r
 
-  fed-more : place-from first-terms r (kept job) ≡ none → feed list r ≡ list ++ (new-entry ∷ [])
+  fed-more : place-from first-terms r (kept job) ≡ none → feed number-bytes list r ≡ list ++ (new-entry ∷ [])
   unfolding feed new-entry
   fed-more e =
       let n : T (has list r) → ⊥ = λ t. place-none r (drop first-terms list) first-terms (ap (place-from first-terms r) (sym (h .same)) ∙ e) (past-two list r (h .well) (some-bytes r (s .sound)) t) in
@@ -213,8 +213,8 @@ module _ {job : Bytes} {list : Plain} (h : Holds job list) {r : Bytes} {o : Op} 
         after = list′;
         holds = record {
           clean = clean-more job r (h .clean) (s .lone);
-          list-is = ap (foldl feed start) (records-more job r (h .clean) (s .lone)) ∙ foldl-append feed start (records-of job) (r ∷ [])
-              ∙ ap (λ (x : Plain). feed x r) (h .list-is) ∙ fed-more e;
+          list-is = ap (foldl (feed number-bytes) start) (records-more job r (h .clean) (s .lone)) ∙ foldl-append (feed number-bytes) start (records-of job) (r ∷ [])
+              ∙ ap (λ (x : Plain). feed number-bytes x r) (h .list-is) ∙ fed-more e;
           well = snoc-well list r o ks (h .well) (s .sound) (s .says) (s .below) n;
           same = kept-more job r (h .clean) (s .lone) (s .no-step) ∙ ap (λ (x : List Bytes). x ++ (r ∷ [])) (h .same)
               ∙ sym (ap bytes-on (drop-append-le 2 list (new-entry ∷ []) two) ∙ map-append (λ (x : Entry). x .bytes) (drop 2 list) (new-entry ∷ []));

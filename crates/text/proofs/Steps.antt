@@ -9,6 +9,7 @@ use lib.Dec.{leb, ltb}
 use lib.ListN.{length, take, getElem?, length-append}
 use lib.Seq.{take-append-le, take-all}
 use borrow.Author.Tests.{ltb-true}
+use Rattle.theory.specs.Limit.{number-bytes}
 use Rattle.theory.specs.Term.{Term, node, nil, same-numbers}
 use Rattle.theory.specs.Optional.{either, is-some}
 use Rattle.theory.specs.RuleTable.{Rule}
@@ -43,9 +44,9 @@ stays {old} {new} more e k s w =
       bytes = w .bytes;
       place = w .place;
       stands = ap (λ (rs : List Bytes). getElem? rs (w .m)) e ∙ getElem-old (records-of old) more (w .m) l ∙ w .stands;
-      kth = ap step-count t ∙ w .kth;
+      kth = ap (step-count number-bytes) t ∙ w .kth;
       says = w .says;
-      literal = ap (λ (rs : List Bytes). at-place (foldl feed start rs) (w .place)) t ∙ w .literal;
+      literal = ap (λ (rs : List Bytes). at-place (foldl (feed number-bytes) start rs) (w .place)) t ∙ w .literal;
     }
 
 -- ---- between two lines
@@ -54,7 +55,7 @@ record Sofar (s : State) (steps : List Step) : Type 0 where
   holds : Holds (s .job) list
   fits : AllFit (s .declared)
   few : length (s .declared) ≤ number-end
-  counted : step-count (records-of (s .job)) ≡ length steps
+  counted : step-count number-bytes (records-of (s .job)) ≡ length steps
   each : (k : ℕ) (x : Step) → getElem? steps k ≡ some x → StepWritten (s .job) k x
 
 at-start : Sofar convert.start []
@@ -69,8 +70,8 @@ at-start = record {
 }
 
 -- the job has grown by terms
-counted-on : {old new : Bytes} → Grows old new → step-count (records-of new) ≡ step-count (records-of old)
-counted-on {old} {new} g = ap step-count (g .are) ∙ count-append (records-of old) (g .records) ∙ (let z = g .no-steps in omega arith)
+counted-on : {old new : Bytes} → Grows old new → step-count number-bytes (records-of new) ≡ step-count number-bytes (records-of old)
+counted-on {old} {new} g = ap (step-count number-bytes) (g .are) ∙ count-append (records-of old) (g .records) ∙ (let z = g .no-steps in omega arith)
 
 -- ---- a declaration
 fit-more : (ds : List Declared) (d : Declared) → AllFit ds → ((n : ℕ) → d .width ≡ some n → n < number-end) → AllFit (ds ++ (d ∷ []))
@@ -158,9 +159,9 @@ rule-fits bs n e =
 
 -- the step after its literal
 module _ {job : Bytes} {list : Plain} {p : Placed} {t : Term} (w : Stood job list p t) (rule : ℕ) (rl : rule < number-end) (room : ℕ) where
-  after-step : (steps : List Step) → step-count (records-of job) ≡ length steps → ((k : ℕ) (x : Step) → getElem? steps k ≡ some x → StepWritten job k x)
+  after-step : (steps : List Step) → step-count number-bytes (records-of job) ≡ length steps → ((k : ℕ) (x : Step) → getElem? steps k ≡ some x → StepWritten job k x)
       → (j : Bytes) → put-step room rule p ≡ some j
-      → Holds j (w .after) × (step-count (records-of j) ≡ length (steps ++ (a-step t rule ∷ [])))
+      → Holds j (w .after) × (step-count number-bytes (records-of j) ≡ length (steps ++ (a-step t rule ∷ [])))
       × ((k : ℕ) (x : Step) → getElem? (steps ++ (a-step t rule ∷ [])) k ≡ some x → StepWritten j k x)
   unfolding put-step step-record feed
   after-step steps c each j e =
@@ -171,34 +172,34 @@ module _ {job : Bytes} {list : Plain} {p : Placed} {t : Term} (w : Stood job lis
       let sz : 2 + 4 < number-end = omega arith in
       let lone : Lone r = record-lone step-kind (words-bytes (rule ∷ p .number ∷ [])) sz in
       let kd : kind-of r ≡ step-kind = record-kind step-kind (words-bytes (rule ∷ p .number ∷ [])) (omega arith) in
-      let says : read r ≡ step rule (p .number ∷ []) = step-says rule (p .number) rl pl in
+      let says : read number-bytes r ≡ step rule (p .number ∷ []) = step-says rule (p .number) rl pl in
       let h = w .holds in
       let q : p .job ++ r ≡ j = some-inj _ j (a .1) in
       let more : records-of (p .job ++ r) ≡ records-of (p .job) ++ (r ∷ []) = records-more (p .job) r (h .clean) lone in
-      let fed : feed (w .after) r ≡ w .after = ap (feed-item (w .after) r) says in
+      let fed : feed number-bytes (w .after) r ≡ w .after = ap (feed-item (w .after) r) says in
       let m = length (records-of (p .job)) in
       let before : take m (records-of (p .job ++ r)) ≡ records-of (p .job) = ap (take m) more ∙ take-append-le m (records-of (p .job)) (r ∷ []) (omega arith) ∙ take-all m (records-of (p .job)) (omega arith) in
-      let old : step-count (records-of (p .job)) ≡ length steps = counted-on (w .grows) ∙ c in
-      let one : step-count (r ∷ []) ≡ 1 = ap (λ (i : Item). cond (is-step i) 1 0) says in
+      let old : step-count number-bytes (records-of (p .job)) ≡ length steps = counted-on (w .grows) ∙ c in
+      let one : step-count number-bytes (r ∷ []) ≡ 1 = ap (λ (i : Item). cond (is-step i) 1 0) says in
       let ls : length (steps ++ (a-step t rule ∷ [])) ≡ length steps + 1 = length-append steps (a-step t rule ∷ []) in
       let new : StepWritten (p .job ++ r) (length steps) (a-step t rule) = record {
         m = m;
         bytes = r;
         place = p .number;
         stands = ap (λ (rs : List Bytes). getElem? rs m) more ∙ getElem-seam (records-of (p .job)) r [];
-        kth = ap step-count before ∙ old;
+        kth = ap (step-count number-bytes) before ∙ old;
         says = says;
-        literal = ap (λ (rs : List Bytes). at-place (foldl feed start rs) (p .number)) before ∙ ap (λ (x : Plain). at-place x (p .number)) (h .list-is)
+        literal = ap (λ (rs : List Bytes). at-place (foldl (feed number-bytes) start rs) (p .number)) before ∙ ap (λ (x : Plain). at-place x (p .number)) (h .list-is)
             ∙ at-place-is (w .after) (p .number) (w .inside) ∙ ap some (w .tree);
       } in
       let ready : Holds (p .job ++ r) (w .after) = record {
         clean = clean-more (p .job) r (h .clean) lone;
-        list-is = ap (foldl feed start) more ∙ foldl-append feed start (records-of (p .job)) (r ∷ []) ∙ ap (λ (x : Plain). feed x r) (h .list-is) ∙ fed;
+        list-is = ap (foldl (feed number-bytes) start) more ∙ foldl-append (feed number-bytes) start (records-of (p .job)) (r ∷ []) ∙ ap (λ (x : Plain). feed number-bytes x r) (h .list-is) ∙ fed;
         well = h .well;
         same = kept-step (p .job) r (h .clean) lone kd ∙ h .same;
       } in (
         subst (λ (x : Bytes). Holds x (w .after)) q ready,
-        ap (λ (x : Bytes). step-count (records-of x)) (sym q) ∙ ap step-count more ∙ count-append (records-of (p .job)) (r ∷ []) ∙ omega arith,
+        ap (λ (x : Bytes). step-count number-bytes (records-of x)) (sym q) ∙ ap (step-count number-bytes) more ∙ count-append (records-of (p .job)) (r ∷ []) ∙ omega arith,
         λ k x d. subst (λ (y : Bytes). StepWritten y k x) q (snoc-elim steps (a-step t rule) k x d
             (λ o. stays {old = p .job} {new = p .job ++ r} (r ∷ []) more k x (stays {old = job} {new = p .job} (w .grows .records) (w .grows .are) k x (each k x o)))
             (λ i z. subst (StepWritten (p .job ++ r) k) z (subst (λ (y : ℕ). StepWritten (p .job ++ r) y (a-step t rule)) (sym i) new))),

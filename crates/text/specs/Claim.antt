@@ -6,7 +6,7 @@ use Prim.Native.Nat.{ℕ}
 use lib.ListN.{length, take, getElem?}
 use Rattle.theory.specs.Term.{Term}
 use Rattle.theory.specs.Optional.{either}
-use Rattle.theory.specs.Record.{Bytes, records-of, ending, step, read, step-count}
+use Rattle.theory.specs.Record.{Bytes, records-of, ending, step, read, step-count, number-length}
 use Rattle.theory.specs.Plain.{plain-after, at-place}
 use Rattle.text.specs.Tokens.{ascii, left, word, after}
 use Rattle.text.specs.Reading.{bind, Declared, declaration, Step, step-front, read-term, max-nesting, step-back}
@@ -47,14 +47,14 @@ pub record StepWritten (job : Bytes) (k : ℕ) (s : Step) : Type 0 where
   pub bytes : Bytes
   pub place : ℕ
   pub stands : getElem? (records-of job) m ≡ some bytes
-  pub kth : step-count (take m (records-of job)) ≡ k
-  pub says : read bytes ≡ step (s .rule) (place ∷ [])
+  pub kth : step-count (number-length job) (take m (records-of job)) ≡ k
+  pub says : read (number-length job) bytes ≡ step (s .rule) (place ∷ [])
   pub literal : at-place (plain-after m job) place ≡ some (s .literal)
 
 -- the job is whole records, and has these steps in order and no other
 pub record StepsWritten (job : Bytes) (steps : List Step) : Type 0 where
   pub whole : ending job ≡ 0
-  pub counted : step-count (records-of job) ≡ length steps
+  pub counted : step-count (number-length job) (records-of job) ≡ length steps
   pub each : (k : ℕ) (s : Step) → getElem? steps k ≡ some s → StepWritten job k s
 
 -- ---- the work memory

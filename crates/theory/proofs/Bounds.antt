@@ -3,16 +3,18 @@ use mathlib.Core.Path.{_≡_, sym, subst, _∙_}
 use mathlib.Core.Bool.{Bool, true, false, cond}
 use mathlib.Core.List.{List, [], _∷_, _++_, map}
 use Prim.Native.Nat.{ℕ, zero, suc, _+_, _-_, _*_, _<_, _≤_, max}
+use native.Mathlib.Nat.{add-zero, le-trans, mul-le-mul-left}
+use native.Mathlib.Numerals.{add-one}
 use native.Mathlib.Omega.{arith}
 use lib.Dec.{T, leb, ltb, eqb, ltb→lt, leb→le}
 use lib.Ieee.Fits.{and-l, and-r}
 use lib.ListN.{length, take, length-append, length-take}
-use Rattle.theory.specs.Limit.{number-bytes, Limits, capped, first-terms, term-bytes, answer-bytes}
+use Rattle.theory.specs.Limit.{Limits, capped, first-terms, term-bytes, answer-bytes}
 use Rattle.theory.specs.Kind.{Op, True, False, kind}
 use Rattle.theory.specs.Term.{Term, node, nil, from-list}
 use Rattle.theory.specs.Sort.{Sort, first, sorts-of}
 use Rattle.theory.specs.Depth.{gate-kind, depth-op, depth, deepest}
-use Rattle.theory.specs.Record.{Bytes, AllBytes, records-of, Item, term, step, back, unknown, misfit, read, is-step, step-count, chain}
+use Rattle.theory.specs.Record.{Bytes, AllBytes, records-of, Item, term, step, back, unknown, misfit, read, is-step, step-count, chain, number-length}
 use Rattle.theory.specs.Plain.{Plain, entry, has, feed, plain-after}
 use Rattle.theory.specs.Codes.{first-fault, all-below, room, tests, fault}
 use Rattle.theory.specs.Job.{run}
@@ -23,51 +25,64 @@ use Rattle.theory.proofs.Run.{step-passed, chain-passed, fed, ran, plai
 use Rattle.theory.proofs.Distinct.{WellKept, tree-0, tree-1, kept-at, plain-well}
 
 -- ---- the memories
-pub record TermsFit (limits : Limits) (work : ℕ) (list : Plain) : Type 0 where
+pub record TermsFit (b : ℕ) (limits : Limits) (work : ℕ) (list : Plain) : Type 0 where
   pub first-there : first-terms ≤ length list
-  pub terms-fit : term-bytes number-bytes * (length list - first-terms) ≤ work
+  pub terms-fit : term-bytes b * (length list - first-terms) ≤ work
   pub numbers-fit : length list ≤ max first-terms (capped limits .terms)
 
-feed-fits : (limits : Limits) (work space : ℕ) (list : Plain) (answered : ℕ) (r : Bytes) → fault limits work space list answered r ≡ 0 → TermsFit limits work list → TermsFit limits work (feed list r)
-feed-fits limits work space list answered r e f =
+feed-fits : (b : ℕ) (limits : Limits) (work space : ℕ) (list : Plain) (answered : ℕ) (r : Bytes) → fault b limits work space list answered r ≡ 0 → TermsFit b limits work list
+    → TermsFit b limits work (feed b list r)
+feed-fits b limits work space list answered r e f =
     let a = f .first-there in
-    let b = f .terms-fit in
     let c = f .numbers-fit in
-    fed (TermsFit limits work) limits work space list answered r e f
+    fed (TermsFit b limits work) b limits work space list answered r e f
     (λ o ks d p n.
-    let t = or-not (has list r) (room (capped limits) work list) (p .roomy) n in
-    let u = leb→le (term-bytes number-bytes * (suc (length list) - first-terms)) work (and-l (leb (term-bytes number-bytes * (suc (length list) - first-terms)) work) _ t) in
-    let v = ltb→lt (length list) (capped limits .terms) (and-r (leb (term-bytes number-bytes * (suc (length list) - first-terms)) work) _ t) in
-    let l : length (list ++ (entry (tree-of list o ks) r ∷ [])) ≡ length list + 1 = length-append list (entry (tree-of list o ks) r ∷ []) in
-    record { first-there = omega arith; terms-fit = omega arith; numbers-fit = omega arith })
+    let t = or-not (has list r) (room b (capped limits) work list) (p .roomy) n in
+    let u = leb→le (term-bytes b * (suc (length list) - first-terms)) work (and-l (leb (term-bytes b * (suc (length list) - first-terms)) work) _ t) in
+    let v = ltb→lt (length list) (capped limits .terms) (and-r (leb (term-bytes b * (suc (length list) - first-terms)) work) _ t) in
+    let l : length (list ++ (entry (tree-of list o ks) r ∷ [])) ≡ suc (length list) = length-append list (entry (tree-of list o ks) r ∷ []) ∙ add-one (length list) in
+    record { first-there = omega arith; terms-fit = subst (λ (k : ℕ). term-bytes b * (k - first-terms) ≤ work) (sym l) u; numbers-fit = omega arith })
     (λ n h k.
     let l : length (take n list) ≡ n = length-take n list ∙ omega arith in
-    record { first-there = omega arith; terms-fit = omega arith; numbers-fit = omega arith })
+    record { first-there = omega arith; terms-fit = fewer (term-bytes b) (length (take n list)) (length list) work (omega arith) (f .terms-fit); numbers-fit = omega arith })
+  where
+    fewer : (c m n work : ℕ) → m ≤ n → c * (n - first-terms) ≤ work → c * (m - first-terms) ≤ work
+    fewer c m n work h l = le-trans (mul-le-mul-left c (omega arith)) l
 
 -- one more step has room for its answer
-step-fits : (limits : Limits) (work space : ℕ) (list : Plain) (answered : ℕ) (r : Bytes) → fault limits work space list answered r ≡ 0 → answer-bytes * answered ≤ space
-    → answer-bytes * (answered + cond (is-step (read r)) 1 0) ≤ space
+step-fits : (b : ℕ) (limits : Limits) (work space : ℕ) (list : Plain) (answered : ℕ) (r : Bytes) → fault b limits work space list answered r ≡ 0 → answer-bytes b * answered ≤ space
+    → answer-bytes b * (answered + cond (is-step (read b r)) 1 0) ≤ space
 unfolding fault
-step-fits limits work space list answered r e f = go (read r) e
+step-fits b limits work space list answered r e f = go (read b r) e
   where
-    go : (i : Item) → first-fault (tests limits work space list answered r i) ≡ 0 → answer-bytes * (answered + cond (is-step i) 1 0) ≤ space
-    go (step n ks) d = let p = step-passed limits work space list answered r n ks d .roomy in omega arith
-    go (chain n ps k) d = let p = chain-passed limits work space list answered r n ps k d .roomy in omega arith
-    go (term o ks) d = omega arith
-    go (back n) d = omega arith
-    go unknown d = omega arith
-    go misfit d = omega arith
+    none-more : answer-bytes b * (answered + 0) ≤ space
+    none-more = subst (λ (k : ℕ). answer-bytes b * k ≤ space) (sym (add-zero answered)) f
+
+    one-more : answer-bytes b * suc answered ≤ space → answer-bytes b * (answered + 1) ≤ space
+    one-more p = subst (λ (k : ℕ). answer-bytes b * k ≤ space) (sym (add-one answered)) p
+
+    go : (i : Item) → first-fault (tests b limits work space list answered r i) ≡ 0 → answer-bytes b * (answered + cond (is-step i) 1 0) ≤ space
+    go (step n ks) d = one-more (step-passed b limits work space list answered r n ks d .roomy)
+    go (chain n ps k) d = one-more (chain-passed b limits work space list answered r n ps k d .roomy)
+    go (term o ks) d = none-more
+    go (back n) d = none-more
+    go unknown d = none-more
+    go misfit d = none-more
 
 module _ (limits : Limits) (job : Bytes) (work space : ℕ) where
-  pub terms-fit : (m : ℕ) → m ≤ run limits job work space .records → TermsFit limits work (plain-after m job)
-  terms-fit =
-      plain-ind limits job work space (λ m. TermsFit limits work (plain-after m job)) (record { first-there = omega arith; terms-fit = omega arith; numbers-fit = omega arith })
-      (λ m r l e p f. subst (TermsFit limits work) (sym (plain-next limits job work space m r e)) (feed-fits limits work space (plain-after m job) (step-count (take m (records-of job))) r p f))
+  -- the bytes of a term's number
+  abbrev b : ℕ
+  b = number-length job
 
-  answers-fit : (m : ℕ) → m ≤ run limits job work space .records → answer-bytes * step-count (take m (records-of job)) ≤ space
+  pub terms-fit : (m : ℕ) → m ≤ run limits job work space .records → TermsFit b limits work (plain-after m job)
+  terms-fit =
+      plain-ind limits job work space (λ m. TermsFit b limits work (plain-after m job)) (record { first-there = omega arith; terms-fit = omega arith; numbers-fit = omega arith })
+      (λ m r l e p f. subst (TermsFit b limits work) (sym (plain-next limits job work space m r e)) (feed-fits b limits work space (plain-after m job) (step-count b (take m (records-of job))) r p f))
+
+  answers-fit : (m : ℕ) → m ≤ run limits job work space .records → answer-bytes b * step-count b (take m (records-of job)) ≤ space
   answers-fit =
-      plain-ind limits job work space (λ m. answer-bytes * step-count (take m (records-of job)) ≤ space) (omega arith)
-      (λ m r l e p f. subst (λ (k : ℕ). answer-bytes * k ≤ space) (sym (count-next limits job work space m r e)) (step-fits limits work space (plain-after m job) (step-count (take m (records-of job))) r p f))
+      plain-ind limits job work space (λ m. answer-bytes b * step-count b (take m (records-of job)) ≤ space) (omega arith)
+      (λ m r l e p f. subst (λ (k : ℕ). answer-bytes b * k ≤ space) (sym (count-next limits job work space m r e)) (step-fits b limits work space (plain-after m job) (step-count b (take m (records-of job))) r p f))
 
 pub run-fits : LentEnough
 run-fits limits job work space =
@@ -76,8 +91,8 @@ run-fits limits job work space =
     let t = terms-fit limits job work space (o .records) (omega arith) in
     let e = h .terms-are in
     record {
-      answers-fit = subst (λ (n : ℕ). answer-bytes * n ≤ space) (sym (h .answers-are)) (answers-fit limits job work space (o .records) (omega arith));
-      terms-fit = let x = t .terms-fit in omega arith;
+      answers-fit = subst (λ (n : ℕ). answer-bytes (number-length job) * n ≤ space) (sym (h .answers-are)) (answers-fit limits job work space (o .records) (omega arith));
+      terms-fit = subst (λ (n : ℕ). term-bytes (number-length job) * (n - first-terms) ≤ work) (sym e) (t .terms-fit);
       numbers-fit = let y = t .numbers-fit in omega arith;
     }
 
@@ -109,7 +124,7 @@ constant-depths : (depth (node True nil) ≤ 0) × (depth (node False nil) ≤ 1
 unfolding depth
 constant-depths = (omega arith, omega arith)
 
-module _ (list : Plain) (w : WellKept list) where
+module _ {b : ℕ} (list : Plain) (w : WellKept b list) where
   pub place-depth : (n i : ℕ) → i < n → i < length list → depth (tree-at list i) ≤ i
   place-depth zero i l m = absurd (omega arith)
   place-depth (suc n) zero l m = subst (λ (t : Term). depth t ≤ 0) (sym (tree-0 list w)) (constant-depths .0)

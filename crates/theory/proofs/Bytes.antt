@@ -4,6 +4,7 @@ use mathlib.Core.Bool.{Bool, true, false, cond}
 use mathlib.Core.List.{List, [], _∷_, _++_}
 use mathlib.Core.Option.{Option, none, some}
 use Prim.Native.Nat.{ℕ, zero, suc, _+_, _-_, _*_, _/_, _%_, _<_, _≤_}
+use native.Mathlib.Nat.{div-add-mod}
 use native.Mathlib.Omega.{arith}
 use lib.Dec.{T, leb, eqb, eqb→eq, leb→le}
 use lib.Ieee.Fits.{and-l, and-r}
@@ -11,7 +12,7 @@ use lib.ListN.{length, take, drop, getElem?, length-take, length-drop, take-appe
 use lib.Seq.{take-take, take-add}
 use Rattle.theory.specs.Limit.{number-bytes, value-bytes}
 use Rattle.theory.specs.Kind.{Op, kind, arity, takes}
-use Rattle.theory.specs.Record.{Bytes, AllBytes, little-endian, word, words, extent, whole, cut, records-of, kind-of, body-of, fits, arguments, Shape, plain, indexed, twice-indexed, valued, front, make, shapes, find-shape, shape-of, Item, term, step, back, misfit, read, read-term, read-step, read-back, chain, premise-count, chain-front, chain-fits, read-chain}
+use Rattle.theory.specs.Record.{Bytes, AllBytes, little-endian, word, words, extent, whole, cut, records-of, kind-of, body-of, fits, arguments, Shape, plain, indexed, twice-indexed, valued, front, make, shapes, find-shape, shape-of, Item, term, step, back, misfit, read, read-term, read-step, read-back, chain, premise-count, chain-front, before-literal, chain-fits, read-chain}
 pub use Rattle.theory.specs.Listed.{Sound}
 use Rattle.theory.proofs.Basics.{none-some, some-inj}
 
@@ -52,21 +53,21 @@ two-numbers n bs cs p q l m e f =
     (part-inj n (drop 2 bs) (drop 2 cs) (drop-bytes 2 bs p) (drop-bytes 2 cs q) (rw length-drop (omega arith)) (rw length-drop (omega arith)) f)
     ∙ sym (take-add 2 n cs)
 
-words-inj : (k : ℕ) (bs cs : Bytes) → AllBytes bs → AllBytes cs → length bs ≡ 2 * k → length cs ≡ 2 * k → words k bs ≡ words k cs → bs ≡ cs
-words-inj zero [] [] p q l m e = refl
-words-inj zero [] (c ∷ cs) p q l m e = absurd (omega arith)
-words-inj zero (b ∷ bs) cs p q l m e = absurd (omega arith)
-words-inj (suc k) bs cs p q l m e =
-    let a : word bs ≡ word cs = cc in
-    let b : words k (drop 2 bs) ≡ words k (drop 2 cs) = cc in
-    sym (take-append-drop 2 bs)
-    ∙ ap₂ (λ (x y : Bytes). x ++ y) (part-inj 2 bs cs p q (omega arith) (omega arith) a)
-    (words-inj k (drop 2 bs) (drop 2 cs) (drop-bytes 2 bs p) (drop-bytes 2 cs q) (length-drop 2 bs ∙ omega arith) (length-drop 2 cs ∙ omega arith) b)
-    ∙ take-append-drop 2 cs
+words-inj : (b k : ℕ) (bs cs : Bytes) → AllBytes bs → AllBytes cs → length bs ≡ b * k → length cs ≡ b * k → words b k bs ≡ words b k cs → bs ≡ cs
+words-inj b zero [] [] p q l m e = refl
+words-inj b zero [] (c ∷ cs) p q l m e = absurd (omega arith)
+words-inj b zero (c ∷ bs) cs p q l m e = absurd (omega arith)
+words-inj b (suc k) bs cs p q l m e =
+    let a : little-endian (take b bs) ≡ little-endian (take b cs) = cc in
+    let t : words b k (drop b bs) ≡ words b k (drop b cs) = cc in
+    sym (take-append-drop b bs)
+    ∙ ap₂ (λ (x y : Bytes). x ++ y) (part-inj b bs cs p q (omega arith) (omega arith) a)
+    (words-inj b k (drop b bs) (drop b cs) (drop-bytes b bs p) (drop-bytes b cs q) (length-drop b bs ∙ omega arith) (length-drop b cs ∙ omega arith) t)
+    ∙ take-append-drop b cs
 
-pub words-length : (k : ℕ) (bs : Bytes) → length (words k bs) ≡ k
-words-length zero bs = refl
-words-length (suc k) bs = ap suc (words-length k (drop 2 bs))
+pub words-length : (b k : ℕ) (bs : Bytes) → length (words b k bs) ≡ k
+words-length b zero bs = refl
+words-length b (suc k) bs = ap suc (words-length b k (drop b bs))
 
 -- ---- shapes: the numbers in a kind can be read off it, and do not change its number
 abbrev Lawful1 : (ℕ → Op) → Type 0
@@ -144,54 +145,55 @@ front-inj (twice-indexed f) h bs cs p q l m e = let z = h .1 _ _ _ _ e in two-nu
 front-inj (valued f) h bs cs p q l m e = let z = h .1 _ _ _ _ e in two-numbers 8 bs cs p q l m (z .0) (z .1)
 
 -- ---- a record that says a term: its shape, and the parts of its body
-pub record SaysTerm (r : Bytes) (o : Op) (ks : List ℕ) : Type 0 where
+pub record SaysTerm (b : ℕ) (r : Bytes) (o : Op) (ks : List ℕ) : Type 0 where
   pub shape : Shape
   pub is-shape : shape-of (kind-of r) ≡ some shape
-  pub fit : T (fits (front shape) (takes (arity o)) (body-of r))
+  pub fit : T (fits b (front shape) (takes (arity o)) (body-of r))
   pub made : make shape (body-of r) ≡ o
-  pub args : arguments (front shape) (body-of r) ≡ ks
+  pub args : arguments b (front shape) (body-of r) ≡ ks
 
-pub says-term : (r : Bytes) (o : Op) (ks : List ℕ) → read r ≡ term o ks → SaysTerm r o ks
+pub says-term : (b : ℕ) (r : Bytes) (o : Op) (ks : List ℕ) → read b r ≡ term o ks → SaysTerm b r o ks
 unfolding read
-says-term r o ks e = by-kind (eqb (kind-of r) 100) (eqb (kind-of r) 104) (eqb (kind-of r) 101) e
+says-term b r o ks e = by-kind (eqb (kind-of r) 100) (eqb (kind-of r) 104) (eqb (kind-of r) 101) e
   where
-    wrong : (b : Bool) (i : Item) → (i ≡ term o ks → ⊥) → cond b i misfit ≡ term o ks → ⊥
+    wrong : (t : Bool) (i : Item) → (i ≡ term o ks → ⊥) → cond t i misfit ≡ term o ks → ⊥
     wrong true i f d = f d
     wrong false i f d = let z : _≡_ {A = ℕ} 0 1 = cc in omega arith
 
-    by-shape : (q : Option Shape) → shape-of (kind-of r) ≡ q → read-term q (body-of r) ≡ term o ks → SaysTerm r o ks
+    by-shape : (q : Option Shape) → shape-of (kind-of r) ≡ q → read-term b q (body-of r) ≡ term o ks → SaysTerm b r o ks
     by-shape none f d = absurd (let z : _≡_ {A = ℕ} 0 1 = cc in omega arith)
-    by-shape (some s) f d = go (fits (front s) (takes (arity (make s (body-of r)))) (body-of r)) (λ t. t) d
+    by-shape (some s) f d = go (fits b (front s) (takes (arity (make s (body-of r)))) (body-of r)) (λ t. t) d
       where
-        go : (b : Bool) → (T b → T (fits (front s) (takes (arity (make s (body-of r)))) (body-of r)))
-            → cond b (term (make s (body-of r)) (arguments (front s) (body-of r))) misfit ≡ term o ks → SaysTerm r o ks
+        go : (t : Bool) → (T t → T (fits b (front s) (takes (arity (make s (body-of r)))) (body-of r)))
+            → cond t (term (make s (body-of r)) (arguments b (front s) (body-of r))) misfit ≡ term o ks → SaysTerm b r o ks
         go true h c =
             let m : make s (body-of r) ≡ o = cc in
             record {
               shape = s;
               is-shape = f;
-              fit = subst (λ (p : Op). T (fits (front s) (takes (arity p)) (body-of r))) m (h tt);
+              fit = subst (λ (p : Op). T (fits b (front s) (takes (arity p)) (body-of r))) m (h tt);
               made = m;
               args = cc;
             }
         go false h c = absurd (let z : _≡_ {A = ℕ} 0 1 = cc in omega arith)
 
-    by-kind : (a b c : Bool)
-        → cond a (read-step (body-of r)) (cond b (read-chain (body-of r)) (cond c (read-back (body-of r)) (read-term (shape-of (kind-of r)) (body-of r)))) ≡ term o ks
-        → SaysTerm r o ks
-    by-kind true b c d =
-        absurd (wrong (fits number-bytes (λ n. leb n 64) (body-of r)) (step (word (body-of r)) (arguments number-bytes (body-of r))) (λ c. let z : _≡_ {A = ℕ} 0 1 = cc in omega arith) d)
-    by-kind false true c d =
+    by-kind : (p q s : Bool)
+        → cond p (read-step b (body-of r)) (cond q (read-chain b (body-of r)) (cond s (read-back b (body-of r)) (read-term b (shape-of (kind-of r)) (body-of r)))) ≡ term o ks
+        → SaysTerm b r o ks
+    by-kind true q s d =
+        absurd (wrong (fits b number-bytes (λ n. leb n 64) (body-of r)) (step (word (body-of r)) (arguments b number-bytes (body-of r))) (λ c. let z : _≡_ {A = ℕ} 0 1 = cc in omega arith) d)
+    by-kind false true s d =
         let n = premise-count (body-of r) in
-        absurd (wrong (chain-fits (body-of r)) (chain (word (body-of r)) (words n (drop chain-front (body-of r))) (word (drop (chain-front + number-bytes * n) (body-of r))))
+        absurd (wrong (chain-fits b (body-of r))
+        (chain (word (body-of r)) (words number-bytes n (drop chain-front (body-of r))) (little-endian (take b (drop (before-literal (body-of r)) (body-of r)))))
         (λ c. let z : _≡_ {A = ℕ} 0 1 = cc in omega arith) d)
     by-kind false false true d =
-        absurd (wrong (eqb (length (body-of r)) number-bytes) (back (word (body-of r))) (λ c. let z : _≡_ {A = ℕ} 0 1 = cc in omega arith) d)
+        absurd (wrong (eqb (length (body-of r)) b) (back (little-endian (take b (body-of r)))) (λ c. let z : _≡_ {A = ℕ} 0 1 = cc in omega arith) d)
     by-kind false false false d = by-shape (shape-of (kind-of r)) refl d
 
-pub term-kind : (r : Bytes) (o : Op) (ks : List ℕ) → read r ≡ term o ks → kind-of r ≡ kind o
-term-kind r o ks e =
-    let s = says-term r o ks e in
+pub term-kind : (b : ℕ) (r : Bytes) (o : Op) (ks : List ℕ) → read b r ≡ term o ks → kind-of r ≡ kind o
+term-kind b r o ks e =
+    let s = says-term b r o ks e in
     let h = shape-lawful (kind-of r) (s .shape) (s .is-shape) in
     sym (h .1) ∙ sym (make-kind (s .shape) (h .0) (body-of r)) ∙ ap kind (s .made)
 
@@ -202,53 +204,53 @@ low-shapeless zero h s f = none-some s f
 low-shapeless (suc zero) h s f = none-some s f
 low-shapeless (suc (suc k)) h s f = omega arith
 
-pub not-constant : (r : Bytes) (o : Op) (ks : List ℕ) → read r ≡ term o ks → kind o < 2 → ⊥
-not-constant r o ks e l =
-    let s = says-term r o ks e in
-    low-shapeless (kind-of r) (subst (λ (k : ℕ). k < 2) (sym (term-kind r o ks e)) l) (s .shape) (s .is-shape)
+pub not-constant : (b : ℕ) (r : Bytes) (o : Op) (ks : List ℕ) → read b r ≡ term o ks → kind o < 2 → ⊥
+not-constant b r o ks e l =
+    let s = says-term b r o ks e in
+    low-shapeless (kind-of r) (subst (λ (k : ℕ). k < 2) (sym (term-kind b r o ks e)) l) (s .shape) (s .is-shape)
 
 -- ---- whole records
-even : (n : ℕ) → n % 2 ≡ 0 → n ≡ 2 * (n / 2)
-even n e = omega arith
+divided : (b n : ℕ) → n % b ≡ 0 → n ≡ b * (n / b)
+divided b n e = let d = div-add-mod n b in omega arith
 
 length-body : (r : Bytes) → 4 ≤ length r → length r ≡ 4 + length (body-of r)
 length-body r h = let l : length (body-of r) ≡ length r - 4 = length-drop 4 r in omega arith
 
 -- a body that fits: its arguments are all of it after the front
-record Fit (n : ℕ) (body : Bytes) : Type 0 where
+record Fit (b n : ℕ) (body : Bytes) : Type 0 where
   long : n ≤ length body
-  rest : length (drop n body) ≡ 2 * ((length body - n) / 2)
+  rest : length (drop n body) ≡ b * ((length body - n) / b)
 
-fit-parts : (n : ℕ) (allowed : ℕ → Bool) (body : Bytes) → T (fits n allowed body) → Fit n body
-fit-parts n allowed body t =
+fit-parts : (b n : ℕ) (allowed : ℕ → Bool) (body : Bytes) → T (fits b n allowed body) → Fit b n body
+fit-parts b n allowed body t =
     let l : n ≤ length body = leb→le n (length body) (and-l (leb n (length body)) _ t) in
-    let e = eqb→eq ((length body - n) % 2) 0 (and-l (eqb ((length body - n) % 2) 0) _ (and-r (leb n (length body)) _ t)) in
-    record { long = l; rest = length-drop n body ∙ even (length body - n) e }
+    let e = eqb→eq ((length body - n) % b) 0 (and-l (eqb ((length body - n) % b) 0) _ (and-r (leb n (length body)) _ t)) in
+    record { long = l; rest = length-drop n body ∙ divided b (length body - n) e }
 
-same-rest : (n : ℕ) (bs cs : Bytes) → AllBytes bs → AllBytes cs → Fit n bs → Fit n cs → arguments n bs ≡ arguments n cs → drop n bs ≡ drop n cs
-same-rest n bs cs p q f g e =
-    let k = (length bs - n) / 2 in
-    let half : k ≡ (length cs - n) / 2
-    = sym (words-length k (drop n bs)) ∙ ap length e ∙ words-length ((length cs - n) / 2) (drop n cs) in
-    words-inj k (drop n bs) (drop n cs) (drop-bytes n bs p) (drop-bytes n cs q) (f .rest) (g .rest ∙ ap (λ (m : ℕ). 2 * m) (sym half))
-    (e ∙ ap (λ (m : ℕ). words m (drop n cs)) (sym half))
+same-rest : (b n : ℕ) (bs cs : Bytes) → AllBytes bs → AllBytes cs → Fit b n bs → Fit b n cs → arguments b n bs ≡ arguments b n cs → drop n bs ≡ drop n cs
+same-rest b n bs cs p q f g e =
+    let k = (length bs - n) / b in
+    let half : k ≡ (length cs - n) / b
+    = sym (words-length b k (drop n bs)) ∙ ap length e ∙ words-length b ((length cs - n) / b) (drop n cs) in
+    words-inj b k (drop n bs) (drop n cs) (drop-bytes n bs p) (drop-bytes n cs q) (f .rest) (g .rest ∙ ap (λ (m : ℕ). b * m) (sym half))
+    (e ∙ ap (λ (m : ℕ). words b m (drop n cs)) (sym half))
 
-pub same-record : (r s : Bytes) (o : Op) (ks : List ℕ) → Sound r → Sound s → read r ≡ term o ks → read s ≡ term o ks → r ≡ s
-same-record r s o ks a b er es =
-    let kk : kind-of r ≡ kind-of s = term-kind r o ks er ∙ sym (term-kind s o ks es) in
-    let sr = says-term r o ks er in
-    let ss = says-term s o ks es in
+pub same-record : (n : ℕ) (r s : Bytes) (o : Op) (ks : List ℕ) → Sound r → Sound s → read n r ≡ term o ks → read n s ≡ term o ks → r ≡ s
+same-record n r s o ks a b er es =
+    let kk : kind-of r ≡ kind-of s = term-kind n r o ks er ∙ sym (term-kind n s o ks es) in
+    let sr = says-term n r o ks er in
+    let ss = says-term n s o ks es in
     let sh = sr .shape in
     let same : sh ≡ ss .shape = some-inj sh (ss .shape) (sym (sr .is-shape) ∙ ap shape-of kk ∙ ss .is-shape) in
     let br : AllBytes (body-of r) = drop-bytes 4 r (a .bytes) in
     let bs : AllBytes (body-of s) = drop-bytes 4 s (b .bytes) in
-    let fr = fit-parts (front sh) (takes (arity o)) (body-of r) (sr .fit) in
-    let fs = fit-parts (front sh) (takes (arity o)) (body-of s) (subst (λ (t : Shape). T (fits (front t) (takes (arity o)) (body-of s))) (sym same) (ss .fit)) in
+    let fr = fit-parts n (front sh) (takes (arity o)) (body-of r) (sr .fit) in
+    let fs = fit-parts n (front sh) (takes (arity o)) (body-of s) (subst (λ (t : Shape). T (fits n (front t) (takes (arity o)) (body-of s))) (sym same) (ss .fit)) in
     let f : take (front sh) (body-of r) ≡ take (front sh) (body-of s)
     = front-inj sh (shape-lawful (kind-of r) sh (sr .is-shape) .0) (body-of r) (body-of s) br bs (fr .long) (fs .long)
     (sr .made ∙ sym (ss .made) ∙ ap (λ (t : Shape). make t (body-of s)) (sym same)) in
     let g : drop (front sh) (body-of r) ≡ drop (front sh) (body-of s)
-    = same-rest (front sh) (body-of r) (body-of s) br bs fr fs (sr .args ∙ sym (ss .args) ∙ ap (λ (t : Shape). arguments (front t) (body-of s)) (sym same)) in
+    = same-rest n (front sh) (body-of r) (body-of s) br bs fr fs (sr .args ∙ sym (ss .args) ∙ ap (λ (t : Shape). arguments n (front t) (body-of s)) (sym same)) in
     whole-record kk
     (sym (take-append-drop (front sh) (body-of r)) ∙ ap₂ (λ (x y : Bytes). x ++ y) f g ∙ take-append-drop (front sh) (body-of s))
   where

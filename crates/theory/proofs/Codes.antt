@@ -11,7 +11,7 @@ use Rattle.theory.specs.Term.{Term}
 use Rattle.theory.specs.Verdict.{Verdict, held, form-only, not-one-literal, wrong-form, not-bit-vector, not-constant, bit-not-literal, other-value, terms-differ, index-not-next, premise-broken, code-of}
 use Rattle.theory.specs.RuleTable.{Rule}
 use Rattle.theory.specs.Rule.{verdict}
-use Rattle.theory.specs.Record.{Bytes, records-of, ending, Item}
+use Rattle.theory.specs.Record.{Bytes, records-of, ending, Item, number-length}
 use Rattle.theory.specs.Plain.{Plain, start}
 use Rattle.theory.specs.Answer.{Answer}
 use Rattle.theory.specs.Chain.{Earlier, premises-at, joined}
@@ -58,7 +58,7 @@ stop-codes-are limits job work space = ran limits job work space .stop-known
 pub too-long : (limits : Limits) (job : Bytes) (work space : ℕ) → max-job < length job → run limits job work space ≡ outcome 2 0 0 [] start
 unfolding run
 too-long limits job work space h =
-    go (leb (length job) max-job) (λ t. omega (arith, leb→le (length job) max-job t)) (run-from limits work space (ending job) 0 0 [] start [] (records-of job))
+    go (leb (length job) max-job) (λ t. omega (arith, leb→le (length job) max-job t)) (run-from (number-length job) limits work space (ending job) 0 0 [] start [] (records-of job))
   where
     go : (b : Bool) → (T b → ⊥) → (x : Outcome) → elim b as (λ z. Outcome) [ true ↦ x | false ↦ outcome 2 0 0 [] start ] ≡ outcome 2 0 0 [] start
     go true f x = absurd (f tt)

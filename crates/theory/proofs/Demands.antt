@@ -9,7 +9,7 @@ use native.Mathlib.Omega.{arith}
 use lib.Dec.{T}
 use lib.ListN.{length, take, getD, getElem?}
 use Rattle.theory.specs.Limit.{Limits}
-use Rattle.theory.specs.Record.{Bytes, records-of, Item, step, chain, read, is-step, step-count}
+use Rattle.theory.specs.Record.{Bytes, records-of, Item, step, chain, read, is-step, step-count, number-length}
 use Rattle.theory.specs.Plain.{Plain, plain-after}
 use Rattle.theory.specs.RuleTable.{Rule, rule-at, ChainRule, chain-rule-at}
 use Rattle.theory.specs.Codes.{all-below}
@@ -23,15 +23,15 @@ use Rattle.theory.proofs.Places.{tree-at, at-place-is, at-places-are}
 use Rattle.theory.proofs.Run.{AnswerOf, to-step, to-chain, answered-step, ran, count-next}
 
 -- ---- steps are counted upwards
-count-cons : (b : Bool) (k l : ℕ) → k ≤ l → cond b (suc k) k ≤ cond b (suc l) l
+count-cons : (t : Bool) (k l : ℕ) → k ≤ l → cond t (suc k) k ≤ cond t (suc l) l
 count-cons true k l h = omega arith
 count-cons false k l h = h
 
-steps-grow : (rs : List Bytes) (i j : ℕ) → i ≤ j → step-count (take i rs) ≤ step-count (take j rs)
-steps-grow rs zero j h = omega arith
-steps-grow rs (suc i) zero h = absurd (omega arith)
-steps-grow [] (suc i) (suc j) h = omega arith
-steps-grow (r ∷ rs) (suc i) (suc j) h = count-cons (is-step (read r)) (step-count (take i rs)) (step-count (take j rs)) (steps-grow rs i j (omega arith))
+steps-grow : (b : ℕ) (rs : List Bytes) (i j : ℕ) → i ≤ j → step-count b (take i rs) ≤ step-count b (take j rs)
+steps-grow b rs zero j h = omega arith
+steps-grow b rs (suc i) zero h = absurd (omega arith)
+steps-grow b [] (suc i) (suc j) h = omega arith
+steps-grow b (r ∷ rs) (suc i) (suc j) h = count-cons (is-step (read b r)) (step-count b (take i rs)) (step-count b (take j rs)) (steps-grow b rs i j (omega arith))
 
 -- an answer to a step, and to a chain
 to-that-step : {earlier : Earlier} {list : Plain} {i : Item} {a : Answer} (n : ℕ) (ks : List ℕ) → AnswerOf earlier list i a → i ≡ step n ks
@@ -72,6 +72,10 @@ to-that-chain {earlier} {list} n ps p (to-chain k rule qs q e b) d =
     place e = cc
 
 module _ (limits : Limits) (job : Bytes) (work space : ℕ) where
+  -- the bytes of a term's number
+  abbrev b : ℕ
+  b = number-length job
+
   -- demand 1: why the job stops
   pub demand-1 : let o = run limits job work space in Stops limits job work space (o .stop) (o .records)
   demand-1 = ran limits job work space .why
@@ -90,38 +94,38 @@ module _ (limits : Limits) (job : Bytes) (work space : ℕ) where
       go stop done (at-end s e p) = subst (λ (k : ℕ). m < k) e (getElem-lt (records-of job) m r (h .stands))
 
   -- one more step after record m
-  step-more : (m : ℕ) (r : Bytes) → getElem? (records-of job) m ≡ some r → is-step (read r) ≡ true
-      → step-count (take (suc m) (records-of job)) ≡ step-count (take m (records-of job)) + 1
-  step-more m r s e = count-next limits job work space m r s ∙ ap (λ (b : Bool). step-count (take m (records-of job)) + cond b 1 0) e
+  step-more : (m : ℕ) (r : Bytes) → getElem? (records-of job) m ≡ some r → is-step (read b r) ≡ true
+      → step-count b (take (suc m) (records-of job)) ≡ step-count b (take m (records-of job)) + 1
+  step-more m r s e = count-next limits job work space m r s ∙ ap (λ (t : Bool). step-count b (take m (records-of job)) + cond t 1 0) e
 
   -- two steps with as many steps before them are one
-  one-step : (i j : ℕ) (p q : Bytes) → getElem? (records-of job) i ≡ some p → getElem? (records-of job) j ≡ some q → is-step (read p) ≡ true → is-step (read q) ≡ true
-      → step-count (take i (records-of job)) ≡ step-count (take j (records-of job)) → i ≡ j
-  one-step i j p q a b c d e = go (ℕ-discrete i j) (decLe (suc i) j)
+  one-step : (i j : ℕ) (p q : Bytes) → getElem? (records-of job) i ≡ some p → getElem? (records-of job) j ≡ some q → is-step (read b p) ≡ true → is-step (read b q) ≡ true
+      → step-count b (take i (records-of job)) ≡ step-count b (take j (records-of job)) → i ≡ j
+  one-step i j p q s t c d e = go (ℕ-discrete i j) (decLe (suc i) j)
     where
       go : Dec (i ≡ j) → Dec (suc i ≤ j) → i ≡ j
       go (yes z) w = z
-      go (no z) (yes w) = absurd (let u = step-more i p a c in let v = steps-grow (records-of job) (suc i) j w in omega arith)
-      go (no z) (no w) = absurd (let u = step-more j q b d in let v = steps-grow (records-of job) (suc j) i (omega arith) in omega arith)
+      go (no z) (yes w) = absurd (let u = step-more i p s c in let v = steps-grow b (records-of job) (suc i) j w in omega arith)
+      go (no z) (no w) = absurd (let u = step-more j q t d in let v = steps-grow b (records-of job) (suc j) i (omega arith) in omega arith)
 
   -- a step of either kind that is reached has its answer
-  reply-at : (m : ℕ) (r : Bytes) → Reached limits job work space m r → is-step (read r) ≡ true
-      → (a : Answer) × (getElem? (run limits job work space .answers) (step-count (take m (records-of job))) ≡ some a) × AnswerOf (earlier-after m job) (plain-after m job) (read r) a
+  reply-at : (m : ℕ) (r : Bytes) → Reached limits job work space m r → is-step (read b r) ≡ true
+      → (a : Answer) × (getElem? (run limits job work space .answers) (step-count b (take m (records-of job))) ≡ some a) × AnswerOf (earlier-after m job) (plain-after m job) (read b r) a
   reply-at m r h e =
       let o = run limits job work space in
       let w = ran limits job work space in
-      let k = step-count (take m (records-of job)) in
+      let k = step-count b (take m (records-of job)) in
       let d : Answer = record { rule = 0; code = 0; depth = 0 } in
       let l = reached-done m r h in
       let u = step-more m r (h .stands) e in
-      let v = steps-grow (records-of job) (suc m) (o .records) l in
+      let v = steps-grow b (records-of job) (suc m) (o .records) l in
       let c = w .answers-are in
       let a = getD (o .answers) k d in
       let f : getElem? (o .answers) k ≡ some a = getElem-of (o .answers) k d (omega arith) in
       let g = w .exact-answers k a f in
       let q : g .m ≡ m = one-step (g .m) m (g .bytes) r (g .stands) (h .stands) (answered-step (g .is)) e (g .kth) in
-      let b : g .bytes ≡ r = some-inj (g .bytes) r (sym (g .stands) ∙ ap (getElem? (records-of job)) q ∙ h .stands) in
-      (a, f, subst₂ (λ (i : ℕ) (s : Bytes). AnswerOf (earlier-after i job) (plain-after i job) (read s) a) q b (g .is))
+      let z : g .bytes ≡ r = some-inj (g .bytes) r (sym (g .stands) ∙ ap (getElem? (records-of job)) q ∙ h .stands) in
+      (a, f, subst₂ (λ (i : ℕ) (s : Bytes). AnswerOf (earlier-after i job) (plain-after i job) (read b s) a) q z (g .is))
 
   pub demand-2 : Demand2 limits job work space (run limits job work space .answers)
   demand-2 = record {

@@ -11,7 +11,7 @@ use lib.ListN.{length, take, drop, getElem?, take-append-drop}
 use Rattle.theory.specs.Limit.{Limits, first-terms}
 use Rattle.theory.specs.Kind.{Op, True, False, kind}
 use Rattle.theory.specs.Term.{Term, node, nil, to-list, from-list, same-numbers}
-use Rattle.theory.specs.Record.{Bytes, AllBytes, records-of, term, read, step-count}
+use Rattle.theory.specs.Record.{Bytes, AllBytes, records-of, term, read, step-count, number-length}
 use Rattle.theory.specs.Plain.{Entry, entry, Plain, start, has, feed, plain-after}
 use Rattle.theory.specs.Codes.{all-below, fault}
 use Rattle.theory.specs.Job.{run}
@@ -31,8 +31,8 @@ has-at (d ∷ list) zero e r f g =
 has-at (d ∷ list) (suc j) e r f g = or-right (same-numbers (d .bytes) r) (has list r) (has-at list j e r f g)
 
 -- the same in another list, where the places before are the same
-pub moved : (ks ls : Plain) (i : ℕ) (e : Entry) → ((args : List ℕ) → T (all-below i args) → map (tree-at ls) args ≡ map (tree-at ks) args)
-    → ((j : ℕ) (d : Entry) → j < i → getElem? ls j ≡ some d → getElem? ks j ≡ some d) → Entered ks i e → Entered ls i e
+pub moved : {b : ℕ} (ks ls : Plain) (i : ℕ) (e : Entry) → ((args : List ℕ) → T (all-below i args) → map (tree-at ls) args ≡ map (tree-at ks) args)
+    → ((j : ℕ) (d : Entry) → j < i → getElem? ls j ≡ some d → getElem? ks j ≡ some d) → Entered b ks i e → Entered b ls i e
 moved ks ls i e same f k = record {
   sound = k .sound;
   op = k .op;
@@ -43,7 +43,7 @@ moved ks ls i e same f k = record {
   new = λ j d l g. k .new j d l (f j d l g);
 }
 
-pub take-well : (n : ℕ) (list : Plain) → first-terms ≤ n → n ≤ length list → WellKept list → WellKept (take n list)
+pub take-well : {b : ℕ} (n : ℕ) (list : Plain) → first-terms ≤ n → n ≤ length list → WellKept b list → WellKept b (take n list)
 take-well n list h l w = record {
   is-true = take-getElem n list 0 (omega arith) ∙ w .is-true;
   is-false = take-getElem n list 1 (omega arith) ∙ w .is-false;
@@ -54,9 +54,9 @@ take-well n list h l w = record {
       (λ j d m g. getElem-take n list j d g) (w .kept i e p (getElem-take n list i e f));
 }
 
-pub snoc-well : (list : Plain) (r : Bytes) (o : Op) (ks : List ℕ) → WellKept list → Sound r → read r ≡ term o ks → T (all-below (length list) ks)
-    → (T (has list r) → ⊥) → WellKept (list ++ (entry (tree-of list o ks) r ∷ []))
-snoc-well list r o ks w s d b n =
+pub snoc-well : {b : ℕ} (list : Plain) (r : Bytes) (o : Op) (ks : List ℕ) → WellKept b list → Sound r → read b r ≡ term o ks → T (all-below (length list) ks)
+    → (T (has list r) → ⊥) → WellKept b (list ++ (entry (tree-of list o ks) r ∷ []))
+snoc-well {b} list r o ks w s d l n =
     let new = entry (tree-of list o ks) r in
     let old : (j : ℕ) (e : Entry) → j < length list → getElem? (list ++ (new ∷ [])) j ≡ some e → getElem? list j ≡ some e
     = λ j e l g. sym (getElem-old list (new ∷ []) j l) ∙ g in
@@ -66,46 +66,47 @@ snoc-well list r o ks w s d b n =
       kept = λ i e p f. snoc-elim list new i e f
           (λ g. let l = getElem-lt list i e g in
           moved list (list ++ (new ∷ [])) i e (λ args c. trees-old list (new ∷ []) i (omega arith) args c) (λ j x m h. old j x (omega arith) h) (w .kept i e p g))
-          (λ q z. subst (Entered (list ++ (new ∷ [])) i) z (subst (λ (k : ℕ). Entered (list ++ (new ∷ [])) k new) (sym q) (record {
+          (λ q z. subst (Entered b (list ++ (new ∷ [])) i) z (subst (λ (k : ℕ). Entered b (list ++ (new ∷ [])) k new) (sym q) (record {
             sound = s;
             op = o;
             args = ks;
             says = d;
-            below = b;
-            made = ap (λ (ts : List Term). node o (from-list ts)) (sym (trees-old list (new ∷ []) (length list) (omega arith) ks b));
-            new = λ j x l g c. n (has-at list j x r (old j x l g) c);
+            below = l;
+            made = ap (λ (ts : List Term). node o (from-list ts)) (sym (trees-old list (new ∷ []) (length list) (omega arith) ks l));
+            new = λ j x m g c. n (has-at list j x r (old j x m g) c);
           })));
     }
 
-pub start-well : WellKept start
+pub start-well : {b : ℕ} → WellKept b start
 start-well = record {
   is-true = refl;
   is-false = refl;
   kept = λ i e p f. let l = getElem-lt start i e f in absurd (omega arith);
 }
 
-feed-well : (limits : Limits) (work space : ℕ) (list : Plain) (answered : ℕ) (r : Bytes) → fault limits work space list answered r ≡ 0 → Sound r → WellKept list → WellKept (feed list r)
-feed-well limits work space list answered r e s w =
-    fed WellKept limits work space list answered r e w
+feed-well : (b : ℕ) (limits : Limits) (work space : ℕ) (list : Plain) (answered : ℕ) (r : Bytes) → fault b limits work space list answered r ≡ 0 → Sound r → WellKept b list
+    → WellKept b (feed b list r)
+feed-well b limits work space list answered r e s w =
+    fed (WellKept b) b limits work space list answered r e w
     (λ o ks d p n. snoc-well list r o ks w s d (p .below) n) (λ n a b. take-well n list a b w)
 
 module _ (limits : Limits) (job : Bytes) (bytes : AllBytes job) (work space : ℕ) where
   -- after m records done the list is well kept
-  pub plain-well : (m : ℕ) → m ≤ run limits job work space .records → WellKept (plain-after m job)
+  pub plain-well : (m : ℕ) → m ≤ run limits job work space .records → WellKept (number-length job) (plain-after m job)
   plain-well =
-      plain-ind limits job work space (λ m. WellKept (plain-after m job)) start-well
-      (λ m r l e p w. subst WellKept (sym (plain-next limits job work space m r e))
-      (feed-well limits work space (plain-after m job) (step-count (take m (records-of job))) r p (record-sound job bytes m r e) w))
+      plain-ind limits job work space (λ m. WellKept (number-length job) (plain-after m job)) start-well
+      (λ m r l e p w. subst (WellKept (number-length job)) (sym (plain-next limits job work space m r e))
+      (feed-well (number-length job) limits work space (plain-after m job) (step-count (number-length job) (take m (records-of job))) r p (record-sound job bytes m r e) w))
 
 -- ---- the terms of a well-kept list
-module _ (list : Plain) (w : WellKept list) where
+module _ {b : ℕ} (list : Plain) (w : WellKept b list) where
   pub tree-0 : tree-at list 0 ≡ node True nil
   tree-0 = ap (λ (e : Entry). e .tree) (some-inj _ _ (sym (getElem-of list 0 _ (getElem-lt list 0 _ (w .is-true))) ∙ w .is-true))
 
   pub tree-1 : tree-at list 1 ≡ node False nil
   tree-1 = ap (λ (e : Entry). e .tree) (some-inj _ _ (sym (getElem-of list 1 _ (getElem-lt list 1 _ (w .is-false))) ∙ w .is-false))
 
-  pub kept-at : (i : ℕ) → first-terms ≤ i → i < length list → Entered list i (entry-at list i)
+  pub kept-at : (i : ℕ) → first-terms ≤ i → i < length list → Entered b list i (entry-at list i)
   kept-at i h l = w .kept i (entry-at list i) h (getElem-of list i (entry (node True nil) []) l)
 
 abbrev pub DistinctBelow : Plain → ℕ → Type 0
@@ -123,18 +124,18 @@ trees-inj list n d (k ∷ ks) (l ∷ ls) a b e =
     (d k l (ltb→lt k n (and-l (ltb k n) _ a)) (ltb→lt l n (and-l (ltb l n) _ b)) p)
     (trees-inj list n d ks ls (and-r (ltb k n) _ a) (and-r (ltb l n) _ b) q)
 
-module _ (list : Plain) (w : WellKept list) where
+module _ {b : ℕ} (list : Plain) (w : WellKept b list) where
   -- the term at a place after the first two is no constant
   no-constant : (n : ℕ) → first-terms ≤ n → n < length list → (o : Op) → kind o < 2 → node o nil ≡ tree-at list n → ⊥
   no-constant n h l o small e =
       let k = kept-at list w n h l in
       let f : node o nil ≡ tree-of list (k .op) (k .args) = e ∙ k .made in
       let g : o ≡ k .op = cc in
-      not-constant (entry-at list n .bytes) (k .op) (k .args) (k .says) (subst (λ (p : Op). kind p < 2) g small)
+      not-constant b (entry-at list n .bytes) (k .op) (k .args) (k .says) (subst (λ (p : Op). kind p < 2) g small)
 
   -- and no earlier term
   no-earlier : (i n : ℕ) → DistinctBelow list n → first-terms ≤ i → i < n → n < length list → tree-at list i ≡ tree-at list n → ⊥
-  no-earlier i n d h b l e =
+  no-earlier i n d h c l e =
       let x = kept-at list w i h (omega arith) in
       let y = kept-at list w n (omega arith) l in
       let t : tree-of list (x .op) (x .args) ≡ tree-of list (y .op) (y .args) = sym (x .made) ∙ e ∙ y .made in
@@ -144,20 +145,20 @@ module _ (list : Plain) (w : WellKept list) where
       = sym (to-from-list (map (tree-at list) (x .args))) ∙ ap to-list us ∙ to-from-list (map (tree-at list) (y .args)) in
       let a : x .args ≡ y .args = trees-inj list n d (x .args) (y .args) (more-below i n (omega arith) (x .args) (x .below)) (y .below) vs in
       let s : entry-at list i .bytes ≡ entry-at list n .bytes
-      = same-record (entry-at list i .bytes) (entry-at list n .bytes) (y .op) (y .args) (x .sound) (y .sound) (x .says ∙ ap₂ term o a) (y .says) in
-      y .new i (entry-at list i) b (getElem-of list i (entry (node True nil) []) (omega arith)) s
+      = same-record b (entry-at list i .bytes) (entry-at list n .bytes) (y .op) (y .args) (x .sound) (y .sound) (x .says ∙ ap₂ term o a) (y .says) in
+      y .new i (entry-at list i) c (getElem-of list i (entry (node True nil) []) (omega arith)) s
 
   fresh : (n i : ℕ) → DistinctBelow list n → i < n → n < length list → tree-at list i ≡ tree-at list n → ⊥
-  fresh zero i d b l e = omega arith
-  fresh (suc zero) zero d b l e = let f : node True nil ≡ node False nil = sym (tree-0 list w) ∙ e ∙ tree-1 list w in let z : _≡_ {A = ℕ} 0 1 = cc in omega arith
-  fresh (suc zero) (suc i) d b l e = omega arith
-  fresh (suc (suc n)) zero d b l e = no-constant (suc (suc n)) (omega arith) l True (omega arith) (sym (tree-0 list w) ∙ e)
-  fresh (suc (suc n)) (suc zero) d b l e = no-constant (suc (suc n)) (omega arith) l False (omega arith) (sym (tree-1 list w) ∙ e)
-  fresh (suc (suc n)) (suc (suc i)) d b l e = no-earlier (suc (suc i)) (suc (suc n)) d (omega arith) b l e
+  fresh zero i d c l e = omega arith
+  fresh (suc zero) zero d c l e = let f : node True nil ≡ node False nil = sym (tree-0 list w) ∙ e ∙ tree-1 list w in let z : _≡_ {A = ℕ} 0 1 = cc in omega arith
+  fresh (suc zero) (suc i) d c l e = omega arith
+  fresh (suc (suc n)) zero d c l e = no-constant (suc (suc n)) (omega arith) l True (omega arith) (sym (tree-0 list w) ∙ e)
+  fresh (suc (suc n)) (suc zero) d c l e = no-constant (suc (suc n)) (omega arith) l False (omega arith) (sym (tree-1 list w) ∙ e)
+  fresh (suc (suc n)) (suc (suc i)) d c l e = no-earlier (suc (suc i)) (suc (suc n)) d (omega arith) c l e
 
   distinct-below : (n : ℕ) → n ≤ length list → DistinctBelow list n
-  distinct-below zero h i j a b e = absurd (omega arith)
-  distinct-below (suc n) h i j a b e =
+  distinct-below zero h i j a c e = absurd (omega arith)
+  distinct-below (suc n) h i j a c e =
       let d = distinct-below n (omega arith) in
       go d (ℕ-discrete i n) (ℕ-discrete j n)
     where

@@ -9,10 +9,10 @@ use native.Mathlib.Omega.{arith}
 use lib.Dec.{T, leb, ltb, leb→le, le→leb, ltb→lt, lt→ltb}
 use lib.Ieee.Fits.{and-l, and-r, and-i}
 use lib.ListN.{length, take}
-use Rattle.theory.specs.Limit.{number-bytes, Limits, capped, max-job, first-terms, term-bytes}
+use Rattle.theory.specs.Limit.{Limits, capped, max-job, first-terms, term-bytes}
 use Rattle.theory.specs.Term.{Term, fold}
 use Rattle.theory.specs.Sort.{guard, good, sort-of, sort-width}
-use Rattle.theory.specs.Record.{Bytes, records-of, ending, Item, term, step, chain, back, unknown, misfit, read, step-count}
+use Rattle.theory.specs.Record.{Bytes, records-of, ending, Item, term, step, chain, back, unknown, misfit, read, step-count, number-length}
 use Rattle.theory.specs.Plain.{Entry, entry, Plain, start, at-place, term-of, has, feed, repeat-of, plain-after}
 use Rattle.theory.specs.Codes.{first-fault, all-below, well-sorted, room, tests, fault}
 use Rattle.theory.specs.Answer.{Answer}
@@ -52,7 +52,7 @@ no-wider limits job work space m i t l e =
     narrow-at (capped limits .width) (plain-after m job) i t
     (plain-ind limits job work space (λ (k : ℕ). Narrow (capped limits .width) (plain-after k job)) (start-narrow (capped limits .width))
     (λ k r h f p n. subst (Narrow (capped limits .width)) (sym (plain-next limits job work space k r f))
-    (fed (Narrow (capped limits .width)) limits work space (plain-after k job) (step-count (take k (records-of job))) r p n
+    (fed (Narrow (capped limits .width)) (number-length job) limits work space (plain-after k job) (step-count (number-length job) (take k (records-of job))) r p n
     (λ o ks d q new. narrow-snoc (capped limits .width) (plain-after k job) (entry (tree-of (plain-after k job) o ks) r) n
     (leb→le (sort-width (sort-of (tree-of (plain-after k job) o ks))) (capped limits .width) (q .narrow)))
     (λ c a b. narrow-take (capped limits .width) c (plain-after k job) n)))
@@ -85,7 +85,7 @@ by-fault zero g x y z s e h o =
 by-fault (suc c) g x y z s e h o =
     ap (λ (n : ℕ). elim n as (λ w. Outcome) [ zero ↦ y | suc c ↦ z c ]) (e (record { not-7 = λ d. o .not-7 (s c ∙ d); not-8 = λ d. o .not-8 (s c ∙ d) }))
 
-module _ (small large : Limits) (width-within : small .width ≤ large .width) (terms-within : small .terms ≤ large .terms) where
+module _ (b : ℕ) (small large : Limits) (width-within : small .width ≤ large .width) (terms-within : small .terms ≤ large .terms) where
   -- ---- the tests that read a limit pass under larger ones
   sorted-more : (q : Option Term) → T (well-sorted (capped small) q) → T (well-sorted (capped large) q)
   sorted-more none h = h
@@ -95,23 +95,23 @@ module _ (small large : Limits) (width-within : small .width ≤ large .width) (
       let a = leb→le n (capped small .width) (and-r g _ h) in
       and-i g (leb n (capped large .width)) (and-l g _ h) (le→leb n (capped large .width) (omega arith))
 
-  room-more : (work : ℕ) (list : Plain) → T (room (capped small) work list) → T (room (capped large) work list)
+  room-more : (work : ℕ) (list : Plain) → T (room b (capped small) work list) → T (room b (capped large) work list)
   room-more work list h =
-      let m = leb (term-bytes number-bytes * (suc (length list) - first-terms)) work in
+      let m = leb (term-bytes b * (suc (length list) - first-terms)) work in
       let a = ltb→lt (length list) (capped small .terms) (and-r m _ h) in
       and-i m (ltb (length list) (capped large .terms)) (and-l m _ h) (lt→ltb (length list) (capped large .terms) (omega arith))
 
   module _ (work space : ℕ) where
-    same-fault : (list : Plain) (answered : ℕ) (r : Bytes) → Other (fault small work space list answered r)
-        → fault small work space list answered r ≡ fault large work space list answered r
+    same-fault : (list : Plain) (answered : ℕ) (r : Bytes) → Other (fault b small work space list answered r)
+        → fault b small work space list answered r ≡ fault b large work space list answered r
     unfolding fault
-    same-fault list answered r o = go (read r) o
+    same-fault list answered r o = go (read b r) o
       where
-        go : (i : Item) → Other (first-fault (tests small work space list answered r i))
-            → first-fault (tests small work space list answered r i) ≡ first-fault (tests large work space list answered r i)
+        go : (i : Item) → Other (first-fault (tests b small work space list answered r i))
+            → first-fault (tests b small work space list answered r i) ≡ first-fault (tests b large work space list answered r i)
         go (term p ks) c =
             by-tests (all-below (length list) ks) (well-sorted (capped small) (term-of list p ks)) (well-sorted (capped large) (term-of list p ks)) (has list r)
-            (room (capped small) work list) (room (capped large) work list) (sorted-more (term-of list p ks)) (room-more work list) c
+            (room b (capped small) work list) (room b (capped large) work list) (sorted-more (term-of list p ks)) (room-more work list) c
         go (step n ks) c = refl
         go (chain n ps k) c = refl
         go (back n) c = refl
@@ -120,30 +120,31 @@ module _ (small large : Limits) (width-within : small .width ≤ large .width) (
 
     -- ---- from a record on
     same-run : (end done repeats : ℕ) (earlier : Earlier) (list : Plain) (answers : List Answer) (rs : List Bytes)
-        → Other (run-from small work space end done repeats earlier list answers rs .stop)
-        → run-from small work space end done repeats earlier list answers rs ≡ run-from large work space end done repeats earlier list answers rs
+        → Other (run-from b small work space end done repeats earlier list answers rs .stop)
+        → run-from b small work space end done repeats earlier list answers rs ≡ run-from b large work space end done repeats earlier list answers rs
     unfolding run-from
     same-run end done repeats earlier list answers [] o = refl
     same-run end done repeats earlier list answers (r ∷ rs) o =
-        by-fault (fault small work space list (length answers) r) (fault large work space list (length answers) r)
-        (run-from small work space end (suc done) (repeats + repeat-of list r) (recall earlier list r) (feed list r) (answers ++ answers-to earlier list r) rs)
-        (run-from large work space end (suc done) (repeats + repeat-of list r) (recall earlier list r) (feed list r) (answers ++ answers-to earlier list r) rs)
+        by-fault (fault b small work space list (length answers) r) (fault b large work space list (length answers) r)
+        (run-from b small work space end (suc done) (repeats + repeat-of b list r) (recall b earlier list r) (feed b list r) (answers ++ answers-to b earlier list r) rs)
+        (run-from b large work space end (suc done) (repeats + repeat-of b list r) (recall b earlier list r) (feed b list r) (answers ++ answers-to b earlier list r) rs)
         (λ c. outcome (suc c) done repeats answers list) (λ c. refl) (same-fault list (length answers) r)
-        (same-run end (suc done) (repeats + repeat-of list r) (recall earlier list r) (feed list r) (answers ++ answers-to earlier list r) rs) o
+        (same-run end (suc done) (repeats + repeat-of b list r) (recall b earlier list r) (feed b list r) (answers ++ answers-to b earlier list r) rs) o
 
-    -- ---- a whole run
-    same-outcome : (job : Bytes) → Other (run small job work space .stop) → run small job work space ≡ run large job work space
-    unfolding run
-    same-outcome job h =
-        go (run-from small work space (ending job) 0 0 [] start [] (records-of job)) (run-from large work space (ending job) 0 0 [] start [] (records-of job))
-        (outcome 2 0 0 [] start) (leb (length job) max-job) h (same-run (ending job) 0 0 [] start [] (records-of job))
-      where
-        go : (x y z : Outcome) (t : Bool) → Other (elim t as (λ w. Outcome) [ true ↦ x | false ↦ z ] .stop) → (Other (x .stop) → x ≡ y)
-            → _≡_ {A = Outcome} (elim t as (λ w. Outcome) [ true ↦ x | false ↦ z ]) (elim t as (λ w. Outcome) [ true ↦ y | false ↦ z ])
-        go x y z true o f = f o
-        go x y z false o f = refl
+-- ---- a whole run
+module _ (small large : Limits) (width-within : small .width ≤ large .width) (terms-within : small .terms ≤ large .terms) (work space : ℕ) where
+  same-outcome : (job : Bytes) → Other (run small job work space .stop) → run small job work space ≡ run large job work space
+  unfolding run
+  same-outcome job h =
+      go (run-from (number-length job) small work space (ending job) 0 0 [] start [] (records-of job)) (run-from (number-length job) large work space (ending job) 0 0 [] start [] (records-of job))
+      (outcome 2 0 0 [] start) (leb (length job) max-job) h (same-run (number-length job) small large width-within terms-within work space (ending job) 0 0 [] start [] (records-of job))
+    where
+      go : (x y z : Outcome) (t : Bool) → Other (elim t as (λ w. Outcome) [ true ↦ x | false ↦ z ] .stop) → (Other (x .stop) → x ≡ y)
+          → _≡_ {A = Outcome} (elim t as (λ w. Outcome) [ true ↦ x | false ↦ z ]) (elim t as (λ w. Outcome) [ true ↦ y | false ↦ z ])
+      go x y z true o f = f o
+      go x y z false o f = refl
 
 pub limits-only : LimitsOnly
-limits-only small large p q job work old a b =
-    ap (λ (o : Outcome). record { result = returned o; work-memory = work-after work; answer-memory = answers-after (o .answers) old })
-    (same-outcome small large p q (length work) (length old) job (record { not-7 = a; not-8 = b }))
+limits-only small large p q job work old a c =
+    ap (λ (o : Outcome). record { result = returned o; work-memory = work-after work; answer-memory = answers-after (number-length job) (o .answers) old })
+    (same-outcome small large p q (length work) (length old) job (record { not-7 = a; not-8 = c }))

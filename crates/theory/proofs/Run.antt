@@ -19,7 +19,7 @@ use Rattle.theory.specs.Term.{Term, fold}
 use Rattle.theory.specs.Sort.{guard, good, sort-width, sort-of}
 use Rattle.theory.specs.Optional.{is-some}
 use Rattle.theory.specs.RuleTable.{Rule, rule-at, ChainRule, chain-rule-at}
-use Rattle.theory.specs.Record.{Bytes, records-of, ending, Item, term, step, chain, back, unknown, misfit, read, is-step, step-count}
+use Rattle.theory.specs.Record.{Bytes, records-of, ending, Item, term, step, chain, back, unknown, misfit, read, is-step, step-count, number-length}
 use Rattle.theory.specs.Plain.{Entry, entry, Plain, start, at-place, at-places, term-of, has, put, feed-item, feed, repeat-of, plain-after}
 use Rattle.theory.specs.Codes.{first-fault, all-below, well-sorted, room, tests, fault}
 use Rattle.theory.specs.Answer.{Answer}
@@ -32,17 +32,17 @@ use Rattle.theory.proofs.Basics.{none-some, some-inj, taken, foldl-appe
 use Rattle.theory.proofs.Stops.{Stop, fault-code, ending-code}
 use Rattle.theory.proofs.Places.{tree-at, tree-of, at-place-is, at-places-are, term-of-is}
 
-step-count-append : (xs : List Bytes) (r : Bytes) → step-count (xs ++ (r ∷ [])) ≡ step-count xs + cond (is-step (read r)) 1 0
-step-count-append [] r = go (is-step (read r))
+step-count-append : (b : ℕ) (xs : List Bytes) (r : Bytes) → step-count b (xs ++ (r ∷ [])) ≡ step-count b xs + cond (is-step (read b r)) 1 0
+step-count-append b [] r = go (is-step (read b r))
   where
-    go : (b : Bool) → _≡_ {A = ℕ} (cond b (suc 0) 0) (0 + cond b 1 0)
+    go : (t : Bool) → _≡_ {A = ℕ} (cond t (suc 0) 0) (0 + cond t 1 0)
     go true = refl
     go false = refl
-step-count-append (x ∷ xs) r = go (is-step (read x)) (step-count-append xs r)
+step-count-append b (x ∷ xs) r = go (is-step (read b x)) (step-count-append b xs r)
   where
-    go : (b : Bool) → step-count (xs ++ (r ∷ [])) ≡ step-count xs + cond (is-step (read r)) 1 0
-        → cond b (suc (step-count (xs ++ (r ∷ [])))) (step-count (xs ++ (r ∷ []))) ≡ cond b (suc (step-count xs)) (step-count xs) + cond (is-step (read r)) 1 0
-    go true e = ap suc e ∙ sym (suc-add (step-count xs) (cond (is-step (read r)) 1 0))
+    go : (t : Bool) → step-count b (xs ++ (r ∷ [])) ≡ step-count b xs + cond (is-step (read b r)) 1 0
+        → cond t (suc (step-count b (xs ++ (r ∷ [])))) (step-count b (xs ++ (r ∷ []))) ≡ cond t (suc (step-count b xs)) (step-count b xs) + cond (is-step (read b r)) 1 0
+    go true e = ap suc e ∙ sym (suc-add (step-count b xs) (cond (is-step (read b r)) 1 0))
     go false e = e
 
 -- ---- every term of the list has a sort
@@ -66,76 +66,76 @@ start-good = (tt, (tt, tt))
 
 -- ---- a record with no fault
 -- what its tests say
-pub record TermPassed (limits : Limits) (work : ℕ) (list : Plain) (r : Bytes) (o : Op) (ks : List ℕ) : Type 0 where
+pub record TermPassed (b : ℕ) (limits : Limits) (work : ℕ) (list : Plain) (r : Bytes) (o : Op) (ks : List ℕ) : Type 0 where
   pub below : T (all-below (length list) ks)
   pub sorted : T (good (sort-of (tree-of list o ks)))
   pub narrow : T (leb (sort-width (sort-of (tree-of list o ks))) (capped limits .width))
-  pub roomy : T (has list r || room (capped limits) work list)
+  pub roomy : T (has list r || room b (capped limits) work list)
 
-pub term-passed : (limits : Limits) (work space : ℕ) (list : Plain) (answered : ℕ) (r : Bytes) (o : Op) (ks : List ℕ)
-    → first-fault (tests limits work space list answered r (term o ks)) ≡ 0 → TermPassed limits work list r o ks
-term-passed limits work space list answered r o ks e =
+pub term-passed : (b : ℕ) (limits : Limits) (work space : ℕ) (list : Plain) (answered : ℕ) (r : Bytes) (o : Op) (ks : List ℕ)
+    → first-fault (tests b limits work space list answered r (term o ks)) ≡ 0 → TermPassed b limits work list r o ks
+term-passed b limits work space list answered r o ks e =
     let w = well-sorted (capped limits) (term-of list o ks) in
-    let m = has list r || room (capped limits) work list in
+    let m = has list r || room b (capped limits) work list in
     let a = taken (all-below (length list) ks) 5 (cond w (cond m 0 8) 7) e in
-    let b = taken w 6 (cond m 0 8) (a .1) in
-    let fits = subst (λ (q : Option Term). T (well-sorted (capped limits) q)) (term-of-is list o ks (a .0)) (b .0) in
+    let c = taken w 6 (cond m 0 8) (a .1) in
+    let fits = subst (λ (q : Option Term). T (well-sorted (capped limits) q)) (term-of-is list o ks (a .0)) (c .0) in
     record {
       below = a .0;
       sorted = and-l (good (sort-of (tree-of list o ks))) _ fits;
       narrow = and-r (good (sort-of (tree-of list o ks))) _ fits;
-      roomy = taken m 7 0 (b .1) .0;
+      roomy = taken m 7 0 (c .1) .0;
     }
 
-pub record StepPassed (space : ℕ) (list : Plain) (answered n : ℕ) (ks : List ℕ) : Type 0 where
+pub record StepPassed (b space : ℕ) (list : Plain) (answered n : ℕ) (ks : List ℕ) : Type 0 where
   pub below : T (all-below (length list) ks)
   pub rule : Rule
   pub rule-is : rule-at n ≡ some rule
-  pub roomy : answer-bytes * suc answered ≤ space
+  pub roomy : answer-bytes b * suc answered ≤ space
 
 there : {A : Type 0} (q : Option A) → T (is-some q) → (a : A) × (q ≡ some a)
 there none h = absurd h
 there (some a) h = (a, refl)
 
-pub step-passed : (limits : Limits) (work space : ℕ) (list : Plain) (answered : ℕ) (r : Bytes) (n : ℕ) (ks : List ℕ)
-    → first-fault (tests limits work space list answered r (step n ks)) ≡ 0 → StepPassed space list answered n ks
-step-passed limits work space list answered r n ks e =
-    let m = leb (answer-bytes * suc answered) space in
+pub step-passed : (b : ℕ) (limits : Limits) (work space : ℕ) (list : Plain) (answered : ℕ) (r : Bytes) (n : ℕ) (ks : List ℕ)
+    → first-fault (tests b limits work space list answered r (step n ks)) ≡ 0 → StepPassed b space list answered n ks
+step-passed b limits work space list answered r n ks e =
+    let m = leb (answer-bytes b * suc answered) space in
     let a = taken (all-below (length list) ks) 5 (cond (is-some (rule-at n)) (cond m 0 19) 9) e in
-    let b = taken (is-some (rule-at n)) 8 (cond m 0 19) (a .1) in
-    let q = there (rule-at n) (b .0) in
-    record { below = a .0; rule = q .0; rule-is = q .1; roomy = leb→le (answer-bytes * suc answered) space (taken m 18 0 (b .1) .0) }
+    let c = taken (is-some (rule-at n)) 8 (cond m 0 19) (a .1) in
+    let q = there (rule-at n) (c .0) in
+    record { below = a .0; rule = q .0; rule-is = q .1; roomy = leb→le (answer-bytes b * suc answered) space (taken m 18 0 (c .1) .0) }
 
-pub record ChainPassed (space : ℕ) (list : Plain) (answered n k : ℕ) : Type 0 where
+pub record ChainPassed (b space : ℕ) (list : Plain) (answered n k : ℕ) : Type 0 where
   pub below : k < length list
   pub rule : ChainRule
   pub rule-is : chain-rule-at n ≡ some rule
-  pub roomy : answer-bytes * suc answered ≤ space
+  pub roomy : answer-bytes b * suc answered ≤ space
 
-pub chain-passed : (limits : Limits) (work space : ℕ) (list : Plain) (answered : ℕ) (r : Bytes) (n : ℕ) (ps : List ℕ) (k : ℕ)
-    → first-fault (tests limits work space list answered r (chain n ps k)) ≡ 0 → ChainPassed space list answered n k
-chain-passed limits work space list answered r n ps k e =
-    let m = leb (answer-bytes * suc answered) space in
+pub chain-passed : (b : ℕ) (limits : Limits) (work space : ℕ) (list : Plain) (answered : ℕ) (r : Bytes) (n : ℕ) (ps : List ℕ) (k : ℕ)
+    → first-fault (tests b limits work space list answered r (chain n ps k)) ≡ 0 → ChainPassed b space list answered n k
+chain-passed b limits work space list answered r n ps k e =
+    let m = leb (answer-bytes b * suc answered) space in
     let a = taken (all-below (length list) (k ∷ [])) 5 (cond (is-some (chain-rule-at n)) (cond m 0 19) 9) e in
-    let b = taken (is-some (chain-rule-at n)) 8 (cond m 0 19) (a .1) in
-    let q = there (chain-rule-at n) (b .0) in
+    let c = taken (is-some (chain-rule-at n)) 8 (cond m 0 19) (a .1) in
+    let q = there (chain-rule-at n) (c .0) in
     record {
       below = ltb→lt k (length list) (and-l (ltb k (length list)) _ (a .0));
       rule = q .0;
       rule-is = q .1;
-      roomy = leb→le (answer-bytes * suc answered) space (taken m 18 0 (b .1) .0);
+      roomy = leb→le (answer-bytes b * suc answered) space (taken m 18 0 (c .1) .0);
     }
 
 -- the answer to a step that passed
-pub step-answer : (space : ℕ) (list : Plain) (answered n : ℕ) (ks : List ℕ) (p : StepPassed space list answered n ks)
+pub step-answer : (b space : ℕ) (list : Plain) (answered n : ℕ) (ks : List ℕ) (p : StepPassed b space list answered n ks)
     → reply n (rule-at n) (at-places list ks) ≡ answer-to n (p .rule) (map (tree-at list) ks) ∷ []
-step-answer space list answered n ks p = ap₂ (reply n) (p .rule-is) (at-places-are list ks (p .below))
+step-answer b space list answered n ks p = ap₂ (reply n) (p .rule-is) (at-places-are list ks (p .below))
 
 -- the answer to a chain that passed
-pub chain-answer : (earlier : Earlier) (space : ℕ) (list : Plain) (answered n k : ℕ) (ps : List ℕ) (p : ChainPassed space list answered n k)
+pub chain-answer : (b : ℕ) (earlier : Earlier) (space : ℕ) (list : Plain) (answered n k : ℕ) (ps : List ℕ) (p : ChainPassed b space list answered n k)
     → chain-reply n (chain-rule-at n) (premises-at earlier list ps) (at-place list k)
     ≡ judged n (joined (p .rule) (premises-at earlier list ps) (tree-at list k)) (tree-at list k) ∷ []
-chain-answer earlier space list answered n k ps p =
+chain-answer b earlier space list answered n k ps p =
     ap₂ (λ (rule : Option ChainRule) (claim : Option Term). chain-reply n rule (premises-at earlier list ps) claim) (p .rule-is) (at-place-is list k (p .below))
 
 -- an answer to a step of either kind that passed
@@ -158,15 +158,15 @@ put-cases P list r t old new = go (has list r) new
     go false f = f (λ z. z)
 
 -- what a record without a fault makes of the list: a property that a new term and a shorter list keep
-pub fed : (P : Plain → Type 0) (limits : Limits) (work space : ℕ) (list : Plain) (answered : ℕ) (r : Bytes) → fault limits work space list answered r ≡ 0 → P list
-    → ((o : Op) (ks : List ℕ) → read r ≡ term o ks → TermPassed limits work list r o ks → (T (has list r) → ⊥) → P (list ++ (entry (tree-of list o ks) r ∷ [])))
-    → ((n : ℕ) → first-terms ≤ n → n ≤ length list → P (take n list)) → P (feed list r)
+pub fed : (P : Plain → Type 0) (b : ℕ) (limits : Limits) (work space : ℕ) (list : Plain) (answered : ℕ) (r : Bytes) → fault b limits work space list answered r ≡ 0 → P list
+    → ((o : Op) (ks : List ℕ) → read b r ≡ term o ks → TermPassed b limits work list r o ks → (T (has list r) → ⊥) → P (list ++ (entry (tree-of list o ks) r ∷ [])))
+    → ((n : ℕ) → first-terms ≤ n → n ≤ length list → P (take n list)) → P (feed b list r)
 unfolding feed fault
-fed P limits work space list answered r e old new shorter = go (read r) e refl
+fed P b limits work space list answered r e old new shorter = go (read b r) e refl
   where
-    go : (i : Item) → first-fault (tests limits work space list answered r i) ≡ 0 → read r ≡ i → P (feed-item list r i)
+    go : (i : Item) → first-fault (tests b limits work space list answered r i) ≡ 0 → read b r ≡ i → P (feed-item list r i)
     go (term o ks) f d =
-        let p = term-passed limits work space list answered r o ks f in
+        let p = term-passed b limits work space list answered r o ks f in
         subst (λ (q : Option Term). P (put list r q)) (sym (term-of-is list o ks (p .below)))
         (put-cases P list r (tree-of list o ks) old (new o ks d p))
     go (step n ks) f d = old
@@ -177,28 +177,28 @@ fed P limits work space list answered r e old new shorter = go (read r) e refl
     go unknown f d = old
     go misfit f d = old
 
-pub feed-good : (limits : Limits) (work space : ℕ) (list : Plain) (answered : ℕ) (r : Bytes) → fault limits work space list answered r ≡ 0 → AllGood list → AllGood (feed list r)
-feed-good limits work space list answered r e h =
-    fed AllGood limits work space list answered r e h
-    (λ o ks d p n. good-snoc list (entry (tree-of list o ks) r) h (p .sorted)) (λ n a b. good-take n list h)
+pub feed-good : (b : ℕ) (limits : Limits) (work space : ℕ) (list : Plain) (answered : ℕ) (r : Bytes) → fault b limits work space list answered r ≡ 0 → AllGood list → AllGood (feed b list r)
+feed-good b limits work space list answered r e h =
+    fed AllGood b limits work space list answered r e h
+    (λ o ks d p n. good-snoc list (entry (tree-of list o ks) r) h (p .sorted)) (λ n x y. good-take n list h)
 
 -- the answers to a record without a fault: one to a step, none to any other
-pub answers-cases : (P : List Answer → Type 0) (limits : Limits) (work space : ℕ) (earlier : Earlier) (list : Plain) (answered : ℕ) (r : Bytes) → fault limits work space list answered r ≡ 0
-    → ((a : Answer) → AnswerOf earlier list (read r) a → P (a ∷ []))
-    → (is-step (read r) ≡ false → P []) → P (answers-to earlier list r)
+pub answers-cases : (P : List Answer → Type 0) (b : ℕ) (limits : Limits) (work space : ℕ) (earlier : Earlier) (list : Plain) (answered : ℕ) (r : Bytes) → fault b limits work space list answered r ≡ 0
+    → ((a : Answer) → AnswerOf earlier list (read b r) a → P (a ∷ []))
+    → (is-step (read b r) ≡ false → P []) → P (answers-to b earlier list r)
 unfolding answers-to fault
-answers-cases P limits work space earlier list answered r e one other = go (read r) e refl
+answers-cases P b limits work space earlier list answered r e one other = go (read b r) e refl
   where
-    go : (i : Item) → first-fault (tests limits work space list answered r i) ≡ 0 → read r ≡ i → P (item-answers earlier list i)
+    go : (i : Item) → first-fault (tests b limits work space list answered r i) ≡ 0 → read b r ≡ i → P (item-answers earlier list i)
     go (step n ks) f d =
-        let p = step-passed limits work space list answered r n ks f in
+        let p = step-passed b limits work space list answered r n ks f in
         let a = answer-to n (p .rule) (map (tree-at list) ks) in
-        subst P (sym (step-answer space list answered n ks p))
+        subst P (sym (step-answer b space list answered n ks p))
         (one a (subst (λ (i : Item). AnswerOf earlier list i a) (sym d) (to-step n (p .rule) ks (p .rule-is) (p .below))))
     go (chain n ps k) f d =
-        let p = chain-passed limits work space list answered r n ps k f in
+        let p = chain-passed b limits work space list answered r n ps k f in
         let a = judged n (joined (p .rule) (premises-at earlier list ps) (tree-at list k)) (tree-at list k) in
-        subst P (sym (chain-answer earlier space list answered n k ps p))
+        subst P (sym (chain-answer b earlier space list answered n k ps p))
         (one a (subst (λ (i : Item). AnswerOf earlier list i a) (sym d) (to-chain n (p .rule) ps k (p .rule-is) (p .below))))
     go (term o ks) f d = other (ap is-step d)
     go (back n) f d = other (ap is-step d)
@@ -206,43 +206,47 @@ answers-cases P limits work space earlier list answered r e one other = go (read
     go misfit f d = other (ap is-step d)
 
 -- ---- the earlier steps
-pub earlier-snoc : (earlier : Earlier) (list : Plain) (rs : List Bytes) (r : Bytes)
-    → earlier-from earlier list (rs ++ (r ∷ [])) ≡ recall (earlier-from earlier list rs) (foldl feed list rs) r
-earlier-snoc earlier list [] r = refl
-earlier-snoc earlier list (s ∷ rs) r = earlier-snoc (recall earlier list s) (feed list s) rs r
+pub earlier-snoc : (b : ℕ) (earlier : Earlier) (list : Plain) (rs : List Bytes) (r : Bytes)
+    → earlier-from b earlier list (rs ++ (r ∷ [])) ≡ recall b (earlier-from b earlier list rs) (foldl (feed b) list rs) r
+earlier-snoc b earlier list [] r = refl
+earlier-snoc b earlier list (s ∷ rs) r = earlier-snoc b (recall b earlier list s) (feed b list s) rs r
 
 -- ---- the repeats
-pub repeats-snoc : (list : Plain) (rs : List Bytes) (r : Bytes) → repeats-from list (rs ++ (r ∷ [])) ≡ repeats-from list rs + repeat-of (foldl feed list rs) r
-repeats-snoc list [] r = omega arith
-repeats-snoc list (s ∷ rs) r = let e = repeats-snoc (feed list s) rs r in omega arith
+pub repeats-snoc : (b : ℕ) (list : Plain) (rs : List Bytes) (r : Bytes) → repeats-from b list (rs ++ (r ∷ [])) ≡ repeats-from b list rs + repeat-of b (foldl (feed b) list rs) r
+repeats-snoc b list [] r = omega arith
+repeats-snoc b list (s ∷ rs) r = let e = repeats-snoc b (feed b list s) rs r in omega arith
 
 module _ (limits : Limits) (job : Bytes) (work space : ℕ) where
+  -- the bytes of a term's number
+  abbrev b : ℕ
+  b = number-length job
+
   -- answer k of the first `done` records is the answer to step k, from the plain list and the earlier steps just then
   pub record Answered (done k : ℕ) (a : Answer) : Type 0 where
     pub m : ℕ
     pub bytes : Bytes
     pub m-done : m < done
     pub stands : getElem? (records-of job) m ≡ some bytes
-    pub kth : step-count (take m (records-of job)) ≡ k
+    pub kth : step-count b (take m (records-of job)) ≡ k
     pub sorted : AllGood (plain-after m job)
-    pub is : AnswerOf (earlier-after m job) (plain-after m job) (read bytes) a
+    pub is : AnswerOf (earlier-after m job) (plain-after m job) (read b bytes) a
 
   -- record m, which is r, has no fault
   abbrev pub Passes : ℕ → Bytes → Type 0
-  Passes m r = fault limits work space (plain-after m job) (step-count (take m (records-of job))) r ≡ 0
+  Passes m r = fault b limits work space (plain-after m job) (step-count b (take m (records-of job))) r ≡ 0
 
   -- after the records `pre`
   pub record Good (pre : List Bytes) (earlier : Earlier) (list : Plain) (answers : List Answer) : Type 0 where
-    pub plain : list ≡ foldl feed start pre
-    pub recalled : earlier ≡ earlier-from [] start pre
+    pub plain : list ≡ foldl (feed b) start pre
+    pub recalled : earlier ≡ earlier-from b [] start pre
     pub sorted : AllGood list
-    pub counted : length answers ≡ step-count pre
+    pub counted : length answers ≡ step-count b pre
     pub exact : (k : ℕ) (a : Answer) → getElem? answers k ≡ some a → Answered (length pre) k a
     pub passed : (m : ℕ) (r : Bytes) → m < length pre → getElem? (records-of job) m ≡ some r → Passes m r
 
   later : (d d′ k : ℕ) (a : Answer) → d ≤ d′ → Answered d k a → Answered d′ k a
   later d d′ k a l h =
-      let b = h .m-done in
+      let before = h .m-done in
       record {
         m = h .m;
         bytes = h .bytes;
@@ -254,27 +258,27 @@ module _ (limits : Limits) (job : Bytes) (work space : ℕ) where
       }
 
   module _ (pre : List Bytes) (earlier : Earlier) (list : Plain) (answers : List Answer) (r : Bytes) (rs : List Bytes)
-      (all : records-of job ≡ pre ++ (r ∷ rs)) (before : Good pre earlier list answers) (e : fault limits work space list (length answers) r ≡ 0) where
+      (all : records-of job ≡ pre ++ (r ∷ rs)) (before : Good pre earlier list answers) (e : fault b limits work space list (length answers) r ≡ 0) where
     so-far : take (length pre) (records-of job) ≡ pre
     so-far = ap (take (length pre)) all ∙ take-append-seam pre (r ∷ rs)
 
     plain-now : list ≡ plain-after (length pre) job
-    plain-now = before .plain ∙ ap (foldl feed start) (sym so-far)
+    plain-now = before .plain ∙ ap (foldl (feed b) start) (sym so-far)
 
     earlier-now : earlier ≡ earlier-after (length pre) job
-    earlier-now = before .recalled ∙ ap (earlier-from [] start) (sym so-far)
+    earlier-now = before .recalled ∙ ap (earlier-from b [] start) (sym so-far)
 
     stands-now : getElem? (records-of job) (length pre) ≡ some r
     stands-now = ap (λ (l : List Bytes). getElem? l (length pre)) all ∙ getElem-seam pre r rs
 
-    count-now : step-count (take (length pre) (records-of job)) ≡ length answers
-    count-now = ap step-count so-far ∙ sym (before .counted)
+    count-now : step-count b (take (length pre) (records-of job)) ≡ length answers
+    count-now = ap (step-count b) so-far ∙ sym (before .counted)
 
     passes-now : Passes (length pre) r
-    passes-now = subst₂ (λ (l : Plain) (k : ℕ). fault limits work space l k r ≡ 0) plain-now (sym count-now) e
+    passes-now = subst₂ (λ (l : Plain) (k : ℕ). fault b limits work space l k r ≡ 0) plain-now (sym count-now) e
 
     -- the step that comes now
-    new-answer : (a : Answer) → AnswerOf earlier list (read r) a → Answered (suc (length pre)) (length answers) a
+    new-answer : (a : Answer) → AnswerOf earlier list (read b r) a → Answered (suc (length pre)) (length answers) a
     new-answer a h = record {
       m = length pre;
       bytes = r;
@@ -282,23 +286,23 @@ module _ (limits : Limits) (job : Bytes) (work space : ℕ) where
       stands = stands-now;
       kth = count-now;
       sorted = subst AllGood plain-now (before .sorted);
-      is = subst₂ (λ (x : Earlier) (l : Plain). AnswerOf x l (read r) a) earlier-now plain-now h;
+      is = subst₂ (λ (x : Earlier) (l : Plain). AnswerOf x l (read b r) a) earlier-now plain-now h;
     }
 
-    after-exact : (k : ℕ) (a : Answer) → getElem? (answers ++ answers-to earlier list r) k ≡ some a → Answered (suc (length pre)) k a
+    after-exact : (k : ℕ) (a : Answer) → getElem? (answers ++ answers-to b earlier list r) k ≡ some a → Answered (suc (length pre)) k a
     after-exact k a =
-        answers-cases (λ (new : List Answer). getElem? (answers ++ new) k ≡ some a → Answered (suc (length pre)) k a) limits work space earlier list (length answers) r e
-        (λ b p g. snoc-elim answers b k a g
+        answers-cases (λ (new : List Answer). getElem? (answers ++ new) k ≡ some a → Answered (suc (length pre)) k a) b limits work space earlier list (length answers) r e
+        (λ x p g. snoc-elim answers x k a g
         (λ h. later (length pre) (suc (length pre)) k a (omega arith) (before .exact k a h))
-        (λ i j. subst₂ (Answered (suc (length pre))) (sym i) j (new-answer b p)))
+        (λ i j. subst₂ (Answered (suc (length pre))) (sym i) j (new-answer x p)))
         (λ d g. later (length pre) (suc (length pre)) k a (omega arith)
         (before .exact k a (ap (λ (l : List Answer). getElem? l k) (sym (append-nil answers)) ∙ g)))
 
-    after-counted : length (answers ++ answers-to earlier list r) ≡ step-count (pre ++ (r ∷ []))
+    after-counted : length (answers ++ answers-to b earlier list r) ≡ step-count b (pre ++ (r ∷ []))
     after-counted =
-        answers-cases (λ (new : List Answer). length (answers ++ new) ≡ step-count (pre ++ (r ∷ []))) limits work space earlier list (length answers) r e
-        (λ b p. length-append answers (b ∷ []) ∙ ap₂ _+_ (before .counted) (ap (λ (x : Bool). cond x 1 0) (sym (answered-step p))) ∙ sym (step-count-append pre r))
-        (λ d. length-append answers [] ∙ ap₂ _+_ (before .counted) (ap (λ (b : Bool). cond b 1 0) (sym d)) ∙ sym (step-count-append pre r))
+        answers-cases (λ (new : List Answer). length (answers ++ new) ≡ step-count b (pre ++ (r ∷ []))) b limits work space earlier list (length answers) r e
+        (λ a p. length-append answers (a ∷ []) ∙ ap₂ _+_ (before .counted) (ap (λ (x : Bool). cond x 1 0) (sym (answered-step p))) ∙ sym (step-count-append b pre r))
+        (λ d. length-append answers [] ∙ ap₂ _+_ (before .counted) (ap (λ (x : Bool). cond x 1 0) (sym d)) ∙ sym (step-count-append b pre r))
 
     after-passed : (m : ℕ) (s : Bytes) → m < suc (length pre) → getElem? (records-of job) m ≡ some s → Passes m s
     after-passed m s l f = go (ℕ-discrete m (length pre))
@@ -307,13 +311,13 @@ module _ (limits : Limits) (job : Bytes) (work space : ℕ) where
         go (yes d) = subst₂ Passes (sym d) (some-inj r s (sym stands-now ∙ ap (getElem? (records-of job)) (sym d) ∙ f)) passes-now
         go (no d) = before .passed m s (omega arith) f
 
-    next : Good (pre ++ (r ∷ [])) (recall earlier list r) (feed list r) (answers ++ answers-to earlier list r)
+    next : Good (pre ++ (r ∷ [])) (recall b earlier list r) (feed b list r) (answers ++ answers-to b earlier list r)
     next =
         let l : length (pre ++ (r ∷ [])) ≡ suc (length pre) = length-append pre (r ∷ []) ∙ add-one (length pre) in
         record {
-          plain = ap (λ (p : Plain). feed p r) (before .plain) ∙ sym (foldl-append feed start pre (r ∷ []));
-          recalled = ap₂ (λ (x : Earlier) (l : Plain). recall x l r) (before .recalled) (before .plain) ∙ sym (earlier-snoc [] start pre r);
-          sorted = feed-good limits work space list (length answers) r e (before .sorted);
+          plain = ap (λ (p : Plain). feed b p r) (before .plain) ∙ sym (foldl-append (feed b) start pre (r ∷ []));
+          recalled = ap₂ (λ (x : Earlier) (l : Plain). recall b x l r) (before .recalled) (before .plain) ∙ sym (earlier-snoc b [] start pre r);
+          sorted = feed-good b limits work space list (length answers) r e (before .sorted);
           counted = after-counted;
           exact = λ k a f. subst (λ (n : ℕ). Answered n k a) (sym l) (after-exact k a f);
           passed = λ m s h f. after-passed m s (subst (λ (n : ℕ). m < n) l h) f;
@@ -325,27 +329,27 @@ module _ (limits : Limits) (job : Bytes) (work space : ℕ) where
     pub short : (m : ℕ) → m < o .records → length job ≤ max-job
     pub within : o .records ≤ length (records-of job)
     pub terms-are : o .terms ≡ length (plain-after (o .records) job)
-    pub repeats-are : o .repeats ≡ repeats-from start (take (o .records) (records-of job))
+    pub repeats-are : o .repeats ≡ repeats-from b start (take (o .records) (records-of job))
     pub all-sorted : AllGood (plain-after (o .records) job)
-    pub answers-are : length (o .answers) ≡ step-count (take (o .records) (records-of job))
+    pub answers-are : length (o .answers) ≡ step-count b (take (o .records) (records-of job))
     pub all-passed : (m : ℕ) (r : Bytes) → m < o .records → getElem? (records-of job) m ≡ some r → Passes m r
     pub exact-answers : (k : ℕ) (a : Answer) → getElem? (o .answers) k ≡ some a → Answered (o .records) k a
     pub why : Stops limits job work space (o .stop) (o .records)
 
-  stopped : (stop repeats : ℕ) (pre rs : List Bytes) → repeats ≡ repeats-from start pre → (earlier : Earlier) (list : Plain) (answers : List Answer) → records-of job ≡ pre ++ rs → Good pre earlier list answers
+  stopped : (stop repeats : ℕ) (pre rs : List Bytes) → repeats ≡ repeats-from b start pre → (earlier : Earlier) (list : Plain) (answers : List Answer) → records-of job ≡ pre ++ rs → Good pre earlier list answers
       → ((m : ℕ) → m < length pre → length job ≤ max-job) → Stop stop → Stops limits job work space stop (length pre) → Ran (outcome stop (length pre) repeats answers list)
   stopped stop repeats pre rs n earlier list answers all g short code why =
       let t : take (length pre) (records-of job) ≡ pre = ap (take (length pre)) all ∙ take-append-seam pre rs in
-      let p : list ≡ plain-after (length pre) job = g .plain ∙ ap (foldl feed start) (sym t) in
+      let p : list ≡ plain-after (length pre) job = g .plain ∙ ap (foldl (feed b) start) (sym t) in
       let l : length (records-of job) ≡ length pre + length rs = ap length all ∙ length-append pre rs in
       record {
         stop-known = code;
         short = short;
         within = omega arith;
         terms-are = ap length p;
-        repeats-are = n ∙ ap (repeats-from start) (sym t);
+        repeats-are = n ∙ ap (repeats-from b start) (sym t);
         all-sorted = subst AllGood p (g .sorted);
-        answers-are = g .counted ∙ ap step-count (sym t);
+        answers-are = g .counted ∙ ap (step-count b) (sym t);
         all-passed = g .passed;
         exact-answers = g .exact;
         why = why;
@@ -358,11 +362,11 @@ module _ (limits : Limits) (job : Bytes) (work space : ℕ) where
 
   -- why it stops at record r, or where none is left
   why-fault : (pre : List Bytes) (earlier : Earlier) (list : Plain) (answers : List Answer) (r : Bytes) (rs : List Bytes) → length job ≤ max-job → records-of job ≡ pre ++ (r ∷ rs)
-      → Good pre earlier list answers → (c : ℕ) → fault limits work space list (length answers) r ≡ suc c → Stops limits job work space (suc c) (length pre)
+      → Good pre earlier list answers → (c : ℕ) → fault b limits work space list (length answers) r ≡ suc c → Stops limits job work space (suc c) (length pre)
   why-fault pre earlier list answers r rs short all g c e =
       let t : take (length pre) (records-of job) ≡ pre = ap (take (length pre)) all ∙ take-append-seam pre (r ∷ rs) in
       at-record short (ap (λ (l : List Bytes). getElem? l (length pre)) all ∙ getElem-seam pre r rs)
-      (subst₂ (λ (l : Plain) (k : ℕ). fault limits work space l k r ≡ suc c) (g .plain ∙ ap (foldl feed start) (sym t)) (g .counted ∙ ap step-count (sym t)) e)
+      (subst₂ (λ (l : Plain) (k : ℕ). fault b limits work space l k r ≡ suc c) (g .plain ∙ ap (foldl (feed b) start) (sym t)) (g .counted ∙ ap (step-count b) (sym t)) e)
       (g .passed)
 
   why-end : (pre : List Bytes) (earlier : Earlier) (list : Plain) (answers : List Answer) → length job ≤ max-job → records-of job ≡ pre ++ [] → Good pre earlier list answers
@@ -370,22 +374,22 @@ module _ (limits : Limits) (job : Bytes) (work space : ℕ) where
   why-end pre earlier list answers short all g = at-end short (ap length (all ∙ append-nil pre)) (g .passed)
 
   module _ (short : length job ≤ max-job) where
-    runs : (rs pre : List Bytes) (earlier : Earlier) (list : Plain) (answers : List Answer) (done repeats : ℕ) → done ≡ length pre → repeats ≡ repeats-from start pre → records-of job ≡ pre ++ rs → Good pre earlier list answers
-        → Ran (run-from limits work space (ending job) done repeats earlier list answers rs)
+    runs : (rs pre : List Bytes) (earlier : Earlier) (list : Plain) (answers : List Answer) (done repeats : ℕ) → done ≡ length pre → repeats ≡ repeats-from b start pre → records-of job ≡ pre ++ rs → Good pre earlier list answers
+        → Ran (run-from b limits work space (ending job) done repeats earlier list answers rs)
     unfolding run-from
     runs [] pre earlier list answers done repeats d n all g =
         subst (λ (m : ℕ). Ran (outcome (ending job) m repeats answers list)) (sym d)
         (stopped (ending job) repeats pre [] n earlier list answers all g (λ m l. short) (ending-code job) (why-end pre earlier list answers short all g))
     runs (r ∷ rs) pre earlier list answers done repeats d n all g =
-        by-fault (fault limits work space list (length answers) r)
-        (run-from limits work space (ending job) (suc done) (repeats + repeat-of list r) (recall earlier list r) (feed list r) (answers ++ answers-to earlier list r) rs) (λ c. outcome (suc c) done repeats answers list)
-        (λ e. runs rs (pre ++ (r ∷ [])) (recall earlier list r) (feed list r) (answers ++ answers-to earlier list r) (suc done) (repeats + repeat-of list r)
+        by-fault (fault b limits work space list (length answers) r)
+        (run-from b limits work space (ending job) (suc done) (repeats + repeat-of b list r) (recall b earlier list r) (feed b list r) (answers ++ answers-to b earlier list r) rs) (λ c. outcome (suc c) done repeats answers list)
+        (λ e. runs rs (pre ++ (r ∷ [])) (recall b earlier list r) (feed b list r) (answers ++ answers-to b earlier list r) (suc done) (repeats + repeat-of b list r)
         (ap suc d ∙ sym (length-append pre (r ∷ []) ∙ add-one (length pre)))
-        (ap₂ (λ (k : ℕ) (l : Plain). k + repeat-of l r) n (g .plain) ∙ sym (repeats-snoc start pre r))
+        (ap₂ (λ (k : ℕ) (l : Plain). k + repeat-of b l r) n (g .plain) ∙ sym (repeats-snoc b start pre r))
         (all ∙ sym (append-assoc pre (r ∷ []) rs))
         (next pre earlier list answers r rs all g e))
         (λ c e. subst (λ (m : ℕ). Ran (outcome (suc c) m repeats answers list)) (sym d)
-        (stopped (suc c) repeats pre (r ∷ rs) n earlier list answers all g (λ m l. short) (subst Stop e (fault-code limits work space list (length answers) r))
+        (stopped (suc c) repeats pre (r ∷ rs) n earlier list answers all g (λ m l. short) (subst Stop e (fault-code b limits work space list (length answers) r))
         (why-fault pre earlier list answers r rs short all g c e)))
 
   good-start : Good [] [] start []
@@ -403,7 +407,7 @@ module _ (limits : Limits) (job : Bytes) (work space : ℕ) where
   pub ran : Ran (run limits job work space)
   unfolding run
   ran =
-      by-length (leb (length job) max-job) refl (run-from limits work space (ending job) 0 0 [] start [] (records-of job)) (outcome 2 0 0 [] start)
+      by-length (leb (length job) max-job) refl (run-from b limits work space (ending job) 0 0 [] start [] (records-of job)) (outcome 2 0 0 [] start)
       (λ s. runs s (records-of job) [] [] start [] 0 0 refl refl refl good-start)
       (λ h. stopped 2 0 [] (records-of job) refl [] start [] refl good-start (λ m l. absurd (omega arith)) tt (too-long h))
 
@@ -414,15 +418,15 @@ module _ (limits : Limits) (job : Bytes) (work space : ℕ) where
       ∙ ap (λ (x : Bytes). take m (records-of job) ++ (x ∷ [])) (some-inj (getD (records-of job) m []) r (sym (getElem-of (records-of job) m [] l) ∙ e))
 
   -- the list, the earlier steps and their number after one more record
-  pub plain-next : (m : ℕ) (r : Bytes) → getElem? (records-of job) m ≡ some r → plain-after (suc m) job ≡ feed (plain-after m job) r
-  plain-next m r e = ap (foldl feed start) (take-next m r e) ∙ foldl-append feed start (take m (records-of job)) (r ∷ [])
+  pub plain-next : (m : ℕ) (r : Bytes) → getElem? (records-of job) m ≡ some r → plain-after (suc m) job ≡ feed b (plain-after m job) r
+  plain-next m r e = ap (foldl (feed b) start) (take-next m r e) ∙ foldl-append (feed b) start (take m (records-of job)) (r ∷ [])
 
-  pub earlier-next : (m : ℕ) (r : Bytes) → getElem? (records-of job) m ≡ some r → earlier-after (suc m) job ≡ recall (earlier-after m job) (plain-after m job) r
-  earlier-next m r e = ap (earlier-from [] start) (take-next m r e) ∙ earlier-snoc [] start (take m (records-of job)) r
+  pub earlier-next : (m : ℕ) (r : Bytes) → getElem? (records-of job) m ≡ some r → earlier-after (suc m) job ≡ recall b (earlier-after m job) (plain-after m job) r
+  earlier-next m r e = ap (earlier-from b [] start) (take-next m r e) ∙ earlier-snoc b [] start (take m (records-of job)) r
 
   pub count-next : (m : ℕ) (r : Bytes) → getElem? (records-of job) m ≡ some r
-      → step-count (take (suc m) (records-of job)) ≡ step-count (take m (records-of job)) + cond (is-step (read r)) 1 0
-  count-next m r e = ap step-count (take-next m r e) ∙ step-count-append (take m (records-of job)) r
+      → step-count b (take (suc m) (records-of job)) ≡ step-count b (take m (records-of job)) + cond (is-step (read b r)) 1 0
+  count-next m r e = ap (step-count b) (take-next m r e) ∙ step-count-append b (take m (records-of job)) r
 
   -- a property that holds at the start and that every record without a fault keeps holds all through the run
   pub plain-ind : (P : ℕ → Type 0) → P 0
@@ -439,4 +443,4 @@ module _ (limits : Limits) (job : Bytes) (work space : ℕ) where
   pub sorted-after : (m : ℕ) → m ≤ run limits job work space .records → AllGood (plain-after m job)
   sorted-after =
       plain-ind (λ m. AllGood (plain-after m job)) start-good
-      (λ m r l e p h. subst AllGood (sym (plain-next m r e)) (feed-good limits work space (plain-after m job) (step-count (take m (records-of job))) r p h))
+      (λ m r l e p h. subst AllGood (sym (plain-next m r e)) (feed-good b limits work space (plain-after m job) (step-count b (take m (records-of job))) r p h))

@@ -11,7 +11,7 @@ use Rattle.theory.specs.Limit.{rack}
 use Rattle.theory.specs.Kind.{True, False, Equals}
 use Rattle.theory.specs.Term.{Term, node, nil, two, fold}
 use Rattle.theory.specs.Value.{Assign, Val, truth, value, meaning}
-use Rattle.theory.specs.Record.{Bytes, records-of, read, cut, shape-of, claim-of}
+use Rattle.theory.specs.Record.{Bytes, records-of, read, number-length, cut, shape-of, claim-of}
 use Rattle.theory.specs.Plain.{plain-after, at-place, feed}
 use Rattle.theory.specs.Answer.{Answer}
 use Rattle.theory.specs.Demand.{Held, Demand3}
@@ -49,12 +49,12 @@ not-held h =
     let ρ = x-and-y 0 0 in
     never ρ (ap (value ρ) (left-is _ _ _ _ f) ∙ h .equal ρ ∙ sym (ap (value ρ) (right-is _ _ _ _ f)))
 
-at-step : (m : ℕ) (bytes : Bytes) (n : ℕ) (ks : List ℕ) → m < 2 → getElem? (records-of job) m ≡ some bytes → claim-of (read bytes) ≡ some (n, ks)
+at-step : (m : ℕ) (bytes : Bytes) (n : ℕ) (ks : List ℕ) → m < 2 → getElem? (records-of job) m ≡ some bytes → claim-of (read (number-length job) bytes) ≡ some (n, ks)
     → Held (plain-after m job) ks → ⊥
 unfolding cut shape-of read
-at-step zero bytes n ks l s r h = none-some (n, ks) (ap (λ (b : Bytes). claim-of (read b)) (some-inj _ _ s) ∙ r)
+at-step zero bytes n ks l s r h = none-some (n, ks) (ap (λ (bs : Bytes). claim-of (read (number-length job) bs)) (some-inj _ _ s) ∙ r)
 at-step (suc zero) bytes n ks l s r h =
-    not-held (subst (Held (plain-after 1 job)) (sym (literals-are n ks (ap (λ (b : Bytes). claim-of (read b)) (some-inj _ _ s) ∙ r))) h)
+    not-held (subst (Held (plain-after 1 job)) (sym (literals-are n ks (ap (λ (bs : Bytes). claim-of (read (number-length job) bs)) (some-inj _ _ s) ∙ r))) h)
 at-step (suc (suc m)) bytes n ks l s r h = absurd (omega arith)
 
 pub shut-out-held : (a : Answer) → a .code ≡ 0 → Demand3 rack job 64 64 2 (a ∷ []) → ⊥

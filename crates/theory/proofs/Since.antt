@@ -9,7 +9,7 @@ use native.Mathlib.Decide.{ℕ-discrete}
 use lib.ListN.{length, take, getElem?, length-append, length-map}
 use borrow.Author.Tests.{lt-ltb, eq-eqb}
 use Rattle.theory.specs.Limit.{Limits}
-use Rattle.theory.specs.Record.{Bytes, records-of, Item, term, step, chain, back, unknown, misfit, read, is-step, claim-of, step-count}
+use Rattle.theory.specs.Record.{Bytes, records-of, Item, term, step, chain, back, unknown, misfit, read, is-step, claim-of, step-count, number-length}
 use Rattle.theory.specs.Plain.{plain-after}
 use Rattle.theory.specs.Codes.{fault}
 use Rattle.theory.specs.Answer.{Answer}
@@ -23,7 +23,7 @@ use Rattle.theory.proofs.Run.{answers-cases, earlier-next, count-next, 
 -- ---- one more record
 module _ (job : Bytes) (m : ℕ) (r : Bytes) (e : getElem? (records-of job) m ≡ some r) where
   -- it is no back at or below p
-  more : (k p : ℕ) → ((n : ℕ) → read r ≡ back n → p < n) → Kept job m k p → Kept job (suc m) k p
+  more : (k p : ℕ) → ((n : ℕ) → read (number-length job) r ≡ back n → p < n) → Kept job m k p → Kept job (suc m) k p
   more k p f h =
       let l = h .earlier in
       record {
@@ -39,12 +39,12 @@ module _ (job : Bytes) (m : ℕ) (r : Bytes) (e : getElem? (records-of job) m �
         answered = h .answered;
         held = h .held;
         first = h .first;
-        since = λ j s n a b c d. go j s n a b c d (ℕ-discrete j m);
+        since = λ j s n x y c d. go j s n x y c d (ℕ-discrete j m);
       }
     where
-      go : (j : ℕ) (s : Bytes) (n : ℕ) → h .i < j → j < suc m → getElem? (records-of job) j ≡ some s → read s ≡ back n → Dec (j ≡ m) → p < n
-      go j s n a b c d (yes x) = f n (ap read (some-inj r s (sym e ∙ ap (getElem? (records-of job)) (sym x) ∙ c)) ∙ d)
-      go j s n a b c d (no x) = h .since j s n a (omega arith) c d
+      go : (j : ℕ) (s : Bytes) (n : ℕ) → h .i < j → j < suc m → getElem? (records-of job) j ≡ some s → read (number-length job) s ≡ back n → Dec (j ≡ m) → p < n
+      go j s n y z c d (yes x) = f n (ap (read (number-length job)) (some-inj r s (sym e ∙ ap (getElem? (records-of job)) (sym x) ∙ c)) ∙ d)
+      go j s n y z c d (no x) = h .since j s n y (omega arith) c d
 
   -- the other way, where it is not that step itself
   less : (k p : ℕ) (h : Kept job (suc m) k p) → (h .i ≡ m → ⊥) → Kept job m k p
@@ -79,30 +79,34 @@ not-claimed : {c : ℕ × List ℕ} → none ≡ some c → ⊥
 not-claimed {c} e = none-some c e
 
 module _ (limits : Limits) (job : Bytes) (work space m : ℕ) (r : Bytes) (e : getElem? (records-of job) m ≡ some r) (t : Tells job m (earlier-after m job)) where
+  -- the bytes of a term's number
+  abbrev b : ℕ
+  b = number-length job
+
   abbrev E : Earlier
   E = earlier-after m job
 
   -- no step and no back
-  same-told : is-step (read r) ≡ false → claim-of (read r) ≡ none → ((n : ℕ) → read r ≡ back n → ⊥) → Tells job (suc m) E
-  same-told a b c = record {
-    counted = t .counted ∙ sym (count-next limits job work space m r e ∙ ap (λ (x : Bool). step-count (take m (records-of job)) + cond x 1 0) a ∙ omega arith);
-    only = λ k p f. more job m r e k p (λ n d. absurd (c n d)) (t .only k p f);
-    all = λ k p h. t .all k p (less job m r e k p h (λ x. not-claimed (sym b ∙ ap (λ (s : Bytes). claim-of (read s)) (sym (same-bytes job m r e k p h x)) ∙ h .claims)));
+  same-told : is-step (read b r) ≡ false → claim-of (read b r) ≡ none → ((n : ℕ) → read b r ≡ back n → ⊥) → Tells job (suc m) E
+  same-told a d c = record {
+    counted = t .counted ∙ sym (count-next limits job work space m r e ∙ ap (λ (x : Bool). step-count b (take m (records-of job)) + cond x 1 0) a ∙ omega arith);
+    only = λ k p f. more job m r e k p (λ n x. absurd (c n x)) (t .only k p f);
+    all = λ k p h. t .all k p (less job m r e k p h (λ x. not-claimed (sym d ∙ ap (λ (s : Bytes). claim-of (read b s)) (sym (same-bytes job m r e k p h x)) ∙ h .claims)));
   }
 
   -- a back
-  back-told : (n : ℕ) → read r ≡ back n → Tells job (suc m) (map (unless-dropped n) E)
+  back-told : (n : ℕ) → read b r ≡ back n → Tells job (suc m) (map (unless-dropped n) E)
   back-told n d = record {
-    counted = length-map E (unless-dropped n) ∙ t .counted ∙ sym (count-next limits job work space m r e ∙ ap (λ (i : Item). step-count (take m (records-of job)) + cond (is-step i) 1 0) d ∙ omega arith);
+    counted = length-map E (unless-dropped n) ∙ t .counted ∙ sym (count-next limits job work space m r e ∙ ap (λ (i : Item). step-count b (take m (records-of job)) + cond (is-step i) 1 0) d ∙ omega arith);
     only = λ k p f.
         let q = getElem-map (unless-dropped n) E k (some p) f in
-        let b = dropped-not n (q .0) p (q .2) in
-        more job m r e k p (λ x y. subst (λ (z : ℕ). p < z) (count-of (sym d ∙ y)) (b .1)) (t .only k p (q .1 ∙ ap some (b .0)));
+        let u = dropped-not n (q .0) p (q .2) in
+        more job m r e k p (λ x y. subst (λ (z : ℕ). p < z) (count-of (sym d ∙ y)) (u .1)) (t .only k p (q .1 ∙ ap some (u .0)));
     all = λ k p h.
-        let x : h .i ≡ m → ⊥ = λ x. not-claimed (sym (ap claim-of d) ∙ ap (λ (s : Bytes). claim-of (read s)) (sym (same-bytes job m r e k p h x)) ∙ h .claims) in
+        let x : h .i ≡ m → ⊥ = λ x. not-claimed (sym (ap claim-of d) ∙ ap (λ (s : Bytes). claim-of (read b s)) (sym (same-bytes job m r e k p h x)) ∙ h .claims) in
         let l = h .earlier in
-        let b : p < n = h .since m r n (omega arith) (omega arith) e d in
-        map-at (unless-dropped n) E k (some p) (t .all k p (less job m r e k p h x)) ∙ ap some (kept p b);
+        let u : p < n = h .since m r n (omega arith) (omega arith) e d in
+        map-at (unless-dropped n) E k (some p) (t .all k p (less job m r e k p h x)) ∙ ap some (kept p u);
   }
     where
       count-of : {x y : ℕ} → back x ≡ back y → x ≡ y
@@ -112,11 +116,11 @@ module _ (limits : Limits) (job : Bytes) (work space m : ℕ) (r : Bytes) (e : g
       kept p h = rw (lt-ltb p n h)
 
   -- a step of either kind
-  step-told : (n : ℕ) (ks : List ℕ) → claim-of (read r) ≡ some (n, ks) → is-step (read r) ≡ true → (a : Answer) → answers-to E (plain-after m job) r ≡ a ∷ []
+  step-told : (n : ℕ) (ks : List ℕ) → claim-of (read b r) ≡ some (n, ks) → is-step (read b r) ≡ true → (a : Answer) → answers-to b E (plain-after m job) r ≡ a ∷ []
       → Tells job (suc m) (E ++ (leaves ks a ∷ []))
   step-told n ks c s a w = record {
     counted = length-append E (leaves ks a ∷ []) ∙ ap (λ (x : ℕ). x + 1) (t .counted)
-        ∙ sym (count-next limits job work space m r e ∙ ap (λ (x : Bool). step-count (take m (records-of job)) + cond x 1 0) s);
+        ∙ sym (count-next limits job work space m r e ∙ ap (λ (x : Bool). step-count b (take m (records-of job)) + cond x 1 0) s);
     only = λ k p f. snoc-elim E (leaves ks a) k (some p) f
         (λ g. more job m r e k p (λ x d. absurd (not-claimed (sym (ap claim-of d) ∙ c))) (t .only k p g)) (λ x y. itself k p x y);
     all = λ k p h. go k p h (ℕ-discrete (h .i) m);
@@ -149,25 +153,25 @@ module _ (limits : Limits) (job : Bytes) (work space m : ℕ) (r : Bytes) (e : g
           let g = t .all k p (less job m r e k p h x) in
           getElem-old E (leaves ks a ∷ []) k (getElem-lt E k (some p) g) ∙ g
       go k p h (yes x) =
-          let b = same-bytes job m r e k p h x in
-          let l : h .literals ≡ ks = ap (λ (q : ℕ × List ℕ). q .1) (some-inj (h .rule, h .literals) (n, ks) (sym (h .claims) ∙ ap (λ (s : Bytes). claim-of (read s)) b ∙ c)) in
+          let s = same-bytes job m r e k p h x in
+          let l : h .literals ≡ ks = ap (λ (q : ℕ × List ℕ). q .1) (some-inj (h .rule, h .literals) (n, ks) (sym (h .claims) ∙ ap (λ (bs : Bytes). claim-of (read b bs)) s ∙ c)) in
           let y : h .answer ≡ a
-          = same-answer (sym (h .answered) ∙ ap (λ (i : ℕ). answers-to (earlier-after i job) (plain-after i job) (h .bytes)) x ∙ ap (answers-to E (plain-after m job)) b ∙ w) in
+          = same-answer (sym (h .answered) ∙ ap (λ (i : ℕ). answers-to b (earlier-after i job) (plain-after i job) (h .bytes)) x ∙ ap (answers-to b E (plain-after m job)) s ∙ w) in
           let z : a .code ≡ 0 = ap (λ (v : Answer). v .code) (sym y) ∙ h .held in
-          let i : k ≡ length E = sym (h .kth) ∙ ap (λ (v : ℕ). step-count (take v (records-of job))) x ∙ sym (t .counted) in
+          let i : k ≡ length E = sym (h .kth) ∙ ap (λ (v : ℕ). step-count b (take v (records-of job))) x ∙ sym (t .counted) in
           ap (getElem? (E ++ (leaves ks a ∷ []))) i ∙ getElem-seam E (leaves ks a) []
           ∙ ap some (ap (λ (v : Bool). cond v (getElem? ks 0) none) (eq-eqb (a .code) 0 z) ∙ ap (λ (js : List ℕ). getElem? js 0) (sym l) ∙ h .first)
 
-  one-new : fault limits work space (plain-after m job) (step-count (take m (records-of job))) r ≡ 0 → is-step (read r) ≡ true → (a : Answer) × (answers-to E (plain-after m job) r ≡ a ∷ [])
+  one-new : fault b limits work space (plain-after m job) (step-count b (take m (records-of job))) r ≡ 0 → is-step (read b r) ≡ true → (a : Answer) × (answers-to b E (plain-after m job) r ≡ a ∷ [])
   one-new p =
-      answers-cases (λ (new : List Answer). is-step (read r) ≡ true → (a : Answer) × (new ≡ a ∷ [])) limits work space E (plain-after m job) (step-count (take m (records-of job))) r p
+      answers-cases (λ (new : List Answer). is-step (read b r) ≡ true → (a : Answer) × (new ≡ a ∷ [])) b limits work space E (plain-after m job) (step-count b (take m (records-of job))) r p
       (λ a h s. (a, refl)) (λ f s. absurd (let q : false ≡ true = sym f ∙ s in let z : _≡_ {A = ℕ} 0 1 = cc in omega arith))
 
-  next-told : fault limits work space (plain-after m job) (step-count (take m (records-of job))) r ≡ 0 → Tells job (suc m) (recall E (plain-after m job) r)
+  next-told : fault b limits work space (plain-after m job) (step-count b (take m (records-of job))) r ≡ 0 → Tells job (suc m) (recall b E (plain-after m job) r)
   unfolding recall
-  next-told p = go (read r) refl
+  next-told p = go (read b r) refl
     where
-      go : (i : Item) → read r ≡ i → Tells job (suc m) (recall-item E i (answers-to E (plain-after m job) r))
+      go : (i : Item) → read b r ≡ i → Tells job (suc m) (recall-item E i (answers-to b E (plain-after m job) r))
       go (term o ks) d = same-told (ap is-step d) (ap claim-of d) (λ n f. let g = sym d ∙ f in let z : _≡_ {A = ℕ} 0 1 = cc in omega arith)
       go (step n ks) d =
           let a = one-new p (ap is-step d) in

@@ -7,7 +7,7 @@ use native.Mathlib.Omega.{arith}
 use lib.Dec.{T, eqb, leb, eqb→eq, le→leb}
 use lib.ListN.{length, drop}
 use Rattle.theory.specs.Limit.{answer-bytes}
-use Rattle.theory.specs.Record.{Bytes}
+use Rattle.theory.specs.Record.{Bytes, number-length}
 use Rattle.theory.specs.Answer.{Answer, decode-answers}
 use Rattle.theory.specs.Job.{call}
 use Rattle.theory.specs.Tally.{Tally, max-tally, up, how-many, tally-after, zero-tally}
@@ -58,15 +58,15 @@ sum-from (o ∷ os) t f =
     (s .0, r .1 ∙ ap (λ (n : ℕ). n + total os) (s .1) ∙ let x = sum t in let y = length o in omega arith)
 
 -- as many answers are read as are asked for
-pub decoded-length : (k : ℕ) (bs : Bytes) → length (decode-answers k bs) ≡ k
-decoded-length zero bs = refl
-decoded-length (suc k) bs = ap suc (decoded-length k (drop answer-bytes bs))
+pub decoded-length : (b k : ℕ) (bs : Bytes) → length (decode-answers b k bs) ≡ k
+decoded-length b zero bs = refl
+decoded-length b (suc k) bs = ap suc (decoded-length b k (drop (answer-bytes b) bs))
 
 total-written : (jobs : List Lent) → total (map left-by jobs) ≡ written jobs
 total-written [] = refl
 total-written (l ∷ rest) =
     let c = call (l .limits) (l .job) (l .work) (l .answers) in
-    ap₂ (λ (m n : ℕ). m + n) (decoded-length (c .result .answers) (c .answer-memory)) (total-written rest)
+    ap₂ (λ (m n : ℕ). m + n) (decoded-length (number-length (l .job)) (c .result .answers) (c .answer-memory)) (total-written rest)
 
 pub tally-sum : TallySum
 tally-sum jobs f = let t = total-written jobs in let s = sum-from (map left-by jobs) zero-tally f .1 in omega arith

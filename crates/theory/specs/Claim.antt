@@ -7,13 +7,13 @@ use mathlib.Core.Option.{some}
 use Prim.Native.Nat.{ℕ, _+_, _-_, _*_, _%_, _^_, _<_, _≤_, max}
 use lib.Dec.{T, eqb, ltb}
 use lib.ListN.{length, take, drop, getElem?}
-use Rattle.theory.specs.Limit.{number-bytes, Limits, capped, first-terms, term-bytes, answer-bytes}
+use Rattle.theory.specs.Limit.{Limits, capped, first-terms, term-bytes, answer-bytes}
 use Rattle.theory.specs.Kind.{Op, Equals, BvBbTerm, BvNeg, BvAdd, BvMul, BvULt, BvSLt}
 use Rattle.theory.specs.Term.{Term, Terms, node, nil, cons, two}
 use Rattle.theory.specs.Sort.{bv, sort-width, sort-of}
 use Rattle.theory.specs.Value.{Assign, Val, number-of, value, bit-at, rotate-left-n, rotate-right-n}
 use Rattle.theory.specs.RuleTable.{Rule, by-ult, by-slt, by-add, by-mult, by-neg, rule-at}
-use Rattle.theory.specs.Record.{Bytes, AllBytes, records-of, step, read, step-count, Item, term, chain, back, unknown, misfit}
+use Rattle.theory.specs.Record.{Bytes, AllBytes, records-of, step, read, step-count, Item, term, chain, back, unknown, misfit, number-length}
 use Rattle.theory.specs.Plain.{Plain, plain-after, at-place, start, feed, repeat-of}
 use Rattle.theory.specs.Answer.{Answer, decode-answers}
 use Rattle.theory.specs.Job.{answer-to, Outcome, run, call}
@@ -51,15 +51,15 @@ OneNumber = (limits : Limits) (job : Bytes) → AllBytes job → (work space m i
     → at-place (plain-after m job) i ≡ some t → at-place (plain-after m job) j ≡ some t → i ≡ j
 
 -- ---- what is lent is enough
--- the answers fit into their memory, the kept terms into the work memory, and they are no more than the limit, but for `true` and `false`
-pub record Fits (limits : Limits) (work space : ℕ) (o : Outcome) : Type 0 where
-  pub answers-fit : answer-bytes * length (o .answers) ≤ space
-  pub terms-fit : term-bytes number-bytes * (o .terms - first-terms) ≤ work
+-- where the numbers of terms have b bytes: the answers fit into their memory, the kept terms into the work memory, and they are no more than the limit, but for `true` and `false`
+pub record Fits (b : ℕ) (limits : Limits) (work space : ℕ) (o : Outcome) : Type 0 where
+  pub answers-fit : answer-bytes b * length (o .answers) ≤ space
+  pub terms-fit : term-bytes b * (o .terms - first-terms) ≤ work
   pub numbers-fit : o .terms ≤ max first-terms (capped limits .terms)
 
 -- of every job
 abbrev pub LentEnough : Type 0
-LentEnough = (limits : Limits) (job : Bytes) (work space : ℕ) → Fits limits work space (run limits job work space)
+LentEnough = (limits : Limits) (job : Bytes) (work space : ℕ) → Fits (number-length job) limits work space (run limits job work space)
 
 -- ---- document 02, P8: "A width above its limit is 7 .. A job that gets neither under the bench limits gives, with the same lent memory, the same
 -- result and answers under the rack's"
@@ -77,19 +77,19 @@ LimitsOnly = (small large : Limits) → small .width ≤ large .width → small 
 -- a call depends on the job's bytes, the lengths of the two memories, and the bytes past the last answer
 abbrev pub NothingKept : Type 0
 NothingKept = (limits : Limits) (job work work₂ old old₂ : Bytes) → length work ≡ length work₂ → length old ≡ length old₂
-    → (let n = answer-bytes * call limits job work old .result .answers in drop n old ≡ drop n old₂)
+    → (let n = answer-bytes (number-length job) * call limits job work old .result .answers in drop n old ≡ drop n old₂)
     → call limits job work old ≡ call limits job work₂ old₂
 
 -- ---- "Adding a term must say whether it was new or found .. A job also returns the number of repeats, a back record not lowering it"
 -- the repeats among records, from a list on
-abbrev pub repeats-from : Plain → List Bytes → ℕ
-repeats-from list [] = 0
-repeats-from list (r ∷ rs) = repeat-of list r + repeats-from (feed list r) rs
+abbrev pub repeats-from : ℕ → Plain → List Bytes → ℕ
+repeats-from b list [] = 0
+repeats-from b list (r ∷ rs) = repeat-of b list r + repeats-from b (feed b list r) rs
 
 -- the records among them that put an entry on the list
-abbrev pub news-from : Plain → List Bytes → ℕ
-news-from list [] = 0
-news-from list (r ∷ rs) = cond (ltb (length list) (length (feed list r))) 1 0 + news-from (feed list r) rs
+abbrev pub news-from : ℕ → Plain → List Bytes → ℕ
+news-from b list [] = 0
+news-from b list (r ∷ rs) = cond (ltb (length list) (length (feed b list r))) 1 0 + news-from b (feed b list r) rs
 
 -- a term record
 abbrev pub is-term : Item → Bool
@@ -101,16 +101,16 @@ is-term unknown = false
 is-term misfit = false
 
 -- the term records among records
-abbrev pub term-count : List Bytes → ℕ
-term-count [] = 0
-term-count (r ∷ rs) = cond (is-term (read r)) 1 0 + term-count rs
+abbrev pub term-count : ℕ → List Bytes → ℕ
+term-count b [] = 0
+term-count b (r ∷ rs) = cond (is-term (read b r)) 1 0 + term-count b rs
 
 -- of every job: each term record done was a repeat or put an entry, whatever was dropped later
 abbrev pub Repeats : Type 0
 Repeats =
     (limits : Limits) (job : Bytes) (work space : ℕ)
     → let o = run limits job work space in let done = take (o .records) (records-of job) in
-    o .repeats + news-from start done ≡ term-count done
+    let b = number-length job in o .repeats + news-from b start done ≡ term-count b done
 
 -- a record that says a term has six bytes or more, so a job of at most 16,777,216 bytes has no more repeats than these
 abbrev pub FewRepeats : Type 0
@@ -174,8 +174,8 @@ pub record LowHeld (o : Op) (list : Plain) (places : List ℕ) : Type 0 where
 abbrev pub LowBitsHeld : Type 0
 LowBitsHeld =
     (limits : Limits) (job : Bytes) (work space m : ℕ) (r : Bytes) (number : ℕ) (places : List ℕ) (rule : Rule) (o : Op) (a : Answer)
-    → Reached limits job work space m r → read r ≡ step number places → rule-at number ≡ some rule → Counts rule o
-    → getElem? (run limits job work space .answers) (step-count (take m (records-of job))) ≡ some a → a .code ≡ 0
+    → Reached limits job work space m r → read (number-length job) r ≡ step number places → rule-at number ≡ some rule → Counts rule o
+    → getElem? (run limits job work space .answers) (step-count (number-length job) (take m (records-of job))) ≡ some a → a .code ≡ 0
     → LowHeld o (plain-after m job) places
 
 -- ---- "rotate left brings bit i to place i + k and rotate right to i − k, both modulo the width"
@@ -205,7 +205,7 @@ pub record Lent : Type 0 where
 
 -- the answers that it wrote: as many as it returns, read from their memory when it has ended
 abbrev pub left-by : Lent → List Answer
-left-by l = let c = call (l .limits) (l .job) (l .work) (l .answers) in decode-answers (c .result .answers) (c .answer-memory)
+left-by l = let c = call (l .limits) (l .job) (l .work) (l .answers) in decode-answers (number-length (l .job)) (c .result .answers) (c .answer-memory)
 
 -- how many the jobs wrote in all, by what they return
 abbrev pub written : List Lent → ℕ

@@ -6,7 +6,7 @@ use mathlib.Core.Option.{Option}
 use Prim.Native.Nat.{ℕ, suc, _-_, _*_}
 use lib.Dec.{leb, ltb}
 use lib.ListN.{length}
-use Rattle.theory.specs.Limit.{number-bytes, Limits, capped, first-terms, term-bytes, answer-bytes}
+use Rattle.theory.specs.Limit.{Limits, capped, first-terms, term-bytes, answer-bytes}
 use Rattle.theory.specs.Term.{Term}
 use Rattle.theory.specs.Sort.{good, sort-width, sort-of}
 use Rattle.theory.specs.Optional.{is-some, either}
@@ -28,27 +28,27 @@ all-below n (k ∷ ks) = ltb k n && all-below n ks
 abbrev pub well-sorted : Limits → Option Term → Bool
 well-sorted limits = either false (λ t. good (sort-of t) && leb (sort-width (sort-of t)) (limits .width))
 
--- one more term has 8 bytes of work memory and a number; `true` and `false` are free
-abbrev pub room : Limits → ℕ → Plain → Bool
-room limits work list = leb (term-bytes number-bytes * (suc (length list) - first-terms)) work && ltb (length list) (limits .terms)
+-- one more term has its bytes of work memory and a number; `true` and `false` are free
+abbrev pub room : ℕ → Limits → ℕ → Plain → Bool
+room b limits work list = leb (term-bytes b * (suc (length list) - first-terms)) work && ltb (length list) (limits .terms)
 
 -- the tests of a step of either kind, where that many terms are kept; `known` says that it has such a rule, `space` is the bytes lent for
 -- answers, `answered` the answers written so far
-abbrev pub step-tests : ℕ → ℕ → ℕ → Bool → List ℕ → List (Bool × ℕ)
-step-tests terms space answered known ks =
-    (all-below terms ks, 6) ∷ (known, 9) ∷ (leb (answer-bytes * suc answered) space, 19) ∷ []
+abbrev pub step-tests : ℕ → ℕ → ℕ → ℕ → Bool → List ℕ → List (Bool × ℕ)
+step-tests b terms space answered known ks =
+    (all-below terms ks, 6) ∷ (known, 9) ∷ (leb (answer-bytes b * suc answered) space, 19) ∷ []
 
 -- the tests of a record; `limits` are as the caller states them, `work` is the bytes lent for terms
-abbrev pub tests : Limits → ℕ → ℕ → Plain → ℕ → Bytes → Item → List (Bool × ℕ)
-tests limits work space list answered r unknown = (false, 4) ∷ []
-tests limits work space list answered r misfit = (false, 5) ∷ []
-tests limits work space list answered r (term o ks) =
+abbrev pub tests : ℕ → Limits → ℕ → ℕ → Plain → ℕ → Bytes → Item → List (Bool × ℕ)
+tests b limits work space list answered r unknown = (false, 4) ∷ []
+tests b limits work space list answered r misfit = (false, 5) ∷ []
+tests b limits work space list answered r (term o ks) =
     (all-below (length list) ks, 6) ∷ (well-sorted (capped limits) (term-of list o ks), 7)
-    ∷ (has list r || room (capped limits) work list, 8) ∷ []
-tests limits work space list answered r (step n ks) = step-tests (length list) space answered (is-some (rule-at n)) ks
-tests limits work space list answered r (chain n ps k) = step-tests (length list) space answered (is-some (chain-rule-at n)) (k ∷ [])
-tests limits work space list answered r (back n) = (leb first-terms n && leb n (length list), 18) ∷ []
+    ∷ (has list r || room b (capped limits) work list, 8) ∷ []
+tests b limits work space list answered r (step n ks) = step-tests b (length list) space answered (is-some (rule-at n)) ks
+tests b limits work space list answered r (chain n ps k) = step-tests b (length list) space answered (is-some (chain-rule-at n)) (k ∷ [])
+tests b limits work space list answered r (back n) = (leb first-terms n && leb n (length list), 18) ∷ []
 
--- the code that stops the job at record r, or 0
-unfoldable pub fault : Limits → ℕ → ℕ → Plain → ℕ → Bytes → ℕ
-fault limits work space list answered r = first-fault (tests limits work space list answered r (read r))
+-- the code that stops the job at record r, or 0, where the numbers of terms have b bytes
+unfoldable pub fault : ℕ → Limits → ℕ → ℕ → Plain → ℕ → Bytes → ℕ
+fault b limits work space list answered r = first-fault (tests b limits work space list answered r (read b r))

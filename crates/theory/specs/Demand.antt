@@ -9,7 +9,7 @@ use Rattle.theory.specs.Limit.{Limits, max-job}
 use Rattle.theory.specs.Kind.{Equals}
 use Rattle.theory.specs.Term.{Term, two}
 use Rattle.theory.specs.Value.{Assign, value}
-use Rattle.theory.specs.Record.{Bytes, records-of, read, claim-of, step-count}
+use Rattle.theory.specs.Record.{Bytes, records-of, read, claim-of, step-count, number-length}
 use Rattle.theory.specs.Plain.{Plain, plain-after, at-place}
 use Rattle.theory.specs.Codes.{fault}
 use Rattle.theory.specs.Answer.{Answer}
@@ -19,7 +19,7 @@ pub record Reached (limits : Limits) (job : Bytes) (work space m : ℕ) (r : Byt
   pub short : length job ≤ max-job
   pub stands : getElem? (records-of job) m ≡ some r
   pub passes : (i : ℕ) (s : Bytes) → i ≤ m → getElem? (records-of job) i ≡ some s
-      → fault limits work space (plain-after i job) (step-count (take i (records-of job))) s ≡ 0
+      → let b = number-length job in fault b limits work space (plain-after i job) (step-count b (take i (records-of job))) s ≡ 0
 
 -- the literals at these places are one, an equality whose two sides have the same value under every assignment
 pub record Held (list : Plain) (places : List ℕ) : Type 0 where
@@ -37,11 +37,11 @@ pub record Answers (limits : Limits) (job : Bytes) (work space done k : ℕ) (a 
   pub literals : List ℕ
   pub m-done : m < done
   pub reached : Reached limits job work space m bytes
-  pub kth : step-count (take m (records-of job)) ≡ k
-  pub is-step : claim-of (read bytes) ≡ some (a .rule, literals)
+  pub kth : step-count (number-length job) (take m (records-of job)) ≡ k
+  pub is-step : claim-of (read (number-length job) bytes) ≡ some (a .rule, literals)
   pub held : a .code ≡ 0 → Held (plain-after m job) literals
 
 -- of stated limits, a job's bytes, the lent lengths, the records done and the answers written
 pub record Demand3 (limits : Limits) (job : Bytes) (work space done : ℕ) (answers : List Answer) : Type 0 where
-  pub counted : length answers ≡ step-count (take done (records-of job))
+  pub counted : length answers ≡ step-count (number-length job) (take done (records-of job))
   pub each : (k : ℕ) (a : Answer) → getElem? answers k ≡ some a → Answers limits job work space done k a

@@ -7,7 +7,7 @@ use lib.ListN.{length, take, getElem?}
 use Rattle.theory.specs.Limit.{Limits, max-job}
 use Rattle.theory.specs.Term.{Term}
 use Rattle.theory.specs.RuleTable.{Rule, rule-at, ChainRule, chain-rule-at}
-use Rattle.theory.specs.Record.{Bytes, records-of, ending, step, chain, back, read, claim-of, step-count}
+use Rattle.theory.specs.Record.{Bytes, records-of, ending, step, chain, back, read, claim-of, step-count, number-length}
 use Rattle.theory.specs.Plain.{Plain, start, feed, plain-after, at-place, at-places}
 use Rattle.theory.specs.Codes.{fault}
 use Rattle.theory.specs.Answer.{Answer}
@@ -17,7 +17,8 @@ use Rattle.theory.specs.Demand.{Reached}
 
 -- the code that stops the job at record m, which is r, from the plain list just then; 0 where none does
 abbrev pub fault-at : Limits → Bytes → ℕ → ℕ → ℕ → Bytes → ℕ
-fault-at limits job work space m r = fault limits work space (plain-after m job) (step-count (take m (records-of job))) r
+fault-at limits job work space m r =
+    let b = number-length job in fault b limits work space (plain-after m job) (step-count b (take m (records-of job))) r
 
 -- the job stops with this code after so many records: it is too long; or the record after them has that code, and none before has one; or no
 -- whole record is left, and bytes are or not
@@ -37,16 +38,16 @@ pub record StepAnswer (job : Bytes) (m n : ℕ) (ks : List ℕ) (answers : List 
   pub rule-is : rule-at n ≡ some rule
   pub literals : List Term
   pub literals-are : at-places (plain-after m job) ks ≡ some literals
-  pub answered : getElem? answers (step-count (take m (records-of job))) ≡ some (answer-to n rule literals)
+  pub answered : getElem? answers (step-count (number-length job) (take m (records-of job))) ≡ some (answer-to n rule literals)
 
 -- the earlier steps after more records
-abbrev pub earlier-from : Earlier → Plain → List Bytes → Earlier
-earlier-from earlier list [] = earlier
-earlier-from earlier list (r ∷ rs) = earlier-from (recall earlier list r) (feed list r) rs
+abbrev pub earlier-from : ℕ → Earlier → Plain → List Bytes → Earlier
+earlier-from b earlier list [] = earlier
+earlier-from b earlier list (r ∷ rs) = earlier-from b (recall b earlier list r) (feed b list r) rs
 
 -- those before record m of the job
 abbrev pub earlier-after : ℕ → Bytes → Earlier
-earlier-after m job = earlier-from [] start (take m (records-of job))
+earlier-after m job = earlier-from (number-length job) [] start (take m (records-of job))
 
 -- record m is a chain of rule n with these premises, on the term at place p, and answer k, k being the steps before it, is the rule's on the premises
 -- and that term
@@ -55,15 +56,15 @@ pub record ChainAnswer (job : Bytes) (m n : ℕ) (premises : List ℕ) (p : ℕ)
   pub rule-is : chain-rule-at n ≡ some rule
   pub claim : Term
   pub claim-is : at-place (plain-after m job) p ≡ some claim
-  pub answered : getElem? answers (step-count (take m (records-of job)))
+  pub answered : getElem? answers (step-count (number-length job) (take m (records-of job)))
       ≡ some (judged n (joined rule (premises-at (earlier-after m job) (plain-after m job) premises) claim) claim)
 
 -- every step that the job reaches is answered so
 pub record Demand2 (limits : Limits) (job : Bytes) (work space : ℕ) (answers : List Answer) : Type 0 where
   pub steps : (m : ℕ) (r : Bytes) (n : ℕ) (ks : List ℕ) → Reached limits job work space m r
-      → read r ≡ step n ks → StepAnswer job m n ks answers
+      → read (number-length job) r ≡ step n ks → StepAnswer job m n ks answers
   pub chains : (m : ℕ) (r : Bytes) (n : ℕ) (ps : List ℕ) (p : ℕ) → Reached limits job work space m r
-      → read r ≡ chain n ps p → ChainAnswer job m n ps p answers
+      → read (number-length job) r ≡ chain n ps p → ChainAnswer job m n ps p answers
 
 -- ---- document 02, P12: a premise is an earlier step that is held, whose literal no back has dropped since
 -- record i, before record m, is the step with k steps before it; it claims p and is held; and each back since has a count above p
@@ -75,16 +76,16 @@ pub record Kept (job : Bytes) (m k p : ℕ) : Type 0 where
   pub answer : Answer
   pub earlier : i < m
   pub stands : getElem? (records-of job) i ≡ some bytes
-  pub claims : claim-of (read bytes) ≡ some (rule, literals)
-  pub kth : step-count (take i (records-of job)) ≡ k
-  pub answered : answers-to (earlier-after i job) (plain-after i job) bytes ≡ answer ∷ []
+  pub claims : claim-of (read (number-length job) bytes) ≡ some (rule, literals)
+  pub kth : step-count (number-length job) (take i (records-of job)) ≡ k
+  pub answered : answers-to (number-length job) (earlier-after i job) (plain-after i job) bytes ≡ answer ∷ []
   pub held : answer .code ≡ 0
   pub first : getElem? literals 0 ≡ some p
-  pub since : (j : ℕ) (s : Bytes) (n : ℕ) → i < j → j < m → getElem? (records-of job) j ≡ some s → read s ≡ back n → p < n
+  pub since : (j : ℕ) (s : Bytes) (n : ℕ) → i < j → j < m → getElem? (records-of job) j ≡ some s → read (number-length job) s ≡ back n → p < n
 
 -- what `Earlier` says, and as many places as steps
 pub record Tells (job : Bytes) (m : ℕ) (earlier : Earlier) : Type 0 where
-  pub counted : length earlier ≡ step-count (take m (records-of job))
+  pub counted : length earlier ≡ step-count (number-length job) (take m (records-of job))
   pub only : (k p : ℕ) → getElem? earlier k ≡ some (some p) → Kept job m k p
   pub all : (k p : ℕ) → Kept job m k p → getElem? earlier k ≡ some (some p)
 

@@ -12,7 +12,7 @@ use Rattle.theory.specs.Optional.{either}
 use Rattle.theory.specs.Verdict.{Verdict, not-one-literal, code-of, accepted}
 use Rattle.theory.specs.RuleTable.{Rule, rule-at, ChainRule, chain-rule-at}
 use Rattle.theory.specs.Rule.{verdict}
-use Rattle.theory.specs.Record.{Bytes, records-of, ending, Item, term, step, chain, back, unknown, misfit, read}
+use Rattle.theory.specs.Record.{Bytes, records-of, ending, Item, term, step, chain, back, unknown, misfit, read, number-length}
 use Rattle.theory.specs.Plain.{Plain, start, feed, repeat-of, at-place, at-places}
 use Rattle.theory.specs.Codes.{fault}
 use Rattle.theory.specs.Answer.{Answer, encode-answers}
@@ -58,13 +58,13 @@ item-answers earlier list (back n) = []
 item-answers earlier list unknown = []
 item-answers earlier list misfit = []
 
--- the answers to a record: one or none
-unfoldable pub answers-to : Earlier → Plain → Bytes → List Answer
-answers-to earlier list r = item-answers earlier list (read r)
+-- the answers to a record, where the numbers of terms have b bytes: one or none
+unfoldable pub answers-to : ℕ → Earlier → Plain → Bytes → List Answer
+answers-to b earlier list r = item-answers earlier list (read b r)
 
 -- the earlier steps after one more record, `list` being the plain list before it
-unfoldable pub recall : Earlier → Plain → Bytes → Earlier
-recall earlier list r = recall-item earlier (read r) (answers-to earlier list r)
+unfoldable pub recall : ℕ → Earlier → Plain → Bytes → Earlier
+recall b earlier list r = recall-item earlier (read b r) (answers-to b earlier list r)
 
 -- ---- the run: stop code, records done (the stopping one not counted), answers, terms kept, term records done that were repeats
 -- the answers here are a list; in the memory they are bytes
@@ -80,11 +80,13 @@ abbrev pub outcome : ℕ → ℕ → ℕ → List Answer → Plain → Outcome
 outcome stop done repeats answers list = record { stop = stop; records = done; answers = answers; terms = length list; repeats = repeats }
 
 -- from `done` records and `repeats` repeats on; `end` is the code where no record is left
-unfoldable pub run-from : Limits → ℕ → ℕ → ℕ → ℕ → ℕ → Earlier → Plain → List Answer → List Bytes → Outcome
-run-from limits work space end done repeats earlier list answers [] = outcome end done repeats answers list
-run-from limits work space end done repeats earlier list answers (r ∷ rs) =
-    elim (fault limits work space list (length answers) r) [
-      | zero ↦ run-from limits work space end (suc done) (repeats + repeat-of list r) (recall earlier list r) (feed list r) (answers ++ answers-to earlier list r) rs
+unfoldable pub run-from : ℕ → Limits → ℕ → ℕ → ℕ → ℕ → ℕ → Earlier → Plain → List Answer → List Bytes → Outcome
+run-from b limits work space end done repeats earlier list answers [] = outcome end done repeats answers list
+run-from b limits work space end done repeats earlier list answers (r ∷ rs) =
+    elim (fault b limits work space list (length answers) r) [
+      | zero ↦
+          run-from b limits work space end (suc done) (repeats + repeat-of b list r) (recall b earlier list r) (feed b list r)
+          (answers ++ answers-to b earlier list r) rs
       | suc code ↦ outcome (suc code) done repeats answers list
     ]
 
@@ -92,14 +94,14 @@ run-from limits work space end done repeats earlier list answers (r ∷ rs) =
 unfoldable pub run : Limits → Bytes → ℕ → ℕ → Outcome
 run limits job work space =
     elim (leb (length job) max-job) [
-      | true ↦ run-from limits work space (ending job) 0 0 [] start [] (records-of job)
+      | true ↦ run-from (number-length job) limits work space (ending job) 0 0 [] start [] (records-of job)
       | false ↦ outcome 2 0 0 [] start
     ]
 
 -- ---- the lent memory after a call
 -- the answers, then what the memory held before
-abbrev pub answers-after : List Answer → Bytes → Bytes
-answers-after answers old = let bs = encode-answers answers in bs ++ drop (length bs) old
+abbrev pub answers-after : ℕ → List Answer → Bytes → Bytes
+answers-after b answers old = let bs = encode-answers b answers in bs ++ drop (length bs) old
 
 -- all zero
 abbrev pub work-after : Bytes → Bytes
@@ -128,4 +130,4 @@ pub record Call : Type 0 where
 abbrev pub call : Limits → Bytes → Bytes → Bytes → Call
 call limits job work answers =
     let o = run limits job (length work) (length answers) in
-    record { result = returned o; work-memory = work-after work; answer-memory = answers-after (o .answers) answers }
+    record { result = returned o; work-memory = work-after work; answer-memory = answers-after (number-length job) (o .answers) answers }

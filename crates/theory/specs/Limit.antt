@@ -21,11 +21,11 @@ first-terms = 2
 abbrev pub max-job : ℕ
 max-job = 16777216
 
--- the bytes of a number in a record
+-- the bytes of a number in a record; a term's number has b of them, which a job decides (`number-length`, Record)
 abbrev pub number-bytes : ℕ
 number-bytes = 2
 
--- the most bytes that a term's number may have
+-- the most bytes of a term's number that a job may decide on
 abbrev pub long-bytes : ℕ
 long-bytes = 4
 
@@ -33,13 +33,14 @@ long-bytes = 4
 abbrev pub value-bytes : ℕ
 value-bytes = 8
 
--- the bytes of work memory that a kept term costs, where terms' numbers have b bytes
+-- ---- by b, the bytes of a term's number
+-- the bytes of work memory that a kept term costs
 abbrev pub term-bytes : ℕ → ℕ
 term-bytes b = 4 + 2 * b
 
--- the bytes of an answer
-abbrev pub answer-bytes : ℕ
-answer-bytes = 10
+-- the bytes of an answer, whose depth has as many as a term's number
+abbrev pub answer-bytes : ℕ → ℕ
+answer-bytes b = 4 * number-bytes + b
 
 -- ---- stated by a caller
 -- a width limit, and a limit of the number of terms, `true` and `false` counted

@@ -25,18 +25,18 @@ pub record Sound (r : Bytes) : Type 0 where
   pub size : length r ≡ 2 + word r
   pub long : 4 ≤ length r
 
--- entry i, after the first two: its record says its term, the arguments stand before it, and no record before it is the same
-pub record Entered (list : Plain) (i : ℕ) (e : Entry) : Type 0 where
+-- entry i, after the first two, where the numbers of terms have b bytes: its record says its term, the arguments stand before it, and no record before it is the same
+pub record Entered (b : ℕ) (list : Plain) (i : ℕ) (e : Entry) : Type 0 where
   pub sound : Sound (e .bytes)
   pub op : Op
   pub args : List ℕ
-  pub says : read (e .bytes) ≡ term op args
+  pub says : read b (e .bytes) ≡ term op args
   pub below : T (all-below i args)
   pub made : e .tree ≡ tree-of list op args
   pub new : (j : ℕ) (d : Entry) → j < i → getElem? list j ≡ some d → d .bytes ≡ e .bytes → ⊥
 
 -- the list starts as `true` and `false`, and every other entry is one that a record entered
-pub record WellKept (list : Plain) : Type 0 where
+pub record WellKept (b : ℕ) (list : Plain) : Type 0 where
   pub is-true : getElem? list 0 ≡ some (entry (node True nil) [])
   pub is-false : getElem? list 1 ≡ some (entry (node False nil) [])
-  pub kept : (i : ℕ) (e : Entry) → first-terms ≤ i → getElem? list i ≡ some e → Entered list i e
+  pub kept : (i : ℕ) (e : Entry) → first-terms ≤ i → getElem? list i ≡ some e → Entered b list i e

@@ -32,24 +32,24 @@ item-is (back n) o ks = false
 item-is unknown o ks = false
 item-is misfit o ks = false
 
--- so does an entry's record
-abbrev pub agrees : Entry → Op → List ℕ → Bool
-agrees e o ks = item-is (read (e .bytes)) o ks
+-- so does an entry's record, where the numbers of terms have b bytes
+abbrev pub agrees : ℕ → Entry → Op → List ℕ → Bool
+agrees b e o ks = item-is (read b (e .bytes)) o ks
 
 -- the place of the first entry that says it, the list's first having place n
-unfoldable pub find-from : ℕ → Plain → Op → List ℕ → Option ℕ
-find-from n [] o ks = none
-find-from n (e ∷ list) o ks = cond (agrees e o ks) (some n) (find-from (suc n) list o ks)
+unfoldable pub find-from : ℕ → ℕ → Plain → Op → List ℕ → Option ℕ
+find-from b n [] o ks = none
+find-from b n (e ∷ list) o ks = cond (agrees b e o ks) (some n) (find-from b (suc n) list o ks)
 
 -- its place on a list that starts as `true` and `false`, which have no record
-unfoldable pub find : Plain → Op → List ℕ → Option ℕ
-find list o ks =
-    cond (same-op True o && same-numbers [] ks) (some 0) (cond (same-op False o && same-numbers [] ks) (some 1) (find-from 0 list o ks))
+unfoldable pub find : ℕ → Plain → Op → List ℕ → Option ℕ
+find b list o ks =
+    cond (same-op True o && same-numbers [] ks) (some 0) (cond (same-op False o && same-numbers [] ks) (some 1) (find-from b 0 list o ks))
 
 -- the same, where the arguments may be missing: then it is missing
-abbrev pub lookup : Plain → Op → List (Option ℕ) → Option ℕ
-lookup list o ps = either none (find list o) (collect ps)
+abbrev pub lookup : ℕ → Plain → Op → List (Option ℕ) → Option ℕ
+lookup b list o ps = either none (find b list o) (collect ps)
 
 -- the place of a term, or none
-abbrev pub place : Plain → Term → Option ℕ
-place list = fold (lookup list)
+abbrev pub place : ℕ → Plain → Term → Option ℕ
+place b list = fold (lookup b list)

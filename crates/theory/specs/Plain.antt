@@ -7,7 +7,7 @@ use lib.ListN.{take, getElem?}
 use Rattle.theory.specs.Kind.{Op, True, False}
 use Rattle.theory.specs.Term.{Term, node, nil, from-list, same-numbers}
 use Rattle.theory.specs.Optional.{either, collect}
-use Rattle.theory.specs.Record.{Bytes, records-of, Item, term, step, chain, back, unknown, misfit, read}
+use Rattle.theory.specs.Record.{Bytes, records-of, Item, term, step, chain, back, unknown, misfit, read, number-length}
 
 -- a place of the list: a term, and the bytes of its record
 pub record Entry : Type 0 where
@@ -57,9 +57,9 @@ feed-item list r (back n) = take n list
 feed-item list r unknown = list
 feed-item list r misfit = list
 
--- the list after one more record
-unfoldable pub feed : Plain → Bytes → Plain
-feed list r = feed-item list r (read r)
+-- the list after one more record, where the numbers of terms have b bytes
+unfoldable pub feed : ℕ → Plain → Bytes → Plain
+feed b list r = feed-item list r (read b r)
 
 -- 1 for a repeat, which is a term record that stands on the list already; else 0
 abbrev pub repeat-item : Plain → Bytes → Item → ℕ
@@ -71,9 +71,9 @@ repeat-item list r unknown = 0
 repeat-item list r misfit = 0
 
 -- the repeats that one more record adds, `list` being the plain list before it
-unfoldable pub repeat-of : Plain → Bytes → ℕ
-repeat-of list r = repeat-item list r (read r)
+unfoldable pub repeat-of : ℕ → Plain → Bytes → ℕ
+repeat-of b list r = repeat-item list r (read b r)
 
 -- the list after the first m records of the job; it is the document's as long as no record before has stopped the job
 abbrev pub plain-after : ℕ → Bytes → Plain
-plain-after m job = foldl feed start (take m (records-of job))
+plain-after m job = foldl (feed (number-length job)) start (take m (records-of job))

@@ -1,5 +1,5 @@
 -- Document 01, "The job": a job's bytes cut into records, and what a record says.
--- A record is a two-byte length L and L bytes: a two-byte kind and a body.
+-- A record is a two-byte length L and L bytes: a two-byte kind and a body. The numbers of terms in a body have b bytes each, as the job decides.
 use mathlib.Core.Bool.{Bool, true, false, _&&_, cond}
 use mathlib.Core.List.{List, [], _∷_}
 use mathlib.Core.Option.{Option, none, some}
@@ -28,10 +28,10 @@ little-endian (b ∷ bs) = b + 256 * little-endian bs
 abbrev pub word : Bytes → ℕ
 word bs = little-endian (take number-bytes bs)
 
--- k such numbers in a row
-abbrev pub words : ℕ → Bytes → List ℕ
-words zero bs = []
-words (suc k) bs = word bs ∷ words k (drop number-bytes bs)
+-- k numbers of b bytes in a row
+abbrev pub words : ℕ → ℕ → Bytes → List ℕ
+words b zero bs = []
+words b (suc k) bs = little-endian (take b bs) ∷ words b k (drop b bs)
 
 -- k bytes of n
 abbrev pub bytes-of : ℕ → ℕ → Bytes
@@ -78,18 +78,14 @@ kind-of r = word (drop number-bytes r)
 abbrev pub body-of : Bytes → Bytes
 body-of r = drop (number-bytes + number-bytes) r
 
--- the body is n bytes and then arguments of two bytes, in a number that is allowed
-abbrev pub fits : ℕ → (ℕ → Bool) → Bytes → Bool
-fits n allowed body =
-    leb n (length body) && (eqb ((length body - n) % number-bytes) 0 && allowed ((length body - n) / number-bytes))
+-- the body is n bytes and then arguments of b bytes, in a number that is allowed
+abbrev pub fits : ℕ → ℕ → (ℕ → Bool) → Bytes → Bool
+fits b n allowed body =
+    leb n (length body) && (eqb ((length body - n) % b) 0 && allowed ((length body - n) / b))
 
 -- the arguments after the first n bytes
-abbrev pub arguments : ℕ → Bytes → List ℕ
-arguments n body = words ((length body - n) / number-bytes) (drop n body)
-
--- the bytes of a term's number in a job
-abbrev pub number-length : Bytes → ℕ
-number-length job = number-bytes
+abbrev pub arguments : ℕ → ℕ → Bytes → List ℕ
+arguments b n body = words b ((length body - n) / b) (drop n body)
 
 -- ---- the kinds of a term, by the numbers that stand before the arguments: none, one, two, or a width and an eight-byte value
 -- `plain` has none, `indexed` one, `twice-indexed` two, `valued` a width and a value
@@ -155,14 +151,14 @@ abbrev pub back-kind : ℕ
 back-kind = 101
 
 -- a term: the numbers of its shape, then arguments as its kind allows
-abbrev pub read-term : Option Shape → Bytes → Item
-read-term none body = unknown
-read-term (some s) body =
-    cond (fits (front s) (takes (arity (make s body))) body) (term (make s body) (arguments (front s) body)) misfit
+abbrev pub read-term : ℕ → Option Shape → Bytes → Item
+read-term b none body = unknown
+read-term b (some s) body =
+    cond (fits b (front s) (takes (arity (make s body))) body) (term (make s body) (arguments b (front s) body)) misfit
 
 -- a step: its rule, then 0 to 64 literals
-abbrev pub read-step : Bytes → Item
-read-step body = cond (fits number-bytes (λ n. leb n max-arguments) body) (step (word body) (arguments number-bytes body)) misfit
+abbrev pub read-step : ℕ → Bytes → Item
+read-step b body = cond (fits b number-bytes (λ n. leb n max-arguments) body) (step (word body) (arguments b number-bytes body)) misfit
 
 -- the bytes of a chain's body before its premises: the rule, and the number of premises
 abbrev pub chain-front : ℕ
@@ -172,30 +168,33 @@ chain-front = number-bytes + number-bytes
 abbrev pub premise-count : Bytes → ℕ
 premise-count body = word (drop number-bytes body)
 
--- rule and number of premises stand there, there are 1 to 64 premises, and after them one literal
-abbrev pub chain-fits : Bytes → Bool
-chain-fits body =
-    leb chain-front (length body)
-    && (takes many (premise-count body) && eqb (length body) (chain-front + number-bytes * premise-count body + number-bytes))
+-- the bytes before its literal
+abbrev pub before-literal : Bytes → ℕ
+before-literal body = chain-front + number-bytes * premise-count body
 
--- a chain: its rule, the number of premises, the premises, the literal
-abbrev pub read-chain : Bytes → Item
-read-chain body =
-    cond (chain-fits body)
-    (chain (word body) (words (premise-count body) (drop chain-front body)) (word (drop (chain-front + number-bytes * premise-count body) body)))
+-- rule and number of premises stand there, there are 1 to 64 premises, and after them one literal
+abbrev pub chain-fits : ℕ → Bytes → Bool
+chain-fits b body =
+    leb chain-front (length body) && (takes many (premise-count body) && eqb (length body) (before-literal body + b))
+
+-- a chain: its rule, the number of premises, the premises, which are places of steps and so of two bytes, the literal
+abbrev pub read-chain : ℕ → Bytes → Item
+read-chain b body =
+    cond (chain-fits b body)
+    (chain (word body) (words number-bytes (premise-count body) (drop chain-front body)) (little-endian (take b (drop (before-literal body) body))))
     misfit
 
 -- a back: its count
-abbrev pub read-back : Bytes → Item
-read-back body = cond (eqb (length body) number-bytes) (back (word body)) misfit
+abbrev pub read-back : ℕ → Bytes → Item
+read-back b body = cond (eqb (length body) b) (back (little-endian (take b body))) misfit
 
--- what record r says
-unfoldable pub read : Bytes → Item
-read r =
-    cond (eqb (kind-of r) step-kind) (read-step (body-of r))
-    (cond (eqb (kind-of r) chain-kind) (read-chain (body-of r))
-    (cond (eqb (kind-of r) back-kind) (read-back (body-of r))
-    (read-term (shape-of (kind-of r)) (body-of r))))
+-- what record r says, where the numbers of terms have b bytes
+unfoldable pub read : ℕ → Bytes → Item
+read b r =
+    cond (eqb (kind-of r) step-kind) (read-step b (body-of r))
+    (cond (eqb (kind-of r) chain-kind) (read-chain b (body-of r))
+    (cond (eqb (kind-of r) back-kind) (read-back b (body-of r))
+    (read-term b (shape-of (kind-of r)) (body-of r))))
 
 -- it is a step, of either kind
 abbrev pub is-step : Item → Bool
@@ -216,6 +215,11 @@ claim-of unknown = none
 claim-of misfit = none
 
 -- how many of the records are steps
-abbrev pub step-count : List Bytes → ℕ
-step-count [] = 0
-step-count (r ∷ rs) = cond (is-step (read r)) (suc (step-count rs)) (step-count rs)
+abbrev pub step-count : ℕ → List Bytes → ℕ
+step-count b [] = 0
+step-count b (r ∷ rs) = cond (is-step (read b r)) (suc (step-count b rs)) (step-count b rs)
+
+-- ---- the number length of a job
+-- the bytes of a term's number: two, in every job
+abbrev pub number-length : Bytes → ℕ
+number-length job = number-bytes

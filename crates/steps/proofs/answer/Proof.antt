@@ -21,13 +21,13 @@ returns c =
 verdict-requires : tie.Need-verdict-requires
 verdict-requires c κs =
     let s = c .before .before .before .before in
-    (s .pre .0 .store, one-below (first-terms + s .args .n) (words-in (now (s .args .job)) (s .args .literals)) (words-length (s .args .literals .count) (drop (s .args .literals .at) (now (s .args .job))) ∙ c .before .if1 .left) (s .pre .0 .below) (c .argument .ensures), s .pre .1)
+    (s .pre .0 .store, one-below (first-terms + s .args .n) (words-in (now (s .args .job)) (s .args .literals)) (words-length (s .args .literals .bytes) (s .args .literals .count) (drop (s .args .literals .at) (now (s .args .job))) ∙ c .before .if1 .left) (s .pre .0 .below) (c .argument .ensures), s .pre .1)
 
 judge-requires : tie.Need-judge-requires
 judge-requires c κs =
     let a = c .before in
     let s = a .before .before .before .before in
-    (s .pre .0 .store, one-below (first-terms + s .args .n) (words-in (now (s .args .job)) (s .args .literals)) (words-length (s .args .literals .count) (drop (s .args .literals .at) (now (s .args .job))) ∙ a .before .if1 .left) (s .pre .0 .below) (a .argument .ensures))
+    (s .pre .0 .store, one-below (first-terms + s .args .n) (words-in (now (s .args .job)) (s .args .literals)) (words-length (s .args .literals .bytes) (s .args .literals .count) (drop (s .args .literals .at) (now (s .args .job))) ∙ a .before .if1 .left) (s .pre .0 .below) (a .argument .ensures))
 
 returns-2 : tie.Need-returns-2
 returns-2 c =

@@ -4,6 +4,7 @@ use denote.Ref.{now}
 use lib.ListN.{length}
 use lib.Seq.{length-take-le}
 use native.Mathlib.Omega.{arith}
+use Rattle.theory.specs.Record.{number-length}
 use Rattle.theory.specs.Job.{Outcome, returned, answers-after}
 use Rattle.theory.specs.Limit.{rack}
 use Rattle.runs.proofs.Enough.{run-enough}
@@ -49,7 +50,7 @@ returns c =
     let g = known-run (now (a .job)) _ _ _ e (length (now (a .values))) (a .number) (now (a .inputs)) (length (now (a .outputs))) in (
       r .0 ∙ ap returned e,
       (
-        r .1 .0 ∙ ap (λ (o : Outcome). answers-after (o .answers) (now (a .answers))) e,
+        r .1 .0 ∙ ap (λ (o : Outcome). answers-after (number-length (now (a .job))) (o .answers) (now (a .answers))) e,
         (
           zeros (now (a .work)) (c .before .before .wipe .ensures) (let q : length (c .before .before .wipe .last .0) ≡ length (now (a .work)) = search needs in q),
           (carried (λ (x : Derived). x .code) (r .1 .1 .0) g, (carried (λ (x : Derived). written (x .bytes) (now (a .outputs))) (r .1 .1 .1 .0) g, r .1 .1 .1 .1)),

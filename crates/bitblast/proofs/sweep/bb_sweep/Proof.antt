@@ -4,6 +4,7 @@ use denote.Ref.{now}
 use lib.ListN.{length}
 use lib.Seq.{length-take-le}
 use native.Mathlib.Omega.{arith}
+use Rattle.theory.specs.Record.{number-length}
 use Rattle.theory.specs.Limit.{rack}
 use Rattle.theory.specs.Job.{Outcome, returned, answers-after}
 use Rattle.runs.proofs.Enough.{run-enough}
@@ -44,7 +45,7 @@ returns c =
     let e = run-enough rack (now (a .job)) (now (a .work)) (l .lend .result) (length (now (a .answers))) (l .lend .ensures .0) (l .lend .last .1 .0) (let q : length (l .lend .last .1 .0) ≡ length (now (a .work)) = search needs in q) in (
       r .0 ∙ ap returned e,
       (
-        r .1 .0 ∙ ap (λ (o : Outcome). answers-after (o .answers) (now (a .answers))) e,
+        r .1 .0 ∙ ap (λ (o : Outcome). answers-after (number-length (now (a .job))) (o .answers) (now (a .answers))) e,
         (
           zeros (now (a .work)) (c .before .before .wipe .ensures) (let q : length (c .before .before .wipe .last .0) ≡ length (now (a .work)) = search needs in q),
           (

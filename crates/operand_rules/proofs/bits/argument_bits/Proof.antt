@@ -21,7 +21,7 @@ loop-again : tie.Need-loop-again Inv-loop μ-loop
 loop-again c = fill-turn (c .before .before .loop .inv) (c .argument .ensures) (search needs) (search needs)
 
 returns : tie.Need-returns Inv-loop μ-loop
-returns c = reached (c .before .loop .inv) (search needs) (words-length _ _)
+returns c = reached (c .before .loop .inv) (search needs) (words-length _ _ _)
 
 pub argument-bits-spec : {M : Type 1} → statement M
 argument-bits-spec =
