@@ -49,7 +49,7 @@ def own_errors(log, crate, function):
     *module, name = function.split('::')
     # the proof of functions that call themselves, or each other, stands in a folder of their names, each after a +
     folder = '/'.join(['proofs'] + module) + r'/(?:%s|(?:\+\w+)*\+%s(?:\+\w+)*)' % (name, name)
-    found = re.findall(r'^\S*/%s/Proof\.antt:\d+:\d+: error: (.*)$' % folder, log, re.M)
+    found = re.findall(r'^\S*/%s/Proof\.antt:\d+:\d+: error: (.*(?:\n  .*)*)' % folder, log, re.M)
     return found or re.findall(r'^fn %s::%s: no proof: .*(`search` does not close .*)$' % (crate, re.escape(function)), log, re.M)
 
 
@@ -68,7 +68,7 @@ def faults_of(crate, label, path):
         if not own:
             faults.append('%s has no error of its own' % function)
         elif UNFIT.search(own[0]):
-            faults.append('the first error of %s shows nothing: %s' % (function, own[0][:200]))
+            faults.append('the first error of %s shows nothing: %s' % (function, own[0].split('\n')[0][:200]))
     return faults
 
 
