@@ -7,6 +7,7 @@ against what its callees promise, so one edit makes many functions wrong at once
   edits.py check [NAME..]  after `rt ci` or `rt must-fail`, whose logs stand in target/must-fail; of all crates, or of those named. Exit status 1 where a
                            function that an edit names has no error of its own, or its first one says only that the proof no longer fits the text; where
                            an edit of src/ names no function; where a public function is named by fewer than two edits
+  edits.py fits [NAME..]   before it, in a second: each text that an edit changes stands in its file once; each public function is named by two edits
   edits.py list [NAME..]   how many edits name each public function"""
 import collections, glob, os, re, sys
 
@@ -72,6 +73,22 @@ def faults_of(crate, label, path):
     return faults
 
 
+def misfits_of(crate, label, path):
+    """The texts of an edit that do not stand once in what its earlier changes left, as rt applies them."""
+    texts, faults, place, old = {}, [], None, None
+    for line in read(path).split('\n'):
+        if line.startswith('file: '):
+            place = os.path.join(ROOT, 'crates', crate, line[6:])
+        elif line.startswith('old: '):
+            old = line[5:]
+        elif line.startswith('new:'):
+            text = texts.get(place) or read(place)
+            if text.count(old) != 1:
+                faults.append('%d times in %s: %s' % (text.count(old), os.path.relpath(place, ROOT), old))
+            texts[place] = text.replace(old, line[4:].removeprefix(' '), 1)
+    return faults
+
+
 def main(verb, crates):
     chosen = [e for e in edits() if not crates or e[0] in crates]
     named = collections.Counter((crate, f) for crate, _, path in chosen for f in {function for function, _ in wrong_lines(path)})
@@ -82,7 +99,8 @@ def main(verb, crates):
             print('%d  %s: %s' % (named[crate, function], crate, function))
         print('%d public functions, %d of them made wrong by fewer than two edits' % (len(public), len(few)))
         return 0
-    faults = ['%s/%s: %s' % (crate, label, fault) for crate, label, path in chosen for fault in faults_of(crate, label, path)] + few
+    find = faults_of if verb == 'check' else misfits_of
+    faults = ['%s/%s: %s' % (crate, label, fault) for crate, label, path in chosen for fault in find(crate, label, path)] + few
     for fault in faults:
         print(fault)
     print('%d edits, %d wrong answers of %d functions, %d of them public: %d faults' % (len(chosen), sum(named.values()), len(named), len(public), len(faults)))
@@ -90,6 +108,6 @@ def main(verb, crates):
 
 
 if __name__ == '__main__':
-    if sys.argv[1:2] not in (['check'], ['list']):
+    if sys.argv[1:2] not in (['check'], ['fits'], ['list']):
         sys.exit(__doc__)
     sys.exit(main(sys.argv[1], sys.argv[2:]))
