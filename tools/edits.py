@@ -14,7 +14,8 @@ import collections, glob, os, re, sys
 ROOT = os.path.normpath(os.path.join(os.path.dirname(os.path.abspath(__file__)), '..'))
 # The first error of a function that says nothing of what it answers: an invariant over other variables, a need of the proof that the text no longer has,
 # a name out of scope, or what follows from another error.
-UNFIT = re.compile(r'^`Inv-|can be named from here|not in scope|out of scope|unknown name|has no field|was not admitted|cannot be checked')
+UNFIT = re.compile(r'^`Inv-|can be named from here|not in scope|out of scope|unknown name|has no field|binders, but its type'
+                   r'|expected type `tie\.Need-|was not admitted|cannot be checked')
 
 
 def read(path):
