@@ -2,6 +2,10 @@
  *
  * Link target/staticlib/libbitblast.a, which `rt staticlib bitblast` writes. docs/FORMAT.md has the format of a job, and every code.
  *
+ * Formats: the numbers of terms in a job have two bytes, or four where its first four bytes are 02 00 67 00, a record of kind
+ * BB_KIND_FOURBYTES without a body; BB_IS_LONG tells them apart. Such a long job may keep more terms, each costs more work memory, and its
+ * answers are longer: the numbers below whose names begin with BB_LONG are those of a long job. Every function takes jobs of either format.
+ *
  * Pointers are not NULL, also where their length is 0, and the lent memories do not overlap. The library has no memory of its
  * own: calls on different memories may run at the same time.
  *
@@ -32,7 +36,7 @@ extern "C" {
 
 /* The number of the interface that is declared here. It grows with each change of a function or struct below: a program that is
  * compiled with this header must be linked with a library whose bb_version() gives the same number. */
-#define BB_VERSION 7
+#define BB_VERSION 8
 
 /* The longest job, in bytes. */
 #define BB_MAX_JOB 16777216
@@ -40,12 +44,18 @@ extern "C" {
 /* The stack that is enough for a call, in bytes. */
 #define BB_STACK_BYTES 262144
 
+/* Whether a job is a long one: its term numbers have four bytes. */
+#define BB_IS_LONG(job, job_len) \
+    ((job_len) >= 4 && (job)[0] == 2 && (job)[1] == 0 && (job)[2] == BB_KIND_FOURBYTES && (job)[3] == 0)
+
 /* The rack's limits: the greatest width, and the most terms, `true` and `false` counted. */
 #define BB_MAX_WIDTH 64
 #define BB_MAX_TERMS 65535
+#define BB_LONG_MAX_TERMS 1000000
 
-/* The bytes of work memory that a kept term costs; no job keeps more than BB_MAX_TERMS terms, two of them free. */
+/* The bytes of work memory that a kept term costs; no job keeps more than BB_MAX_TERMS or BB_LONG_MAX_TERMS terms, two of them free. */
 #define BB_TERM_BYTES 8
+#define BB_LONG_TERM_BYTES 12
 
 /* The bytes of the seed, which are the last of the work memory. */
 #define BB_SEED_BYTES 4
@@ -56,8 +66,10 @@ extern "C" {
 /* The bytes of a value buffer that a kept term needs, `true` and `false` too. */
 #define BB_VALUE_BYTES 8
 
-/* The bytes of an answer: five numbers of two bytes, low byte first: 8, 200, rule, code, depth. */
+/* The bytes of an answer: five numbers of two bytes, low byte first: 8, 200, rule, code, depth. In a long job the first is 10, and the depth
+ * has four bytes. */
 #define BB_ANSWER_BYTES 10
+#define BB_LONG_ANSWER_BYTES 12
 
 /* The kinds of records. */
 enum BbKind {
@@ -97,6 +109,7 @@ enum BbKind {
     BB_KIND_REPEAT = 63,
     BB_KIND_STEP = 100,
     BB_KIND_BACK = 101,
+    BB_KIND_FOURBYTES = 103,
     BB_KIND_CHAIN = 104
 };
 
@@ -149,7 +162,7 @@ enum BbStop {
     BB_STOP_NO_ROOM = 8,              /* no room for a new term: the work memory or the term numbers are spent */
     BB_STOP_NO_RULE = 9,              /* the record's kind has no such rule */
     BB_STOP_WRONG_BACK = 18,          /* a back to below 2 or above the number of terms */
-    BB_STOP_NO_ANSWER_ROOM = 19       /* fewer than 10 bytes are left for the step's answer */
+    BB_STOP_NO_ANSWER_ROOM = 19       /* fewer bytes are left than the step's answer has, 10 or 12 */
 };
 
 /* The codes of answers: 0 and 1 are accepted, all others refused. */
@@ -221,8 +234,8 @@ BbOutcome bb_job(const uint8_t *job, size_t job_len,
                  uint8_t *answers, size_t answers_len);
 
 /* Checks a job as bb_job does, under limits: a bit-vector wider than `width_limit` is stop code 7, a new term where `term_limit` terms are kept, `true`
- * and `false` counted, is 8. A limit above the rack's, BB_MAX_WIDTH or BB_MAX_TERMS, is the rack's. At width limit 0 there is no bit-vector; at
- * term limits 0 and 1 `true` and `false` are there all the same. A job that stops with neither code comes to the same under any larger limits. */
+ * and `false` counted, is 8. A limit above the rack's, BB_MAX_WIDTH, and BB_MAX_TERMS or in a long job BB_LONG_MAX_TERMS, is the rack's. At width
+ * limit 0 there is no bit-vector; at term limits 0 and 1 `true` and `false` are there all the same. A job that stops with neither code comes to the same under any larger limits. */
 BbOutcome bb_job_within(const uint8_t *job, size_t job_len,
                         uint8_t *work, size_t work_len,
                         uint8_t *answers, size_t answers_len,
@@ -231,7 +244,7 @@ BbOutcome bb_job_within(const uint8_t *job, size_t job_len,
 /* Runs a job as bb_job does, and evaluates both sides of the Equals of that number in its final store on every assignment of the variables
  * that stand in it: up to 65,536 assignments, each with one evaluation of each term that stands there. All of `values` is zero after an
  * accepted sweep, and as it was after a refused one. The code is 20 where the job stops early, the number is not that of an Equals, or its
- * variables have more than 16 bits; else 21 where `values` has fewer than BB_VALUE_BYTES for each kept term. */
+ * variables have more than 16 bits; else 21 where `values` has fewer than BB_VALUE_BYTES for each kept term, in a long job too. */
 BbSwept bb_sweep(const uint8_t *job, size_t job_len,
                  uint8_t *work, size_t work_len,
                  uint8_t *answers, size_t answers_len,
@@ -267,14 +280,15 @@ BbKnown bb_known(const uint8_t *job, size_t job_len,
 
 /* Reads a text of declarations and Alethe steps, and writes a job with a step for each step line; docs/FORMAT.md has the form of a line. The job
  * stands at the start of `job`, and the bytes past it are as they were; where a line is refused, all of `job` is zero. A job is at most five times
- * as long as its text. `work` may be of any length and content: it makes lookups faster, never changes the result, and is all zero afterwards. With
+ * as long as its text, and its term numbers have two bytes. `work` may be of any length and content: it makes lookups faster, never changes the result, and is all zero afterwards. With
  * none a term is looked for among all records written, so that the time grows with the square of the text; BB_LOOKUP_BYTES are enough for any. Names
  * are looked for among the declarations, whatever is lent. */
 BbConverted bb_text(const uint8_t *text, size_t text_len,
                     uint8_t *work, size_t work_len,
                     uint8_t *job, size_t job_len);
 
-/* Adds one job and its first `count` answers to a tally; where `answers` is shorter, those that it has whole. */
+/* Adds one job and its first `count` answers to a tally; where `answers` is shorter, those that it has whole. The first two bytes of `answers` say
+ * how long each of them is: BB_LONG_ANSWER_BYTES where they are 10 and 0, as a long job writes them, else BB_ANSWER_BYTES. */
 void bb_tally(BbTally *tally, const uint8_t *answers, size_t answers_len, uint32_t count);
 
 #ifdef __cplusplus

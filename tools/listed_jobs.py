@@ -1,6 +1,6 @@
 #!/usr/bin/env python3
-"""Small jobs with what the original Rust answers to each. Document 01's own, some of document 02's chains, and those under stated limits are computed by the
-prover (crates/theory/proofs/Computed.antt); the program `replay` runs all of them, after its generated ones.
+"""Small jobs with what the original Rust answers to each. Document 01's own, some of document 02's chains, those under stated limits, and those whose numbers have
+four bytes are computed by the prover (crates/theory/proofs/Computed.antt); the program `replay` runs all of them, after its generated ones.
 
   listed_jobs.py write                       writes Computed.antt, and the listed jobs into crates/replay
   listed_jobs.py check                       exit status 1 where one of these is not what `write` would write
@@ -29,7 +29,7 @@ UNFOLD = {
                'bitblast-udiv-urem-rec udiv urem',
     'Bits': 'select get-term-bits fold-terms add-bits concat-bits',
     'Rule': 'args-of literal-bits slices-verdict on-sides verdict',
-    'Record': 'cut shape-of read',
+    'Record': 'cut shape-of read number-length',
     'Plain': 'feed repeat-of',
     'Codes': 'fault',
     'Answer': '',
@@ -37,8 +37,8 @@ UNFOLD = {
     'Job': 'answers-to recall run-from run',
 }
 
-HEAD = '''-- Document 01's own jobs, computed: each comes to what it says, which is what the original Rust answers; and some of document 02's chains, and jobs under
--- stated limits. Written by tools/listed_jobs.py.
+HEAD = '''-- Document 01's own jobs, computed: each comes to what it says, which is what the original Rust answers; and some of document 02's chains, jobs under
+-- stated limits, and jobs whose numbers have four bytes. Written by tools/listed_jobs.py.
 use mathlib.Core.Path.{_≡_, refl}
 use mathlib.Core.List.{List, [], _∷_}
 use Prim.Native.Nat.{ℕ}
@@ -103,6 +103,18 @@ def antt():
     return ''.join(out)
 
 
+def number_bytes(job):
+    """The bytes of a term's number in a job, and of the depth in its answers."""
+    return 4 if job[:4] == bytes([2, 0, 103, 0]) else 2
+
+
+def written(job, answers):
+    """The bytes of a job's answers."""
+    b = number_bytes(job)
+    words = lambda *numbers: b''.join(n.to_bytes(2, 'little') for n in numbers)
+    return b''.join(words(6 + b, 200, rule, code) + depth.to_bytes(b, 'little') for rule, code, depth in answers)
+
+
 def compare(oracle, requests):
     wrong = total = 0
     for name, limits, work, room, job, stop, records, terms, repeats, answers in jobs():
@@ -113,12 +125,11 @@ def compare(oracle, requests):
             f.flush()
             text = subprocess.run([oracle, 'case', f.name, str(work), str(room), *limits], capture_output=True, text=True, check=True).stdout
         got = dict((line + ' ').split(' ', 1) for line in text.splitlines())
-        data = bytes.fromhex(got.get('bytes', '').strip())
-        said = [tuple(int.from_bytes(data[k + 4 + 2 * i:k + 6 + 2 * i], 'little') for i in range(3)) for k in range(0, len(data), 10)]
+        said = bytes.fromhex(got.get('bytes', '').strip())
         total += 1
-        if (int(got['stop']), int(got['records']), int(got['terms']), int(got['repeats']), said) != (stop, records, terms, repeats, answers):
+        if (int(got['stop']), int(got['records']), int(got['terms']), int(got['repeats']), said) != (stop, records, terms, repeats, written(job, answers)):
             wrong += 1
-            print('differs:', name, got, said)
+            print('differs:', name, got, answers)
     print('%d jobs, %d differ' % (total, wrong))
     return 1 if wrong or not total else 0
 
@@ -129,7 +140,7 @@ def replayed():
     for name, limits, work, room, job, stop, records, terms, repeats, answers in jobs():
         if limits:      # `replay` runs jobs under the rack's
             continue
-        data = b''.join(b''.join(n.to_bytes(2, 'little') for n in (8, 200) + a) for a in answers)
+        data = written(job, answers)
         fields = {'stop': stop, 'records': records, 'answers': len(answers), 'terms': terms, 'repeats': repeats, 'bytes': data.hex()}
         heads.append(head(work, room, job))
         lines.append(printed(fields))

@@ -1,7 +1,7 @@
 //! The functions of the static library, declared by hand: nothing checks these declarations against the Rattle source
 //! (`bb_job`, `bb_job_within`, `bb_sweep`, `bb_count`, `bb_known`, `bb_text`, `bb_version` and what they return in crates/bitblast, crates/runs and crates/convert, `Tally` in crates/tally). tests/ffi.rs does what can be done: it
 //! compares the text of both, the interface's number, and sizes, offsets and the bytes around each lent slice.
-use crate::{MAX_TERMS, MAX_WIDTH};
+use crate::{Format, MAX_WIDTH};
 
 /// What a job came to. Later interfaces may add numbers.
 #[repr(C)]
@@ -72,7 +72,7 @@ pub struct Known {
     pub outcome: Outcome,
 }
 
-/// The limits under which a job is checked. A limit above the rack's is the rack's.
+/// The limits under which a job is checked. A limit above the rack's is the rack's, which of terms is that of the job's [`Format`].
 #[derive(Clone, Copy, Debug, PartialEq, Eq)]
 pub struct Limits {
     /// The greatest width of a bit-vector, results too: a wider one is stop code 7. At 0 there is no bit-vector.
@@ -82,8 +82,8 @@ pub struct Limits {
 }
 
 impl Limits {
-    /// Those of [`run_job`], and of sweeps and counts.
-    pub const RACK: Limits = Limits { width: MAX_WIDTH as u32, terms: MAX_TERMS as u32 };
+    /// Those of [`run_job`], and of sweeps and counts: a job whose term numbers have two bytes has at most 65,535 terms under them.
+    pub const RACK: Limits = Limits { width: MAX_WIDTH as u32, terms: Format::FourBytes.max_terms() as u32 };
 }
 
 impl Default for Limits {
@@ -210,7 +210,7 @@ pub fn interface() -> u32 {
     bb_version()
 }
 
-/// Checks a job on lent memory of any length and content. Afterwards all of `work` is zero, the answers stand at the start
+/// Checks a job of either [`Format`] on lent memory of any length and content. Afterwards all of `work` is zero, the answers stand at the start
 /// of `answers`, and the bytes past the last answer are as they were.
 pub fn run_job(job: &[u8], work: &mut [u8], answers: &mut [u8]) -> Outcome {
     // SAFETY: each pointer is valid for its length, and the borrows keep the three apart.
@@ -335,7 +335,8 @@ pub fn convert_text(text: &[u8], work: &mut [u8], job: &mut [u8]) -> Converted {
     unsafe { bb_text(text.as_ptr(), text.len(), work.as_mut_ptr(), work.len(), job.as_mut_ptr(), job.len()) }
 }
 
-/// Adds one job and its first `count` answers to a tally; where `answers` is shorter, those that it has whole.
+/// Adds one job and its first `count` answers to a tally; where `answers` is shorter, those that it has whole. The first two bytes of `answers`
+/// say how long each of them is: 12 bytes where they are 10, as in the first answer of a job whose term numbers have four bytes, else 10.
 pub fn tally_answers(tally: &mut Tally, answers: &[u8], count: u32) {
     // SAFETY: both pointers are valid, and the borrows keep them apart.
     unsafe { bb_tally(tally, answers.as_ptr(), answers.len(), count) }

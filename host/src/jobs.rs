@@ -2,8 +2,9 @@
 //! one term, and a term's record is written when a step first needs it, its arguments before it.
 pub use crate::words::Kind;
 use crate::{
-    MAX_TERMS,
+    Format,
     circuits::is_quadratic,
+    format::FOUR_BYTES_RECORD,
     rng::Rng,
     words::{RULES, Rule},
 };
@@ -34,10 +35,11 @@ pub struct Node {
 
 /// A job that is being written.
 pub struct JobWriter {
+    format: Format,
     nodes: Vec<Option<Rc<Node>>>,
     terms: HashMap<Rc<Node>, Term>,
     /// The numbers of the terms that are kept, and these terms in the order of their numbers.
-    numbers: HashMap<Term, u16>,
+    numbers: HashMap<Term, u32>,
     kept: Vec<Term>,
     /// The steps and chains written.
     steps: usize,
@@ -51,14 +53,25 @@ impl Default for JobWriter {
 }
 
 impl JobWriter {
+    /// A job whose term numbers have two bytes.
     pub fn new() -> Self {
+        Self::of(Format::TwoBytes)
+    }
+
+    /// A job of that format.
+    pub fn of(format: Format) -> Self {
+        let bytes = match format {
+            Format::TwoBytes => Vec::new(),
+            Format::FourBytes => FOUR_BYTES_RECORD.to_vec(),
+        };
         JobWriter {
+            format,
             nodes: vec![None, None],
             terms: HashMap::new(),
             numbers: HashMap::from([(TRUE, 0), (FALSE, 1)]),
             kept: vec![TRUE, FALSE],
             steps: 0,
-            bytes: Vec::new(),
+            bytes,
         }
     }
 
@@ -88,7 +101,7 @@ impl JobWriter {
     }
 
     /// The number of a kept term.
-    pub fn number_of(&self, term: Term) -> Option<u16> {
+    pub fn number_of(&self, term: Term) -> Option<u32> {
         self.numbers.get(&term).copied()
     }
 
@@ -179,19 +192,20 @@ impl JobWriter {
 
     // Records
 
-    fn record(&mut self, kind: Kind, words: impl Iterator<Item = u16>) {
+    /// Writes a record: numbers of two bytes, and then numbers of terms.
+    fn record(&mut self, kind: Kind, words: impl Iterator<Item = u16>, terms: &[u32]) {
         let start = self.bytes.len();
         self.bytes.extend([0, 0]);
         self.bytes.extend(kind.number().to_le_bytes());
-        for word in words {
-            self.bytes.extend(word.to_le_bytes());
-        }
+        self.bytes.extend(words.flat_map(u16::to_le_bytes));
+        self.bytes.extend(terms.iter().flat_map(|&number| self.format.bytes(number)));
         let length = (self.bytes.len() - start - 2) as u16;
         self.bytes[start..start + 2].copy_from_slice(&length.to_le_bytes());
     }
 
     /// Writes the records that a term still needs, and gives its number.
-    pub fn number(&mut self, root: Term) -> u16 {
+    pub fn number(&mut self, root: Term) -> u32 {
+        let most = self.format.max_terms();
         let mut open = vec![root];
         while let Some(&term) = open.last() {
             let Some(node) = self.node(term).filter(|_| !self.numbers.contains_key(&term)) else {
@@ -201,10 +215,10 @@ impl JobWriter {
             let waiting = open.len();
             open.extend(node.arguments.iter().rev().filter(|a| !self.numbers.contains_key(a)));
             if open.len() == waiting {
-                assert!(self.kept.len() < MAX_TERMS, "a job keeps at most {MAX_TERMS} terms");
-                let arguments: Vec<u16> = node.arguments.iter().map(|a| self.numbers[a]).collect();
-                self.record(node.kind, node.numbers.iter().copied().chain(arguments));
-                self.numbers.insert(term, self.kept.len() as u16);
+                assert!(self.kept.len() < most, "a job keeps at most {most} terms");
+                let arguments: Vec<u32> = node.arguments.iter().map(|a| self.numbers[a]).collect();
+                self.record(node.kind, node.numbers.iter().copied(), &arguments);
+                self.numbers.insert(term, self.kept.len() as u32);
                 self.kept.push(term);
                 open.pop();
             }
@@ -214,8 +228,8 @@ impl JobWriter {
 
     /// Writes a step.
     pub fn step(&mut self, rule: u16, literals: &[Term]) {
-        let literals: Vec<u16> = literals.iter().map(|&l| self.number(l)).collect();
-        self.record(Kind::Step, std::iter::once(rule).chain(literals));
+        let literals: Vec<u32> = literals.iter().map(|&l| self.number(l)).collect();
+        self.record(Kind::Step, std::iter::once(rule), &literals);
         self.steps += 1;
     }
 
@@ -228,14 +242,14 @@ impl JobWriter {
     /// Writes a chain: the literal from the literals of earlier steps, which are named by their places among the job's steps, from 1.
     pub fn chain(&mut self, rule: u16, premises: &[u16], literal: Term) {
         let literal = self.number(literal);
-        let words = [rule, premises.len() as u16].into_iter().chain(premises.iter().copied()).chain([literal]);
-        self.record(Kind::Chain, words);
+        let words = [rule, premises.len() as u16].into_iter().chain(premises.iter().copied());
+        self.record(Kind::Chain, words, &[literal]);
         self.steps += 1;
     }
 
     /// Writes a back: only the first `count` terms stay.
     pub fn back(&mut self, count: usize) {
-        self.record(Kind::Back, std::iter::once(count as u16));
+        self.record(Kind::Back, std::iter::empty(), &[count as u32]);
         for term in self.kept.drain(count.max(2).min(self.kept.len())..) {
             self.numbers.remove(&term);
         }
@@ -261,8 +275,46 @@ pub fn specimen() -> Vec<u8> {
     job.finish()
 }
 
-/// The one answer of [`specimen`].
+/// The one answer of [`specimen`], and that of the same job in four bytes.
 pub const SPECIMEN_ANSWER: [u8; 10] = [8, 0, 200, 0, 9, 0, 0, 0, 2, 0];
+pub const LONG_SPECIMEN_ANSWER: [u8; 12] = [10, 0, 200, 0, 9, 0, 0, 0, 2, 0, 0, 0];
+
+/// How many bytes of a record's body are not numbers of terms: names, widths, values, indices, amounts, rules, premises. They are the first ones.
+pub fn own_bytes(kind: Kind, body: &[u8]) -> usize {
+    match kind {
+        Kind::BoolVar | Kind::BvBitOf | Kind::SignExtend | Kind::Step => 2,
+        Kind::ZeroExtend | Kind::RotateLeft | Kind::RotateRight | Kind::Repeat => 2,
+        Kind::BvVar | Kind::BvExtract => 4,
+        Kind::Constant => 10,
+        Kind::Chain => body.get(2..4).map_or(0, |count| 4 + 2 * usize::from(u16::from_le_bytes([count[0], count[1]]))),
+        _ => 0,
+    }
+}
+
+/// A job whose term numbers have two bytes, with the same numbers in four. What is no whole record of a kind stays as it is.
+pub fn in_four_bytes(job: &[u8]) -> Vec<u8> {
+    let (mut long, mut rest) = (FOUR_BYTES_RECORD.to_vec(), job);
+    while let Some((record, after)) = rest.split_first_chunk::<2>().and_then(|(length, body)| {
+        let (record, after) = body.split_at_checked(usize::from(u16::from_le_bytes(*length)))?;
+        Some((record, after)).filter(|_| record.len() >= 2)
+    }) {
+        long.extend(lengthened(record));
+        rest = after;
+    }
+    long.extend(rest);
+    long
+}
+
+/// A record, given without its length, with its numbers of terms in four bytes.
+fn lengthened(record: &[u8]) -> Vec<u8> {
+    let mut long = record.to_vec();
+    if let Ok(kind) = Kind::try_from(u16::from_le_bytes([record[0], record[1]])) {
+        let own = 2 + own_bytes(kind, &record[2..]).min(record.len() - 2);
+        long.truncate(own);
+        long.extend(record[own..].chunks(2).flat_map(|number| [number, &[0, 0]].concat()));
+    }
+    [&(long.len() as u16).to_le_bytes()[..], &long].concat()
+}
 
 /// One right claim over variables.
 pub fn right_claim(rule: u16, width: usize) -> Vec<u8> {
@@ -300,12 +352,40 @@ pub fn mixed(size: usize, rules: usize) -> Vec<u8> {
 
 /// A run of Nots, each of the one before, and no step.
 pub fn many_terms(count: usize) -> Vec<u8> {
-    let mut job = JobWriter::new();
-    let mut last = TRUE;
-    for _ in 0..count {
-        last = job.term(Kind::Not, &[last]);
-        job.number(last);
+    many_terms_in(Format::TwoBytes, count)
+}
+
+/// The same in either format. It is written without a table of the terms, of which there may be a million.
+pub fn many_terms_in(format: Format, count: usize) -> Vec<u8> {
+    let mut job = JobWriter::of(format);
+    for k in 0..count as u32 {
+        // The first is that of `true`, the next that of term 2.
+        job.record(Kind::Not, std::iter::empty(), &[if k == 0 { 0 } else { k + 1 }]);
     }
+    job.finish()
+}
+
+/// The same run of Nots, and then so many repeats of them in scattered order.
+pub fn many_repeats_in(format: Format, count: usize, repeats: usize) -> Vec<u8> {
+    let mut job = JobWriter::of(format);
+    job.bytes = many_terms_in(format, count);
+    for k in 0..repeats {
+        // The step is a prime, so that all of them have their turn.
+        let number = (k * 40_503 % count) as u32;
+        job.record(Kind::Not, std::iter::empty(), &[if number == 0 { 0 } else { number + 1 }]);
+    }
+    job.finish()
+}
+
+/// A run of Nots, each of the one before, and a held step of rule 2 whose right side is the last of them as a bit-vector: so deep is it.
+pub fn deep_claim(format: Format, depth: usize) -> Vec<u8> {
+    let mut job = JobWriter::of(format);
+    job.bytes = many_terms_in(format, depth);
+    let last = if depth == 0 { 0 } else { depth as u32 + 1 };
+    let bits = depth as u32 + 2;
+    job.record(Kind::BvBbTerm, std::iter::empty(), &[last]);
+    job.record(Kind::Equals, std::iter::empty(), &[bits, bits]);
+    job.record(Kind::Step, std::iter::once(Rule::Var.number()), &[bits + 1]);
     job.finish()
 }
 

@@ -1,15 +1,15 @@
 //! A service: memory of its own, a tally, and reports in words.
 use crate::{
-    ANSWER_BYTES, Counted, Known, Limits, MAX_JOB_BYTES, MAX_VALUES, MAX_WIDTH, Outcome, SHORTEST_RECORD, Seeds, Swept,
-    Tally, VALUE_BYTES, count_job, known_job, run_job_within, sweep_job, tally_answers, words,
+    Counted, Format, Known, Limits, MAX_VALUES, MAX_WIDTH, Outcome, Seeds, Swept, Tally, VALUE_BYTES, count_job,
+    format::useful_work_bytes, known_job, run_job_within, sweep_job, tally_answers, words,
 };
 use std::fmt;
 
-/// No job needs more work memory: this is twice what the most terms cost.
-pub const MAX_WORK_BYTES: usize = 1 << 20;
+/// No job needs more work memory: this is twice what the most terms cost, in the [`Format`] where that is more.
+pub const MAX_WORK_BYTES: usize = Format::FourBytes.max_work_bytes();
 
-/// No job writes more: the answers of a longest job of steps only.
-pub const MAX_ANSWER_BYTES: usize = MAX_JOB_BYTES / SHORTEST_RECORD * ANSWER_BYTES;
+/// No job writes more: the answers of a longest job of steps only, in the [`Format`] where they are longer.
+pub const MAX_ANSWER_BYTES: usize = Format::FourBytes.max_answer_bytes();
 
 /// The code of a question for which the value buffer is too short.
 const SHORT_VALUES: u32 = 21;
@@ -20,14 +20,23 @@ const NO_COUNT: u32 = u32::MAX;
 /// What no bit is: 0, 1, or 2 for one that is not known.
 const NO_BIT: u8 = 3;
 
-/// How much memory a service has to lend, in bytes: a kept term takes 8 bytes of work, an answer 10. No job can use more than
-/// [`MAX_WORK_BYTES`] or [`MAX_ANSWER_BYTES`].
+/// How much memory a service has to lend, in bytes: a kept term takes 8 bytes of work and an answer 10, or 12 and 12 in a job whose term
+/// numbers have four bytes. No job can use more than [`MAX_WORK_BYTES`] or [`MAX_ANSWER_BYTES`], and a job is lent no more work memory
+/// than it can use.
 #[derive(Clone, Copy, Debug, PartialEq, Eq)]
 pub struct Memory {
     /// For the terms, and for finding them.
     pub work_bytes: usize,
     /// For the answers; it bounds the steps of a job, and with them its time.
     pub answer_bytes: usize,
+}
+
+impl Memory {
+    /// What so many terms and answers take in that format. The first two terms, `true` and `false`, are free.
+    pub fn for_terms(format: Format, terms: usize, answers: usize) -> Self {
+        let work_bytes = terms.saturating_sub(2).saturating_mul(format.term_bytes());
+        Memory { work_bytes, answer_bytes: answers.saturating_mul(format.answer_bytes()) }
+    }
 }
 
 /// Checks jobs one after the other on the same memory, and counts what they came to.
@@ -41,13 +50,15 @@ pub struct Memory {
 /// terms are looked for depends on random bytes that the service puts into the work memory before each job, so that nobody can
 /// choose terms that take long to find.
 ///
-/// A sweep or a count takes one evaluation for each assignment and each term that stands in the asked one, up to 65,536 times 65,535 of them, after the
+/// A sweep or a count takes one evaluation for each assignment and each term that stands in the asked one, up to 65,536 times a million of them, after the
 /// job's own time. Deriving bits takes one evaluation of each of these terms.
 ///
 /// Threads: a service checks one job at a time. Services share nothing, so that each thread may have its own.
 pub struct Service {
     work: Vec<u8>,
     answers: Vec<u8>,
+    /// The most answers of a job, whatever their format.
+    answer_limit: usize,
     /// As long as the largest job needed that was asked about.
     values: Vec<u8>,
     counts: [u32; MAX_VALUES],
@@ -58,18 +69,28 @@ pub struct Service {
     seeds: Seeds,
 }
 
+/// What a job or a question is lent.
+struct Lending<'a> {
+    work: &'a mut [u8],
+    answers: &'a mut [u8],
+    values: &'a mut [u8],
+    counts: &'a mut [u32],
+    bits: &'a mut [u8],
+}
+
 impl Service {
     /// A service with that much memory to lend: [`Service::with_memory`], whose numbers have names.
     pub fn new(work_bytes: usize, answer_bytes: usize) -> Self {
         Service::with_memory(Memory { work_bytes, answer_bytes })
     }
 
-    /// A service with that much memory to lend; more than a job can use is cut to that, and [`Service::memory`] says what it came to. Ten bytes
-    /// are one answer: [`Service::with_answer_limit`] says it in answers.
+    /// A service with that much memory to lend; more than a job can use is cut to that, and [`Service::memory`] says what it came to. Ten or
+    /// twelve bytes are one answer: [`Service::with_answer_limit`] says it in answers.
     pub fn with_memory(memory: Memory) -> Self {
         Service {
             work: vec![0; memory.work_bytes.min(MAX_WORK_BYTES)],
             answers: vec![0; memory.answer_bytes.min(MAX_ANSWER_BYTES)],
+            answer_limit: usize::MAX,
             values: Vec::new(),
             counts: [NO_COUNT; MAX_VALUES],
             bits: [NO_BIT; MAX_WIDTH],
@@ -81,7 +102,8 @@ impl Service {
 
     /// The same service with room for at most so many answers: a job with more steps stops with code 19.
     pub fn with_answer_limit(mut self, answers: usize) -> Self {
-        self.answers.truncate(answers.saturating_mul(ANSWER_BYTES));
+        self.answer_limit = answers;
+        self.answers.truncate(answers.saturating_mul(Format::FourBytes.answer_bytes()));
         self
     }
 
@@ -94,59 +116,82 @@ impl Service {
     /// Checks a job and adds it to the tally.
     #[must_use = "the job may be refused"]
     pub fn check(&mut self, job: &[u8]) -> Report<'_> {
-        self.seeds.put(&mut self.work);
-        let outcome = run_job_within(job, &mut self.work, &mut self.answers, self.limits);
+        let limits = self.limits;
+        let Lending { work, answers, .. } = self.lend(job);
+        let outcome = run_job_within(job, work, answers, limits);
         tally_answers(&mut self.tally, &self.answers, outcome.answers);
-        Report::new(outcome, &self.answers, self.tally)
+        Report::new(Format::of(job), outcome, &self.answers, self.tally)
+    }
+
+    /// What a job is lent: of the work memory no more than it can use, since all that is lent is wiped, and of the answers as many as the
+    /// limit allows; with a new seed at the end of the work memory.
+    fn lend(&mut self, job: &[u8]) -> Lending<'_> {
+        let work_bytes = self.work.len().min(useful_work_bytes(job));
+        let most_answers = self.answer_limit.saturating_mul(Format::of(job).answer_bytes());
+        let answer_bytes = self.answers.len().min(most_answers);
+        let (work, answers) = (&mut self.work[..work_bytes], &mut self.answers[..answer_bytes]);
+        self.seeds.put(work);
+        Lending { work, answers, values: &mut self.values, counts: &mut self.counts, bits: &mut self.bits }
+    }
+
+    /// Lengthens the value buffer, since only a job itself says how many terms it keeps.
+    fn lengthen_values(&mut self, terms: u32) {
+        self.values.resize(VALUE_BYTES * terms as usize, 0);
     }
 
     /// Runs a job, and evaluates both sides of the Equals of that number in its final store on every assignment of the variables that stand
     /// in it. The job is not added to the tally.
     pub fn sweep(&mut self, job: &[u8], number: u32) -> Sweep<'_> {
-        self.seeds.put(&mut self.work);
-        let mut swept = sweep_job(job, &mut self.work, &mut self.answers, &mut self.values, number);
+        let mut swept = self.sweep_once(job, number);
         if swept.code == SHORT_VALUES {
-            // Only the job itself says how many terms it keeps.
-            self.values.resize(VALUE_BYTES * swept.outcome.terms as usize, 0);
-            self.seeds.put(&mut self.work);
-            swept = sweep_job(job, &mut self.work, &mut self.answers, &mut self.values, number);
+            self.lengthen_values(swept.outcome.terms);
+            swept = self.sweep_once(job, number);
         }
-        Sweep { swept, answers: &self.answers }
+        Sweep { swept, format: Format::of(job), answers: &self.answers }
+    }
+
+    fn sweep_once(&mut self, job: &[u8], number: u32) -> Swept {
+        let Lending { work, answers, values, .. } = self.lend(job);
+        sweep_job(job, work, answers, values, number)
     }
 
     /// Runs a job, and counts how many assignments of the variables that stand in the term of that number of its final store lead to each of
     /// its values. The job is not added to the tally.
     pub fn count(&mut self, job: &[u8], number: u32) -> Count<'_> {
-        let Service { work, answers, values, counts, seeds, .. } = self;
-        counts.fill(NO_COUNT);
-        seeds.put(work);
-        let mut counted = count_job(job, work, answers, values, number, counts);
+        self.counts.fill(NO_COUNT);
+        let mut counted = self.count_once(job, number);
         if counted.code == SHORT_VALUES {
-            values.resize(VALUE_BYTES * counted.outcome.terms as usize, 0);
-            seeds.put(work);
-            counted = count_job(job, work, answers, values, number, counts);
+            self.lengthen_values(counted.outcome.terms);
+            counted = self.count_once(job, number);
         }
         // The library leaves the numbers past the last value as they were.
-        let size = counts.iter().position(|&count| count == NO_COUNT).unwrap_or(MAX_VALUES);
-        Count { counted, counts: &counts[..size], answers }
+        let size = self.counts.iter().position(|&count| count == NO_COUNT).unwrap_or(MAX_VALUES);
+        Count { counted, format: Format::of(job), counts: &self.counts[..size], answers: &self.answers }
+    }
+
+    fn count_once(&mut self, job: &[u8], number: u32) -> Counted {
+        let Lending { work, answers, values, counts, .. } = self.lend(job);
+        count_job(job, work, answers, values, number, counts)
     }
 
     /// Runs a job, and derives the bits of the term of that number of its final store from what is known of its inputs: a byte 0, 1, or 2 for
     /// not known, for each bit of the variables that stand in it, the variable with the lowest number first and bit 0 first in each. The job
     /// is not added to the tally.
     pub fn known(&mut self, job: &[u8], number: u32, inputs: &[u8]) -> KnownBits<'_> {
-        let Service { work, answers, values, bits, seeds, .. } = self;
-        bits.fill(NO_BIT);
-        seeds.put(work);
-        let mut known = known_job(job, work, answers, values, number, inputs, bits);
+        self.bits.fill(NO_BIT);
+        let mut known = self.known_once(job, number, inputs);
         if known.code == SHORT_VALUES {
-            values.resize(VALUE_BYTES * known.outcome.terms as usize, 0);
-            seeds.put(work);
-            known = known_job(job, work, answers, values, number, inputs, bits);
+            self.lengthen_values(known.outcome.terms);
+            known = self.known_once(job, number, inputs);
         }
         // The library leaves the bytes past the last bit as they were.
-        let size = bits.iter().position(|&bit| bit == NO_BIT).unwrap_or(MAX_WIDTH);
-        KnownBits { known, bits: &bits[..size], answers }
+        let size = self.bits.iter().position(|&bit| bit == NO_BIT).unwrap_or(MAX_WIDTH);
+        KnownBits { known, format: Format::of(job), bits: &self.bits[..size], answers: &self.answers }
+    }
+
+    fn known_once(&mut self, job: &[u8], number: u32, inputs: &[u8]) -> Known {
+        let Lending { work, answers, values, bits, .. } = self.lend(job);
+        known_job(job, work, answers, values, number, inputs, bits)
     }
 
     /// The memory that it lends.
@@ -174,15 +219,21 @@ impl fmt::Debug for Service {
 /// What a service says about one job. It displays as the stop code and the classes of the answers.
 #[derive(Clone, Copy)]
 pub struct Report<'a> {
+    format: Format,
     outcome: Outcome,
     answers: &'a [u8],
     tally: Tally,
 }
 
 impl<'a> Report<'a> {
-    /// The report on a job that was run elsewhere, in another process say, from what came back and the tally after it.
-    pub fn new(outcome: Outcome, answers: &'a [u8], tally: Tally) -> Self {
-        Report { outcome, answers, tally }
+    /// The report on a job of that format that was run elsewhere, in another process say, from what came back and the tally after it.
+    pub fn new(format: Format, outcome: Outcome, answers: &'a [u8], tally: Tally) -> Self {
+        Report { format, outcome, answers, tally }
+    }
+
+    /// The format of the job.
+    pub fn format(&self) -> Format {
+        self.format
     }
 
     /// The numbers that the library returned.
@@ -192,7 +243,7 @@ impl<'a> Report<'a> {
 
     /// The answers, in the order of the job's steps.
     pub fn answers(&self) -> Answers<'a> {
-        Answers::new(self.answers, self.outcome.answers)
+        Answers::new(self.format, self.answers, self.outcome.answers)
     }
 
     /// The stop code in words.
@@ -217,6 +268,7 @@ impl<'a> Report<'a> {
 #[derive(Clone, Copy)]
 pub struct Sweep<'a> {
     swept: Swept,
+    format: Format,
     answers: &'a [u8],
 }
 
@@ -248,7 +300,7 @@ impl<'a> Sweep<'a> {
 
     /// The job's answers, in the order of its steps.
     pub fn answers(&self) -> Answers<'a> {
-        Answers::new(self.answers, self.swept.outcome.answers)
+        Answers::new(self.format, self.answers, self.swept.outcome.answers)
     }
 
     /// The code in words.
@@ -261,6 +313,7 @@ impl<'a> Sweep<'a> {
 #[derive(Clone, Copy)]
 pub struct Count<'a> {
     counted: Counted,
+    format: Format,
     counts: &'a [u32],
     answers: &'a [u8],
 }
@@ -283,7 +336,7 @@ impl<'a> Count<'a> {
 
     /// The job's answers, in the order of its steps.
     pub fn answers(&self) -> Answers<'a> {
-        Answers::new(self.answers, self.counted.outcome.answers)
+        Answers::new(self.format, self.answers, self.counted.outcome.answers)
     }
 
     /// The code in words.
@@ -296,6 +349,7 @@ impl<'a> Count<'a> {
 #[derive(Clone, Copy)]
 pub struct KnownBits<'a> {
     known: Known,
+    format: Format,
     bits: &'a [u8],
     answers: &'a [u8],
 }
@@ -318,7 +372,7 @@ impl<'a> KnownBits<'a> {
 
     /// The job's answers, in the order of its steps.
     pub fn answers(&self) -> Answers<'a> {
-        Answers::new(self.answers, self.known.outcome.answers)
+        Answers::new(self.format, self.answers, self.known.outcome.answers)
     }
 
     /// The code in words.
@@ -389,7 +443,7 @@ pub struct Answer {
     /// The number of its [`AnswerCode`](crate::AnswerCode).
     pub code: u16,
     /// The depth of the accepted right side, 0 where the step is refused.
-    pub depth: u16,
+    pub depth: u32,
 }
 
 impl Answer {
@@ -412,15 +466,16 @@ impl Answer {
 /// The answers in a run of bytes.
 #[derive(Clone, Debug)]
 pub struct Answers<'a> {
+    format: Format,
     rest: std::slice::ChunksExact<'a, u8>,
     left: u32,
     step: u32,
 }
 
 impl<'a> Answers<'a> {
-    /// The first `count` answers; where `bytes` is shorter, those that it has whole.
-    pub fn new(bytes: &'a [u8], count: u32) -> Self {
-        Answers { rest: bytes.chunks_exact(ANSWER_BYTES), left: count, step: 0 }
+    /// The first `count` answers of a job of that format; where `bytes` is shorter, those that it has whole.
+    pub fn new(format: Format, bytes: &'a [u8], count: u32) -> Self {
+        Answers { format, rest: bytes.chunks_exact(format.answer_bytes()), left: count, step: 0 }
     }
 }
 
@@ -432,7 +487,7 @@ impl Iterator for Answers<'_> {
         let bytes = self.rest.next()?;
         self.step += 1;
         let word = |at: usize| u16::from_le_bytes([bytes[at], bytes[at + 1]]);
-        Some(Answer { step: self.step, rule: word(4), code: word(6), depth: word(8) })
+        Some(Answer { step: self.step, rule: word(4), code: word(6), depth: self.format.number(&bytes[8..]) })
     }
 
     fn size_hint(&self) -> (usize, Option<usize>) {

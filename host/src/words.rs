@@ -108,6 +108,7 @@ numbered! {
     63 Repeat "Repeat" "repeat"
     100 Step "Step" "a step"
     101 Back "Back" "a back"
+    103 FourBytes "FourBytes" "term numbers of four bytes"
     104 Chain "Chain" "a chain"
 }
 
@@ -162,7 +163,7 @@ numbered! {
     8 NoRoom "no_room" "no room for a new term: the work memory or the term numbers are spent"
     9 NoRule "no_rule" "the record's kind has no such rule"
     18 WrongBack "wrong_back" "a back to below 2 or above the number of terms"
-    19 NoAnswerRoom "no_answer_room" "fewer than 10 bytes are left for the step's answer"
+    19 NoAnswerRoom "no_answer_room" "fewer bytes are left than the step's answer has, 10 or 12"
 }
 
 numbered! {

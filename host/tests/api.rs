@@ -10,7 +10,7 @@ fn hex(text: &str) -> Vec<u8> {
     text.split(' ').map(|byte| u8::from_str_radix(byte, 16).unwrap()).collect()
 }
 
-fn check(job: &[u8]) -> (Outcome, Vec<(u16, u16, u16)>) {
+fn check(job: &[u8]) -> (Outcome, Vec<(u16, u16, u32)>) {
     let mut service = Service::new(1 << 16, 1 << 16);
     let report = service.check(job);
     (report.outcome(), report.answers().map(|a| (a.rule, a.code, a.depth)).collect())
@@ -168,7 +168,7 @@ fn reports_in_words() {
         (1, Some("held".to_owned()))
     );
     assert_eq!((answers.len(), answers.next()), (0, None));
-    assert!(format!("{service:?}").starts_with("Service { work_bytes: 64, answer_bytes: 10, limits: Limits { width: 64, terms: 65535 }, tally: Tally { jobs: 1,"));
+    assert!(format!("{service:?}").starts_with("Service { work_bytes: 64, answer_bytes: 10, limits: Limits { width: 64, terms: 1000000 }, tally: Tally { jobs: 1,"));
 }
 
 /// The limit on answers is a limit on steps; it lends no more than there is.

@@ -1,4 +1,4 @@
-/* Calls the library from C: layout, the specimen at every length of lent memory, a stopped job, a sweep, counts, bits, a tally. */
+/* Calls the library from C: layout, the specimen at every length of lent memory and in both formats, a stopped job, a sweep, counts, bits, a tally. */
 #include "bitblast.h"
 #include <stdio.h>
 #include <string.h>
@@ -32,28 +32,74 @@ static const uint8_t specimen[] = {
 
 static const uint8_t answer[BB_ANSWER_BYTES] = {8, 0, 200, 0, 9, 0, 0, 0, 2, 0};
 
-static void every_length(void) {
-    for (size_t work_len = 0; work_len <= 80; work_len++) {
-        for (size_t room = 0; room <= 30; room++) {
-            uint8_t work[FENCE + 80 + FENCE], answers[FENCE + 30 + FENCE];
-            memset(work, POST, sizeof work);
-            memset(answers, POST, sizeof answers);
-            memset(work + FENCE, OLD, work_len);
-            memset(answers + FENCE, OLD, room);
-            BbOutcome o = bb_job(specimen, sizeof specimen, work + FENCE, work_len, answers + FENCE, room);
-            uint32_t stop = work_len < 64 ? BB_STOP_NO_ROOM : room < 10 ? BB_STOP_NO_ANSWER_ROOM : BB_STOP_END;
-            expect(o.stop == stop, "stop code");
-            expect(o.repeats == 0, "no repeats");
-            expect(o.answers == (stop == 0), "number of answers");
-            expect(stop == BB_STOP_NO_ROOM || (o.terms == 10 && o.records == 8 + o.answers), "terms and records");
-            expect(all(work, FENCE, FENCE + work_len, 0), "work memory is zero");
-            expect(all(work, 0, FENCE, POST) && all(work, FENCE + work_len, sizeof work, POST), "fences of the work memory");
-            size_t written = BB_ANSWER_BYTES * o.answers;
-            expect(memcmp(answers + FENCE, answer, written) == 0, "the answer");
-            expect(all(answers, FENCE + written, FENCE + room, OLD), "untouched answers");
-            expect(all(answers, 0, FENCE, POST) && all(answers, FENCE + room, sizeof answers, POST), "fences of the answers");
-        }
+/* The same with term numbers of four bytes. */
+static const uint8_t long_specimen[] = {
+    0x02, 0, 0x67, 0, 0x06, 0, 0x0B, 0, 1, 0, 0, 0, 0x06, 0, 0x0B, 0, 1, 0, 1, 0, 0x08, 0, 0x1E, 0, 0, 0, 2, 0, 0, 0,
+    0x08, 0, 0x1E, 0, 0, 0, 3, 0, 0, 0, 0x06, 0, 0x14, 0, 5, 0, 0, 0, 0x0A, 0, 0x15, 0, 4, 0, 0, 0, 6, 0, 0, 0,
+    0x0A, 0, 0x32, 0, 2, 0, 0, 0, 3, 0, 0, 0, 0x0A, 0, 0x18, 0, 8, 0, 0, 0, 7, 0, 0, 0, 0x08, 0, 0x64, 0, 9, 0, 9, 0, 0, 0};
+
+static const uint8_t long_answer[BB_LONG_ANSWER_BYTES] = {10, 0, 200, 0, 9, 0, 0, 0, 2, 0, 0, 0};
+
+/* The specimen in a format, with every length of lent memory around what it needs. */
+static void every_length(const uint8_t *job, size_t job_len, const uint8_t *expected) {
+    int is_long = BB_IS_LONG(job, job_len);
+    size_t term_bytes = is_long ? BB_LONG_TERM_BYTES : BB_TERM_BYTES, answer_bytes = is_long ? BB_LONG_ANSWER_BYTES : BB_ANSWER_BYTES;
+    for (size_t k = 0; k < 121 * 31; k++) {
+        size_t work_len = k / 31, room = k % 31;
+        uint8_t work[FENCE + 120 + FENCE], answers[FENCE + 30 + FENCE];
+        memset(work, POST, sizeof work);
+        memset(answers, POST, sizeof answers);
+        memset(work + FENCE, OLD, work_len);
+        memset(answers + FENCE, OLD, room);
+        BbOutcome o = bb_job(job, job_len, work + FENCE, work_len, answers + FENCE, room);
+        uint32_t stop = work_len < 8 * term_bytes ? BB_STOP_NO_ROOM : room < answer_bytes ? BB_STOP_NO_ANSWER_ROOM : BB_STOP_END;
+        expect(o.stop == stop, "stop code");
+        expect(o.repeats == 0, "no repeats");
+        expect(o.answers == (stop == 0), "number of answers");
+        expect(o.terms == 2 + (stop == BB_STOP_NO_ROOM ? work_len / term_bytes : 8), "terms");
+        expect(o.records == o.terms - 2 + o.answers + is_long, "records");
+        expect(all(work, FENCE, FENCE + work_len, 0), "work memory is zero");
+        expect(all(work, 0, FENCE, POST) && all(work, FENCE + work_len, sizeof work, POST), "fences of the work memory");
+        size_t written = answer_bytes * o.answers;
+        expect(memcmp(answers + FENCE, expected, written) == 0, "the answer");
+        expect(all(answers, FENCE + written, FENCE + room, OLD), "untouched answers");
+        expect(all(answers, 0, FENCE, POST) && all(answers, FENCE + room, sizeof answers, POST), "fences of the answers");
     }
+}
+
+/* Which jobs are long, and what kind 103 is elsewhere. */
+static void first_record(void) {
+    static const uint8_t alone[] = {2, 0, BB_KIND_FOURBYTES, 0}, body[] = {4, 0, BB_KIND_FOURBYTES, 0, 0, 0},
+                         twice[] = {2, 0, BB_KIND_FOURBYTES, 0, 2, 0, BB_KIND_FOURBYTES, 0};
+    uint8_t work[24], answers[24];
+    BbOutcome o = bb_job(alone, sizeof alone, work, sizeof work, answers, sizeof answers);
+    expect(o.stop == BB_STOP_END && o.records == 1 && o.terms == 2, "the first record alone");
+    o = bb_job(body, sizeof body, work, sizeof work, answers, sizeof answers);
+    expect(o.stop == BB_STOP_WRONG_LENGTH && o.records == 0, "a first record with a body");
+    o = bb_job(twice, sizeof twice, work, sizeof work, answers, sizeof answers);
+    expect(o.stop == BB_STOP_UNKNOWN_KIND && o.records == 1, "the first record twice");
+    expect(BB_IS_LONG(alone, sizeof alone) && BB_IS_LONG(twice, sizeof twice), "long jobs");
+    expect(!BB_IS_LONG(alone, 3) && !BB_IS_LONG(body, sizeof body) && !BB_IS_LONG(specimen, sizeof specimen), "other jobs");
+}
+
+/* Limits, a sweep, counts and bits of the long specimen: as of the other, with the same value buffer. */
+static void long_questions(void) {
+    uint8_t work[8 * BB_LONG_TERM_BYTES], answers[BB_LONG_ANSWER_BYTES], values[80], inputs[] = {1, 2}, output = 9;
+    uint32_t numbers[2];
+    for (uint32_t terms = 9; terms <= 10; terms++) {
+        BbOutcome o = bb_job_within(long_specimen, sizeof long_specimen, work, sizeof work, answers, sizeof answers, 1, terms);
+        expect(o.stop == (terms < 10 ? BB_STOP_NO_ROOM : BB_STOP_END) && o.terms == terms, "a long job under limits");
+    }
+    BbSwept s = bb_sweep(long_specimen, sizeof long_specimen, work, sizeof work, answers, sizeof answers, values, sizeof values, 9);
+    expect(s.code == 0 && s.assignments == 4 && s.differing == 0 && s.outcome.records == 10, "a sweep of a long job");
+    s = bb_sweep(long_specimen, sizeof long_specimen, work, sizeof work, answers, sizeof answers, values, 79, 9);
+    expect(s.code == 21, "a short value buffer of a long job");
+    BbCounted c = bb_count(long_specimen, sizeof long_specimen, work, sizeof work, answers, sizeof answers, values, sizeof values, 7, numbers, 2);
+    expect(c.code == 0 && numbers[0] == 3 && numbers[1] == 1, "counts of a long job");
+    BbKnown b = bb_known(long_specimen, sizeof long_specimen, work, sizeof work, answers, sizeof answers, values, sizeof values, 7, inputs, 2,
+                         &output, 1);
+    expect(b.code == 0 && output == 2, "bits of a long job");
+    expect(memcmp(answers, long_answer, sizeof long_answer) == 0, "the answer of a long job with questions");
 }
 
 static void stopped(void) {
@@ -276,6 +322,20 @@ static void tally(void) {
     expect(t.before == 7 && t.behind == 7, "fences of the tally");
 }
 
+/* The first answer says how long all of them are. */
+static void long_tally(void) {
+    BbTally t = {0, 0, 0, 0};
+    uint8_t answers[3 * BB_LONG_ANSWER_BYTES];
+    for (int k = 0; k < 3; k++) {
+        memcpy(answers + k * BB_LONG_ANSWER_BYTES, long_answer, BB_LONG_ANSWER_BYTES);
+    }
+    answers[18] = BB_ANSWER_FORM_ONLY;
+    answers[30] = BB_ANSWER_TERMS_DIFFER;
+    bb_tally(&t, answers, sizeof answers, 3);
+    bb_tally(&t, answers, sizeof answers - 1, 3);
+    expect(t.jobs == 2 && t.held == 2 && t.form_only == 2 && t.refused == 1, "the tally of long answers");
+}
+
 int main(void) {
     expect(bb_version() == BB_VERSION, "the interface's number");
     expect(sizeof(BbOutcome) == 20 && offsetof(BbOutcome, records) == 4 && offsetof(BbOutcome, answers) == 8 &&
@@ -290,7 +350,10 @@ int main(void) {
     expect(sizeof(BbConverted) == 24 && offsetof(BbConverted, line) == 8 && offsetof(BbConverted, length) == 16, "layout of BbConverted");
     expect(sizeof(BbCounted) == 24 && offsetof(BbCounted, outcome) == 4, "layout of BbCounted");
     expect(sizeof(BbKnown) == 24 && offsetof(BbKnown, outcome) == 4, "layout of BbKnown");
-    every_length();
+    every_length(specimen, sizeof specimen, answer);
+    every_length(long_specimen, sizeof long_specimen, long_answer);
+    first_record();
+    long_questions();
     stopped();
     repeats();
     limits();
@@ -300,6 +363,7 @@ int main(void) {
     bits();
     text();
     tally();
+    long_tally();
     if (failures == 0) {
         printf("ok\n");
     }

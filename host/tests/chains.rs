@@ -140,7 +140,7 @@ fn premises_that_were_dropped() {
         let mut job = JobWriter::new();
         let (x, bits) = variable(&mut job, 1, 0);
         let (forth, back) = (equality(&mut job, x, bits), equality(&mut job, bits, x));
-        let count = usize::from(job.number(forth)) + kept;
+        let count = job.number(forth) as usize + kept;
         job.back(count);
         job.number(forth);
         job.chain(SYMM, &[1], back);

@@ -363,7 +363,7 @@ fn lists_and_names_of_files() {
 /// More memory than a job can use is not lent, and said.
 #[test]
 fn memory_that_no_job_can_use() {
-    for (option, lent) in [("--work", "1,048,576"), ("--answers", "27,962,020")] {
+    for (option, lent) in [("--work", "24,000,000"), ("--answers", "33,554,424")] {
         let output = bbhost(&["check", option, "1000000000", "-"], &jobs::specimen());
         let said = format!("bbhost: {option}: no job can use more than {lent} bytes, which are lent\n");
         assert_eq!((output.status.code(), text(&output.stderr)), (Some(0), &said[..]));

@@ -1,7 +1,7 @@
 //! docs/FORMAT.md is true: records are written from its tables alone, right and wrong ones, and every job in hex on it is run.
 mod page;
 
-use bitblast_host::{Answers, Limits, Outcome, rng::Rng, run_job, run_job_within};
+use bitblast_host::{Answers, Format, Limits, Outcome, rng::Rng, run_job, run_job_within};
 use page::{Row, page, table};
 use std::collections::{BTreeMap, HashMap};
 
@@ -14,6 +14,8 @@ const PLENTY: usize = 1 << 16;
 enum Part {
     /// A number of two bytes, by its name.
     Number(String),
+    /// The number of terms that a back leaves, of as many bytes as a term's number.
+    Terms,
     /// The number of eight bytes.
     Value,
     /// From so many to so many arguments.
@@ -36,6 +38,7 @@ fn part(text: &str) -> Part {
         ["A", "×", low, "to", high] => Part::Arguments(low.parse().unwrap(), high.parse().unwrap()),
         ["premise", "×", name] => Part::Premises(name.to_owned()),
         ["value"] => Part::Value,
+        ["terms"] => Part::Terms,
         [name] => Part::Number(name.to_owned()),
         _ => panic!("a body has no part {text}"),
     }
@@ -44,7 +47,7 @@ fn part(text: &str) -> Part {
 /// The parts of a body; arguments that stand one after the other are one part.
 fn parts(body: &str) -> Vec<Part> {
     let mut parts: Vec<Part> = Vec::new();
-    for text in body.split(", ") {
+    for text in body.split(", ").filter(|text| *text != "none") {
         match (part(text), parts.last_mut()) {
             (Part::Arguments(low, high), Some(Part::Arguments(lows, highs))) => {
                 (*lows, *highs) = (*lows + low, *highs + high);
@@ -71,6 +74,52 @@ fn term_kinds(page: &str) -> Vec<Kind> {
 
 fn other_kinds(page: &str) -> Vec<Kind> {
     kinds(table(page, &["kind", "name", "body", "does"]))
+}
+
+/// The kind that stands first or not at all.
+const FIRST: &str = "FourBytes";
+
+/// The lengths of numbers, memory and answers of both formats, by the first record that says so.
+fn formats(page: &str) -> Vec<PageFormat> {
+    let rows = table(page, &["first record", "term number", "kept term", "answer", "depth", "most terms"]);
+    let format = |row: &Row| {
+        let number = |column: &str| row[column].replace(',', "").parse().unwrap();
+        let start = if row["first record"].starts_with('`') { bytes(&row["first record"]) } else { vec![] };
+        let [number_bytes, term_bytes] = ["term number", "kept term"].map(number);
+        let [answer_bytes, depth_bytes, most] = ["answer", "depth", "most terms"].map(number);
+        assert_eq!(answer_bytes, 8 + depth_bytes);
+        PageFormat { start, number_bytes, term_bytes, answer_bytes, most }
+    };
+    rows.iter().map(format).collect()
+}
+
+/// What the page says of a format.
+#[derive(Clone)]
+struct PageFormat {
+    start: Vec<u8>,
+    number_bytes: usize,
+    term_bytes: usize,
+    answer_bytes: usize,
+    most: usize,
+}
+
+impl PageFormat {
+    fn number(&self, number: u32) -> Vec<u8> {
+        number.to_le_bytes()[..self.number_bytes].to_vec()
+    }
+}
+
+/// The host's own table of both formats.
+#[test]
+fn both_formats() {
+    let page = page("FORMAT.md");
+    let formats = formats(&page);
+    assert_eq!(formats.len(), 2);
+    for said in formats {
+        let format = Format::of(&said.start);
+        let own = [format.number_bytes(), format.term_bytes(), format.answer_bytes(), format.max_terms()];
+        assert_eq!(own, [said.number_bytes, said.term_bytes, said.answer_bytes, said.most]);
+    }
 }
 
 fn numbers(rows: &[Row], column: &str) -> Vec<u16> {
@@ -156,6 +205,7 @@ struct Trial {
 /// A job that is being written, and what the page says of it so far.
 struct Writer {
     rng: Rng,
+    format: PageFormat,
     step_rules: Vec<u16>,
     chain_rules: Vec<u16>,
     job: Vec<u8>,
@@ -168,13 +218,14 @@ struct Writer {
 }
 
 impl Writer {
-    fn new(page: &str, seed: u64) -> Self {
+    fn new(page: &str, format: &PageFormat, seed: u64) -> Self {
         Writer {
             rng: Rng::new(seed),
+            format: format.clone(),
             step_rules: step_rules(page),
             chain_rules: chain_rules(page),
-            job: Vec::new(),
-            records: 0,
+            job: format.start.clone(),
+            records: u32::from(!format.start.is_empty()),
             repeats: 0,
             kept: vec![(None, vec![]), (None, vec![])],
             rules: Vec::new(),
@@ -201,23 +252,29 @@ impl Writer {
     }
 
     /// The number of a term that fits the page's word beside the arguments before it, but for a few times.
-    fn argument(&mut self, word: &str, before: &[u16]) -> u16 {
+    fn argument(&mut self, word: &str, before: &[u32]) -> u32 {
         match self.rng.below(60) {
-            0 => return (self.kept.len() + self.rng.below(3)) as u16,
-            1..4 => return self.rng.below(self.kept.len()) as u16,
+            0 => return self.beyond(),
+            1..4 => return self.rng.below(self.kept.len()) as u32,
             _ => {}
         }
-        let sort = |number: &u16| self.kept.get(usize::from(*number)).map(|(sort, _)| *sort);
+        let sort = |number: &u32| self.kept.get(*number as usize).map(|(sort, _)| *sort);
         let mut sorts: Vec<Sort> = before.iter().filter_map(sort).collect();
-        let fitting: Vec<u16> = (0..self.kept.len() as u16)
+        let fitting: Vec<u32> = (0..self.kept.len() as u32)
             .filter(|number| {
-                sorts.push(self.kept[usize::from(*number)].0);
+                sorts.push(self.kept[*number as usize].0);
                 let fits = fit(word, &sorts);
                 sorts.pop();
                 fits
             })
             .collect();
         if fitting.is_empty() { 0 } else { *self.rng.pick(&fitting) }
+    }
+
+    /// A number just beyond the kept terms', or one of which the two low bytes are some kept term's.
+    fn beyond(&mut self) -> u32 {
+        let high = [0, 1 << 16, 1 << 24][if self.format.number_bytes == 2 { 0 } else { self.rng.below(3) }];
+        high | if high == 0 { self.kept.len() + self.rng.below(3) } else { self.rng.below(self.kept.len()) } as u32
     }
 
     /// Premises, as many as the record says but for a few times; code 5 where they are not, or there are not 1 to 64.
@@ -227,8 +284,13 @@ impl Writer {
         (!(1..=64).contains(&said) || said != count as i128).then_some(5)
     }
 
+    /// The least value that does not fit the width, or any.
+    fn value(&mut self, width: i128) -> u64 {
+        if self.rng.chance(30) { 1 << width.min(63) } else { self.rng.number() >> self.rng.below(64) }
+    }
+
     /// A record of the kind, written part by part, and the faults that are the body's: a wrong length, arguments that are not kept.
-    fn write(&mut self, kind: &Kind, word: &str) -> (Vec<u8>, Vec<u32>, BTreeMap<String, i128>, Vec<u16>) {
+    fn write(&mut self, kind: &Kind, word: &str) -> (Vec<u8>, Vec<u32>, BTreeMap<String, i128>, Vec<u32>) {
         let (mut body, mut faults) = (kind.number.to_le_bytes().to_vec(), Vec::new());
         let (mut names, mut arguments) = (BTreeMap::new(), Vec::new());
         for part in &kind.parts {
@@ -238,19 +300,23 @@ impl Writer {
                     names.insert(name.clone(), i128::from(number));
                     body.extend(number.to_le_bytes());
                 }
+                Part::Terms => {
+                    let terms = if self.rng.chance(10) { self.beyond() } else { self.number().into() };
+                    names.insert("terms".to_owned(), i128::from(terms));
+                    body.extend(self.format.number(terms));
+                }
                 Part::Value => {
-                    // The edge of the width before it, or any number.
-                    let edge = names["width"].min(63);
-                    let value = if self.rng.chance(30) { 1 << edge } else { self.rng.number() >> self.rng.below(64) };
+                    let value = self.value(names["width"]);
                     names.insert("value".to_owned(), i128::from(value));
                     body.extend(value.to_le_bytes());
                 }
                 Part::Arguments(low, high) => {
-                    let count = self.count(*low, *high);
+                    // Two wrong numbers of a chain may make one right length.
+                    let count = if faults.contains(&5) { *low } else { self.count(*low, *high) };
                     faults.extend((!(*low..=*high).contains(&count)).then_some(5));
                     for _ in 0..count {
                         arguments.push(self.argument(word, &arguments));
-                        body.extend(arguments.last().unwrap().to_le_bytes());
+                        body.extend(self.format.number(arguments[arguments.len() - 1]));
                     }
                 }
                 Part::Premises(name) => faults.extend(self.premises(names[name], &mut body)),
@@ -260,7 +326,7 @@ impl Writer {
             faults.push(5);
             body.push(0);
         }
-        faults.extend(arguments.iter().any(|&number| usize::from(number) >= self.kept.len()).then_some(6));
+        faults.extend(arguments.iter().any(|&number| number as usize >= self.kept.len()).then_some(6));
         let bytes = [&(body.len() as u16).to_le_bytes()[..], &body].concat();
         (bytes, faults, names, arguments)
     }
@@ -271,7 +337,7 @@ impl Writer {
         let (bytes, mut faults, mut names, arguments) = self.write(kind, word);
         let mut sort = None;
         if faults.is_empty() {
-            let sorts: Vec<Sort> = arguments.iter().map(|&number| self.kept[usize::from(number)].0).collect();
+            let sorts: Vec<Sort> = arguments.iter().map(|&number| self.kept[number as usize].0).collect();
             names.insert("w".to_owned(), sorts.first().copied().flatten().unwrap_or(0));
             names.insert("count".to_owned(), sorts.len() as i128);
             names.insert("sum".to_owned(), sorts.iter().flatten().sum());
@@ -291,8 +357,8 @@ impl Writer {
     /// A step, a chain or a back, with no room for an answer where the memory is `full`.
     fn other(&mut self, kind: &Kind, full: bool) -> Trial {
         let (bytes, mut faults, names, _) = self.write(kind, "one sort");
-        let number = |name: &str| names.get(name).map_or(0, |&number| number as u16);
-        let (rule, stay) = (number("rule"), usize::from(number("terms")));
+        let number = |name: &str| names.get(name).map_or(0, |&number| number as usize);
+        let (rule, stay) = (number("rule") as u16, number("terms"));
         match kind.name.as_str() {
             "Back" => faults.extend((!(2..=self.kept.len()).contains(&stay)).then_some(18)),
             name => {
@@ -309,9 +375,12 @@ impl Writer {
         let job = [&self.job[..], record].concat();
         let size = |used: usize| if full { used } else { PLENTY };
         // Terms that a back has dropped needed memory too: the memory is full only where there was none.
-        let (mut work, mut answers) = (vec![0; size(8 * (self.kept.len() - 2))], vec![0; size(10 * self.rules.len())]);
+        let PageFormat { term_bytes, answer_bytes, .. } = self.format;
+        let (work, answers) = (term_bytes * (self.kept.len() - 2), answer_bytes * self.rules.len());
+        let (mut work, mut answers) = (vec![0; size(work)], vec![0; size(answers)]);
         let outcome = run_job(&job, &mut work, &mut answers);
-        (outcome, Answers::new(&answers, outcome.answers).map(|answer| answer.rule).collect())
+        let listed = Answers::new(Format::of(&job), &answers, outcome.answers);
+        (outcome, listed.map(|answer| answer.rule).collect())
     }
 
     /// Takes a right record into the job.
@@ -328,17 +397,15 @@ impl Writer {
 
     /// The sort of the last term: of a bit-vector the top bit is there and the one above is not; of a Bool there is a negation.
     fn probe_sort(&self) {
-        let last = (self.kept.len() - 1) as u16;
+        let last = self.format.number(self.kept.len() as u32 - 1);
         let stop = |words: &[u16]| {
-            let words = [&[2 * words.len() as u16], words].concat();
-            let record: Vec<u8> = words.iter().flat_map(|word| word.to_le_bytes()).collect();
-            self.run(&record, false).0.stop
+            let words: Vec<u8> = words.iter().flat_map(|word| word.to_le_bytes()).collect();
+            let length = (words.len() + last.len()) as u16;
+            self.run(&[&length.to_le_bytes()[..], &words, &last].concat(), false).0.stop
         };
-        match self.kept[usize::from(last)].0 {
-            None => assert_eq!(stop(&[20, last]), 0),
-            Some(width) => {
-                assert_eq!((stop(&[30, width as u16 - 1, last]), stop(&[30, width as u16, last])), (0, 7));
-            }
+        match self.kept[self.kept.len() - 1].0 {
+            None => assert_eq!(stop(&[20]), 0),
+            Some(width) => assert_eq!((stop(&[30, width as u16 - 1]), stop(&[30, width as u16])), (0, 7)),
         }
     }
 }
@@ -370,11 +437,13 @@ fn turn(writer: &mut Writer, kinds: &[(&Kind, &[u32])], backs: bool) -> (u16, u3
 #[test]
 fn records_from_the_tables_alone() {
     let page = page("FORMAT.md");
-    let (terms, others) = (term_kinds(&page), other_kinds(&page));
+    let (terms, mut others) = (term_kinds(&page), other_kinds(&page));
+    others.retain(|kind| kind.name != FIRST);
+    let formats = formats(&page);
     let orders: Vec<Vec<u32>> = ["term", "step", "back", "chain"].map(|record| order(&page, record)).into();
     let mut kinds: Vec<(&Kind, &[u32])> = terms.iter().map(|kind| (kind, &orders[0][..])).collect();
     let mut seen: HashMap<(u16, u32), usize> = HashMap::new();
-    for seed in 0..120 {
+    for seed in 0..200 {
         // Half of the jobs have backs, and then plenty of memory: what was dropped needed some too.
         let backs = seed % 2 == 0;
         kinds.truncate(terms.len());
@@ -382,7 +451,7 @@ fn records_from_the_tables_alone() {
         if !backs {
             kinds.retain(|(kind, _)| kind.name != "Back");
         }
-        let mut writer = Writer::new(&page, seed);
+        let mut writer = Writer::new(&page, &formats[seed as usize / 2 % 2], seed);
         for _ in 0..150 {
             *seen.entry(turn(&mut writer, &kinds, backs)).or_default() += 1;
         }
@@ -408,8 +477,14 @@ fn no_other_kind_and_no_other_rule() {
         let record: Vec<u8> = words.iter().flat_map(|word| word.to_le_bytes()).collect();
         run_job(&record, &mut [0; 8], &mut [0; 10]).stop
     };
+    let first = other_kinds(&page).iter().find(|kind| kind.name == FIRST).unwrap().number;
     for number in 0..=u16::MAX {
-        assert_eq!(stop(&[2, number]), if kinds.contains(&number) { 5 } else { 4 }, "kind {number}");
+        let known = match number {
+            _ if number == first => 0,
+            _ if kinds.contains(&number) => 5,
+            _ => 4,
+        };
+        assert_eq!(stop(&[2, number]), known, "kind {number}");
         assert_eq!(stop(&[6, 100, number, 0]), if step_rules.contains(&number) { 0 } else { 9 }, "rule {number}");
         let chain = stop(&[10, 104, number, 1, 1, 0]);
         assert_eq!(chain, if chain_rules.contains(&number) { 0 } else { 9 }, "rule {number}");
@@ -434,8 +509,9 @@ fn words<T: std::str::FromStr>(cell: &str) -> Vec<T> {
 /// Runs an example with that much memory, and gives what it comes to and the answers' bytes.
 fn example(cell: &str, work: usize, answers: usize) -> (Outcome, Vec<u8>) {
     let (mut work, mut answers) = (vec![0; work], vec![0; answers]);
-    let outcome = run_job(&bytes(cell), &mut work, &mut answers);
-    answers.truncate(10 * outcome.answers as usize);
+    let job = bytes(cell);
+    let outcome = run_job(&job, &mut work, &mut answers);
+    answers.truncate(Format::of(&job).answer_bytes() * outcome.answers as usize);
     (outcome, answers)
 }
 
@@ -461,7 +537,7 @@ fn stop_examples(page: &str) -> usize {
     for row in &rows {
         let lent = |what: &str| row["lent"].strip_prefix(what).map_or(PLENTY, |size| size.trim().parse().unwrap());
         let (outcome, answers) = example(&row["example"], lent("work"), lent("answers"));
-        let said = words(&format!("{} {} 0 {} 0", row["stop"], row["records"], row["terms"]));
+        let said = words::<u32>(&format!("{} {} 0 {} 0", row["stop"], row["records"], row["terms"]));
         assert_eq!((outcome.numbers().to_vec(), answers.len()), (said, 0), "{}", row["name"]);
         // What is lent matters: with plenty, or one byte more, the job runs to its end.
         if !row["lent"].is_empty() {
@@ -476,9 +552,10 @@ fn answer_examples(page: &str) -> usize {
     let rows = table(page, &["answer", "name", "says", "example", "rule code depth"]);
     for row in &rows {
         let (outcome, answers) = example(&row["example"], PLENTY, PLENTY);
-        let last = Answers::new(&answers, outcome.answers).last().unwrap();
+        let last = Answers::new(Format::of(&bytes(&row["example"])), &answers, outcome.answers).last().unwrap();
         assert_eq!((outcome.stop, row["answer"].parse()), (0, Ok(last.code)), "{}", row["name"]);
-        assert_eq!([last.rule, last.code, last.depth].to_vec(), words(&row["rule code depth"]), "{}", row["name"]);
+        let numbers = [last.rule.into(), last.code.into(), last.depth].to_vec();
+        assert_eq!(numbers, words::<u32>(&row["rule code depth"]), "{}", row["name"]);
     }
     rows.len()
 }
@@ -510,12 +587,13 @@ fn limit_examples(page: &str) -> usize {
     rows.len()
 }
 
-/// Every run of bytes in hex on the page stands in one of these five tables.
+/// Every run of bytes in hex on the page stands in one of these six tables.
 #[test]
 fn every_example() {
     let page = page("FORMAT.md");
     let codes = stop_examples(&page) + limit_examples(&page) + answer_examples(&page);
-    let run = kind_examples(&page) + codes + whole_jobs(&page);
+    let starts = formats(&page).iter().filter(|format| !format.start.is_empty()).count();
+    let run = kind_examples(&page) + codes + whole_jobs(&page) + starts;
     let is_byte = |byte: &str| byte.len() == 2 && byte.chars().all(|c| c.is_ascii_digit() || ('A'..='F').contains(&c));
     let is_hex = |text: &&str| text.split(' ').all(is_byte);
     assert_eq!(page.split('`').skip(1).step_by(2).filter(is_hex).count(), run);

@@ -1,6 +1,6 @@
 //! Jobs under limits that the caller states: the listed ones, every limit around what a job needs, and that larger limits change nothing more.
 use bitblast_host::{
-    ANSWER_BYTES, Limits, MAX_TERMS, MAX_WIDTH, Outcome, Service,
+    Answers, Format, Limits, MAX_TERMS, MAX_WIDTH, Outcome, Service,
     jobs::{self, JobWriter, Kind},
     lent::Lent,
     rng::Rng,
@@ -12,38 +12,37 @@ use std::{fs, path::Path};
 fn within(job: &[u8], [work, room]: [usize; 2], limits: Limits) -> (Outcome, Vec<u8>) {
     let (mut memory, mut answers) = (Lent::new(work), Lent::new(room));
     let outcome = run_job_within(job, memory.ready(work, 3), answers.ready(room, 5), limits);
-    let written = ANSWER_BYTES * outcome.answers as usize;
+    let written = Format::of(job).answer_bytes() * outcome.answers as usize;
     assert!(memory.is_zero() && memory.fences_stand(), "{limits:?}");
     assert!(answers.untouched_from(written) && answers.fences_stand(), "{limits:?}");
     (outcome, answers.bytes()[..written].to_vec())
 }
 
-/// The lines of tools/listed_jobs.txt that state limits.
+/// The lines of tools/listed_jobs.txt that state limits, or have term numbers of four bytes.
 #[test]
 fn the_listed_jobs() {
     let list = Path::new(env!("CARGO_MANIFEST_DIR")).join("../tools/listed_jobs.txt");
     let mut count = 0;
-    for line in fs::read_to_string(list).unwrap().lines().filter(|line| line.contains(" within ")) {
-        if line.starts_with('#') {
+    for line in fs::read_to_string(list).unwrap().lines().filter(|line| line.starts_with("document 02, P")) {
+        if !line.contains(" within ") && !line.starts_with("document 02, P10") {
             continue;
         }
         let parts: Vec<&str> = line.split(';').map(str::trim).collect();
         let [name, lent, room, hex, numbers, answers] = parts[..] else { panic!("{line}") };
-        let (work, limits) = lent.split_once(" within ").unwrap();
+        let (work, limits) = lent.split_once(" within ").unwrap_or((lent, "4294967295 4294967295"));
         let (width, terms) = limits.split_once(' ').unwrap();
         let limits = Limits { width: width.parse().unwrap(), terms: terms.parse().unwrap() };
         let job: Vec<u8> = (0..hex.len()).step_by(2).map(|k| u8::from_str_radix(&hex[k..k + 2], 16).unwrap()).collect();
         let (outcome, bytes) = within(&job, [work.parse().unwrap(), room.parse().unwrap()], limits);
         let found = [outcome.stop, outcome.records, outcome.terms, outcome.repeats].map(|number| number.to_string());
         assert_eq!(found.join(" "), numbers, "{name}");
-        let word = |bytes: &[u8], at: usize| u16::from_le_bytes([bytes[at], bytes[at + 1]]);
-        let found: Vec<String> = (bytes.chunks(ANSWER_BYTES))
-            .map(|answer| format!("{}:{}:{}", word(answer, 4), word(answer, 6), word(answer, 8)))
+        let found: Vec<String> = Answers::new(Format::of(&job), &bytes, outcome.answers)
+            .map(|answer| format!("{}:{}:{}", answer.rule, answer.code, answer.depth))
             .collect();
         assert_eq!(found.join(" "), answers, "{name}");
         count += 1;
     }
-    assert_eq!(count, 27);
+    assert_eq!(count, 27 + 30);
 }
 
 /// Six kinds of terms whose width is more than any argument's, and a variable and a constant, each at its width and one below.
@@ -130,10 +129,37 @@ fn every_number_of_terms() {
         let (outcome, _) = within(&job, [1 << 20, 0], Limits { width: 64, terms });
         assert_eq!((outcome.stop, outcome.terms), (stop, kept), "{terms}");
     }
-    // One variable more than numbers: a limit above the rack's is the rack's.
+    // One variable more than numbers: a limit above the rack's is the rack's, and of this format it is this.
     let more = [&job[..], &[6, 0, 11, 0, 63, 0, 9, 0]].concat();
-    let (outcome, _) = within(&more, [1 << 20, 0], Limits { width: 64, terms: u32::MAX });
-    assert_eq!((outcome.stop, outcome.terms), (8, MAX_TERMS as u32));
+    for terms in [MAX_TERMS as u32 + 1, 1_000_000, u32::MAX] {
+        let (outcome, _) = within(&more, [1 << 20, 0], Limits { width: 64, terms });
+        assert_eq!((outcome.stop, outcome.terms), (8, MAX_TERMS as u32));
+    }
+}
+
+/// In four bytes a limit is one up to a million terms.
+#[test]
+fn every_number_of_terms_in_four_bytes() {
+    let job = jobs::many_terms_in(Format::FourBytes, 69_998);
+    for (terms, stop, kept) in [
+        (0, 8, 2),
+        (1_024, 8, 1_024),
+        (MAX_TERMS as u32, 8, MAX_TERMS as u32),
+        (MAX_TERMS as u32 + 1, 8, MAX_TERMS as u32 + 1),
+        (69_999, 8, 69_999),
+        (70_000, 0, 70_000),
+        (1_000_001, 0, 70_000),
+        (u32::MAX, 0, 70_000),
+    ] {
+        let (outcome, _) = within(&job, [12 * 70_000, 0], Limits { width: 64, terms });
+        assert_eq!((outcome.stop, outcome.terms), (stop, kept), "{terms}");
+    }
+    let most = Format::FourBytes.max_terms();
+    for (count, terms, stop) in [(most - 2, u32::MAX, 0), (most - 1, u32::MAX, 8), (most - 1, 1_000_001, 8)] {
+        let job = jobs::many_terms_in(Format::FourBytes, count);
+        let (outcome, _) = within(&job, [12 * most, 0], Limits { width: 64, terms });
+        assert_eq!((outcome.stop, outcome.terms), (stop, most as u32), "{count} under {terms}");
+    }
 }
 
 /// Right, damaged and random jobs under random limits: where neither 7 nor 8 stops one, it is as under the rack's; and the rack's limits, and
@@ -144,6 +170,9 @@ fn larger_limits_change_nothing_more() {
     let (mut same, mut stopped) = (0, 0);
     for k in 0..6_000 {
         let mut job = jobs::random_right(&mut rng).0;
+        if k % 4 == 3 {
+            job = jobs::in_four_bytes(&job);
+        }
         match k % 3 {
             1 => jobs::damage(&mut job, &mut rng),
             2 if k % 2 == 0 => jobs::random_bytes(&mut job, &mut rng),
@@ -152,7 +181,8 @@ fn larger_limits_change_nothing_more() {
         let lent = [rng.below(4_000), rng.below(100)];
         let (mut work, mut answers) = (vec![7; lent[0]], vec![7; lent[1]]);
         let outcome = run_job(&job, &mut work, &mut answers);
-        let rack = (outcome, answers[..ANSWER_BYTES * outcome.answers as usize].to_vec());
+        let written = Format::of(&job).answer_bytes() * outcome.answers as usize;
+        let rack = (outcome, answers[..written].to_vec());
         assert_eq!(within(&job, lent, Limits::RACK), rack);
         assert_eq!(within(&job, lent, Limits { width: u32::MAX, terms: u32::MAX }), rack);
         let limits = Limits { width: rng.below(20) as u32, terms: rng.below(400) as u32 };
@@ -183,5 +213,5 @@ fn a_service_with_limits() {
     assert!(format!("{service:?}").contains("limits: Limits { width: 1, terms: 9 }"));
     let mut service = Service::new(1 << 10, 100).with_limits(Limits { width: 1, terms: 10 });
     assert!(service.check(&job).all_held());
-    assert_eq!(Limits::default(), Limits { width: MAX_WIDTH as u32, terms: MAX_TERMS as u32 });
+    assert_eq!(Limits::default(), Limits { width: MAX_WIDTH as u32, terms: 1_000_000 });
 }

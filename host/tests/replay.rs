@@ -1,5 +1,5 @@
 //! The stored jobs of crates/replay, with garbage in the lent memories and fences around them.
-use bitblast_host::{lent::Lent, run_job};
+use bitblast_host::{Format, lent::Lent, run_job};
 use std::{fs, path::Path};
 
 fn bytes(hex: &str) -> Vec<u8> {
@@ -21,7 +21,7 @@ fn stored_jobs() {
         let job = bytes(fields.next().unwrap_or(""));
         assert_eq!(job.len(), length, "line {}", k + 1);
         let outcome = run_job(&job, work.ready(work_size, k as u64), answers.ready(room, 3 * k as u64));
-        let written = 10 * outcome.answers as usize;
+        let written = Format::of(&job).answer_bytes() * outcome.answers as usize;
         let hex: String = answers.bytes()[..written].iter().map(|byte| format!("{byte:02x}")).collect();
         let found = format!(
             "{} {} {} {} {} {hex}",

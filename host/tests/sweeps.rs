@@ -13,7 +13,7 @@ fn equality(build: impl FnOnce(&mut JobWriter) -> (Term, Term)) -> (Vec<u8>, u32
     let (left, right) = build(&mut job);
     let equality = job.term(Kind::Equals, &[left, right]);
     let number = job.number(equality);
-    (job.finish(), number.into())
+    (job.finish(), number)
 }
 
 #[test]

@@ -21,7 +21,7 @@ use runs::lend;
 use terms::Term;
 
 // The number of the interface. It grows with each change of an exported function, or of a struct that one takes or returns.
-pub const VERSION: u32 = 7;
+pub const VERSION: u32 = 8;
 
 // Checks a job, for a host, under a width limit and a limit of the number of terms, `true` and `false` counted; a limit above the rack's is
 // the rack's. The answers stand at the start of their memory, and the work memory is all zero: nothing of the job stays in it.
@@ -71,13 +71,19 @@ pub extern "C" fn bb_job(job: &[u8], work: &mut [u8], answers: &mut [u8]) -> Out
     ensures demand3 { λ r. ⌜ Demand3 rack (now (job .entry)) (length (now (work .entry))) (length (now (answers .entry))) (r .records)
         (decode-answers (number-length (now (job .entry))) (r .answers) (now (answers .exit))) ⌝ }
 {
-    bb_job_within(job, work, answers, Term::MAX_WIDTH, Term::MAX_TERMS as u32)
+    bb_job_within(
+        job,
+        work,
+        answers,
+        Term::MAX_WIDTH,
+        Term::LONG_MAX_TERMS as u32,
+    )
 }
 
 // The number of the interface, for a host to compare with the one that it was written for.
 #[no_mangle]
 pub extern "C" fn bb_version() -> u32
-    ensures { λ r. ⌜ r ≡ 7 ⌝ }
+    ensures { λ r. ⌜ r ≡ 8 ⌝ }
 {
     VERSION
 }

@@ -126,7 +126,7 @@ module _ (job work memory : Bytes) (n answered : ℕ) where
   abbrev E : Earlier
   E = earlier-in job work memory n answered
 
-  earlier-at : (k : ℕ) → k < answered → getElem? E k ≡ some (standing (origins job work n) (step-place memory k) (left-at job memory k))
+  earlier-at : (k : ℕ) → k < answered → getElem? E k ≡ some (standing (origins job work n) (step-place (number-length job) memory k) (left-at job memory k))
   unfolding marks-in
   earlier-at k h =
       map-at (λ (m : Mark). standing (origins job work n) (m .0) (m .1)) (column (mark-at job memory) answered) k
@@ -150,23 +150,23 @@ module _ (job work memory : Bytes) (n answered : ℕ) where
         ∙ ap (either none (λ (m : Mark). some (standing (origins job work n) (m .0) (m .1)))) (column-none (mark-at job memory) answered (number - 1) h)))
 
     module _ (there : number - 1 < answered) where
-      premise-is : premise-place E number ≡ standing (origins job work n) (step-place memory (number - 1)) (left-at job memory (number - 1))
+      premise-is : premise-place E number ≡ standing (origins job work n) (step-place (number-length job) memory (number - 1)) (left-at job memory (number - 1))
       premise-is = ap (premise-place E) next ∙ ap (either none (λ (p : Option ℕ). p)) (earlier-at (number - 1) there)
 
       -- it is not held
-      pub premise-refused : {code : ℕ} → code ≡ step-code memory (number - 1) → (code ≡ 0 → ⊥) → none ≡ premise-place E number
+      pub premise-refused : {code : ℕ} → code ≡ step-code (number-length job) memory (number - 1) → (code ≡ 0 → ⊥) → none ≡ premise-place E number
       unfolding left-at
       premise-refused {code} e f =
-          sym (premise-is ∙ ap (λ (b : Bool). standing (origins job work n) (step-place memory (number - 1)) (cond b (claimed-at job (step-place memory (number - 1))) none))
+          sym (premise-is ∙ ap (λ (b : Bool). standing (origins job work n) (step-place (number-length job) memory (number - 1)) (cond b (claimed-at job (step-place (number-length job) memory (number - 1))) none))
           (ap (λ (c : ℕ). eqb c 0) (sym e) ∙ ne-eqb code 0 f))
 
       -- it is held
-      module _ {code place : ℕ} (e : code ≡ step-code memory (number - 1)) (z : code ≡ 0) (g : place ≡ step-place memory (number - 1)) where
+      module _ {code place : ℕ} (e : code ≡ step-code (number-length job) memory (number - 1)) (z : code ≡ 0) (g : place ≡ step-place (number-length job) memory (number - 1)) where
         premise-left : {q : Option ℕ} → q ≡ claimed-at job place → premise-place E number ≡ standing (origins job work n) place q
         unfolding left-at
         premise-left {q} f =
             premise-is
-            ∙ ap (λ (b : Bool). standing (origins job work n) (step-place memory (number - 1)) (cond b (claimed-at job (step-place memory (number - 1))) none)) (ap (λ (c : ℕ). eqb c 0) (sym e) ∙ eq-eqb code 0 z)
+            ∙ ap (λ (b : Bool). standing (origins job work n) (step-place (number-length job) memory (number - 1)) (cond b (claimed-at job (step-place (number-length job) memory (number - 1))) none)) (ap (λ (c : ℕ). eqb c 0) (sym e) ∙ eq-eqb code 0 z)
             ∙ ap (λ (s : ℕ). standing (origins job work n) s (claimed-at job s)) (sym g)
             ∙ ap (standing (origins job work n) place) (sym f)
 

@@ -39,11 +39,11 @@ claimed-at job place = either none (λ c. getElem? (c .1) 0) (claim-of (read (nu
 
 -- what step k left: its literal, where its code is 0
 unfoldable pub left-at : Bytes → Bytes → ℕ → Option ℕ
-left-at job memory k = cond (eqb (step-code memory k) 0) (claimed-at job (step-place memory k)) none
+left-at job memory k = cond (eqb (step-code (number-length job) memory k) 0) (claimed-at job (step-place (number-length job) memory k)) none
 
 -- where step k's record stands, and what it left
 abbrev pub mark-at : Bytes → Bytes → ℕ → Mark
-mark-at job memory k = (step-place memory k, left-at job memory k)
+mark-at job memory k = (step-place (number-length job) memory k, left-at job memory k)
 
 -- of all steps so far
 unfoldable pub marks-in : Bytes → Bytes → ℕ → List Mark
@@ -65,7 +65,7 @@ origin-before job work n place at = either false (λ o. leb o at) (getElem? (ori
 pub record Noted (job work memory : Bytes) (n answered : ℕ) : Type 0 where
   pub store : Store job work n
   pub roomy : answer-bytes (number-length job) * answered ≤ length memory
-  pub places : (k : ℕ) → k < answered → whole (drop (step-place memory k) job) ≡ true
+  pub places : (k : ℕ) → k < answered → whole (drop (step-place (number-length job) memory k) job) ≡ true
 
 -- and the premises and the literal of a chain
 pub record Claimed (job work memory : Bytes) (n answered : ℕ) (premises : Args) (literal : ℕ) : Type 0 where

@@ -87,10 +87,11 @@ pub fn premise_at(
     if answered <= k {
         return Premise::Broken;
     }
-    if code_at(answers, k) != 0 {
+    let bytes = Term::number_length(job);
+    if code_at(answers, bytes, k) != 0 {
         return Premise::Broken;
     }
-    let at = place_at(answers, k);
+    let at = place_at(answers, bytes, k);
     let Premise::Literal(p) = claimed(job, at) else {
         return Premise::Broken;
     };

@@ -11,14 +11,13 @@ ghost use Prim.Native.Nat.{_≤_};
 ghost use lib.ListN.{take};
 ghost use Rattle.theory.specs.Limit.{max-width};
 ghost use Rattle.theory.specs.Circuit.{sum-bit, next-carry, ripple-carry-adder, last-carry, negate};
-ghost use Rattle.rows.specs.Rows.{kept};
 ghost use Rattle.table.specs.Buckets.{Table};
-ghost use Rattle.store.specs.Numbers.{numbers};
+ghost use Rattle.store.specs.Numbers.{numbers-in};
 
 // ripple_carry_adder, one bit of the sum: x, y and the carry into it.
 pub fn sum_bit(job: &[u8], work: &[u8], n: usize, x: u32, y: u32, carry: u32) -> u32
     requires { ⌜ Table (now job) (now work) n ⌝ }
-    ensures { λ r. ⌜ r ≡ sum-bit (numbers (kept (now (job .entry)) (now (work .entry)) n)) x y carry ⌝ }
+    ensures { λ r. ⌜ r ≡ sum-bit (numbers-in (now (job .entry)) (now (work .entry)) n) x y carry ⌝ }
 {
     xor2(job, work, n, xor2(job, work, n, x, y), carry)
 }
@@ -26,7 +25,7 @@ pub fn sum_bit(job: &[u8], work: &[u8], n: usize, x: u32, y: u32, carry: u32) ->
 // ripple_carry_adder, the carry out of a bit.
 pub fn carry_bit(job: &[u8], work: &[u8], n: usize, x: u32, y: u32, carry: u32) -> u32
     requires { ⌜ Table (now job) (now work) n ⌝ }
-    ensures { λ r. ⌜ r ≡ next-carry (numbers (kept (now (job .entry)) (now (work .entry)) n)) x y carry ⌝ }
+    ensures { λ r. ⌜ r ≡ next-carry (numbers-in (now (job .entry)) (now (work .entry)) n) x y carry ⌝ }
 {
     let both = and2(job, work, n, x, y);
     let one = xor2(job, work, n, x, y);
@@ -52,8 +51,8 @@ pub fn ripple_carry_adder(
 ) -> Sum
     requires { ⌜ Table (now job) (now work) n ⌝ }
     requires { ⌜ (1 ≤ w) × (w ≤ max-width) ⌝ }
-    ensures { λ r. ⌜ take w (r .bits) ≡ ripple-carry-adder (numbers (kept (now (job .entry)) (now (work .entry)) n)) carry (take w x) (take w y) ⌝ }
-    ensures { λ r. ⌜ r .carry ≡ last-carry (numbers (kept (now (job .entry)) (now (work .entry)) n)) carry (take w x) (take w y) ⌝ }
+    ensures { λ r. ⌜ take w (r .bits) ≡ ripple-carry-adder (numbers-in (now (job .entry)) (now (work .entry)) n) carry (take w x) (take w y) ⌝ }
+    ensures { λ r. ⌜ r .carry ≡ last-carry (numbers-in (now (job .entry)) (now (work .entry)) n) carry (take w x) (take w y) ⌝ }
 {
     let mut bits = [0u32; MAX_BITS];
     let mut last = carry;
@@ -72,7 +71,7 @@ pub fn ripple_carry_adder(
 pub fn negate(job: &[u8], work: &[u8], n: usize, x: [u32; MAX_BITS], w: usize) -> [u32; MAX_BITS]
     requires { ⌜ Table (now job) (now work) n ⌝ }
     requires { ⌜ (1 ≤ w) × (w ≤ max-width) ⌝ }
-    ensures { λ r. ⌜ take w r ≡ negate (numbers (kept (now (job .entry)) (now (work .entry)) n)) (take w x) ⌝ }
+    ensures { λ r. ⌜ take w r ≡ negate (numbers-in (now (job .entry)) (now (work .entry)) n) (take w x) ⌝ }
 {
     let inverted = nots(job, work, n, x, w);
     let falses = [FALSE; MAX_BITS];

@@ -16,7 +16,8 @@ ghost use Rattle.theory.specs.Move.{bits};
 ghost use Rattle.theory.specs.Circuit.{zip-with, choose};
 ghost use Rattle.rows.specs.Rows.{kept};
 ghost use Rattle.table.specs.Buckets.{Table};
-ghost use Rattle.store.specs.Numbers.{numbers, bit-number};
+ghost use Rattle.store.specs.Numbers.{bit-number, numbers-in};
+ghost use Rattle.theory.specs.Record.{number-length};
 
 // The most bits that a bit-vector has: an array of bits is so long, whatever its width.
 pub const MAX_BITS: usize = Term::MAX_WIDTH as usize;
@@ -25,7 +26,7 @@ pub const MAX_BITS: usize = Term::MAX_WIDTH as usize;
 pub fn select_bits(job: &[u8], work: &[u8], n: usize, t: u32, w: usize) -> [u32; MAX_BITS]
     requires { ⌜ Table (now job) (now work) n ⌝ }
     requires { ⌜ w ≤ max-width ⌝ }
-    ensures { λ r. ⌜ take w r ≡ bits w (λ i. bit-number (kept (now (job .entry)) (now (work .entry)) n) i t) ⌝ }
+    ensures { λ r. ⌜ take w r ≡ bits w (λ i. bit-number (number-length (now (job .entry))) (kept (now (job .entry)) (now (work .entry)) n) i t) ⌝ }
 {
     let mut out = [0u32; MAX_BITS];
     let mut i = 0;
@@ -40,7 +41,7 @@ pub fn select_bits(job: &[u8], work: &[u8], n: usize, t: u32, w: usize) -> [u32;
 pub fn nots(job: &[u8], work: &[u8], n: usize, x: [u32; MAX_BITS], w: usize) -> [u32; MAX_BITS]
     requires { ⌜ Table (now job) (now work) n ⌝ }
     requires { ⌜ w ≤ max-width ⌝ }
-    ensures { λ r. ⌜ take w r ≡ map (numbers (kept (now (job .entry)) (now (work .entry)) n) .not-gate) (take w x) ⌝ }
+    ensures { λ r. ⌜ take w r ≡ map (numbers-in (now (job .entry)) (now (work .entry)) n .not-gate) (take w x) ⌝ }
 {
     let mut out = [0u32; MAX_BITS];
     let mut i = 0;
@@ -62,7 +63,7 @@ pub fn ands(
 ) -> [u32; MAX_BITS]
     requires { ⌜ Table (now job) (now work) n ⌝ }
     requires { ⌜ w ≤ max-width ⌝ }
-    ensures { λ r. ⌜ take w r ≡ zip-with (numbers (kept (now (job .entry)) (now (work .entry)) n) .and-gate) (take w x) (take w y) ⌝ }
+    ensures { λ r. ⌜ take w r ≡ zip-with (numbers-in (now (job .entry)) (now (work .entry)) n .and-gate) (take w x) (take w y) ⌝ }
 {
     let mut out = [0u32; MAX_BITS];
     let mut i = 0;
@@ -84,7 +85,7 @@ pub fn ors(
 ) -> [u32; MAX_BITS]
     requires { ⌜ Table (now job) (now work) n ⌝ }
     requires { ⌜ w ≤ max-width ⌝ }
-    ensures { λ r. ⌜ take w r ≡ zip-with (numbers (kept (now (job .entry)) (now (work .entry)) n) .or-gate) (take w x) (take w y) ⌝ }
+    ensures { λ r. ⌜ take w r ≡ zip-with (numbers-in (now (job .entry)) (now (work .entry)) n .or-gate) (take w x) (take w y) ⌝ }
 {
     let mut out = [0u32; MAX_BITS];
     let mut i = 0;
@@ -106,7 +107,7 @@ pub fn xors(
 ) -> [u32; MAX_BITS]
     requires { ⌜ Table (now job) (now work) n ⌝ }
     requires { ⌜ w ≤ max-width ⌝ }
-    ensures { λ r. ⌜ take w r ≡ zip-with (numbers (kept (now (job .entry)) (now (work .entry)) n) .xor-gate) (take w x) (take w y) ⌝ }
+    ensures { λ r. ⌜ take w r ≡ zip-with (numbers-in (now (job .entry)) (now (work .entry)) n .xor-gate) (take w x) (take w y) ⌝ }
 {
     let mut out = [0u32; MAX_BITS];
     let mut i = 0;
@@ -128,7 +129,7 @@ pub fn eqs(
 ) -> [u32; MAX_BITS]
     requires { ⌜ Table (now job) (now work) n ⌝ }
     requires { ⌜ w ≤ max-width ⌝ }
-    ensures { λ r. ⌜ take w r ≡ zip-with (numbers (kept (now (job .entry)) (now (work .entry)) n) .eq-gate) (take w x) (take w y) ⌝ }
+    ensures { λ r. ⌜ take w r ≡ zip-with (numbers-in (now (job .entry)) (now (work .entry)) n .eq-gate) (take w x) (take w y) ⌝ }
 {
     let mut out = [0u32; MAX_BITS];
     let mut i = 0;
@@ -151,7 +152,7 @@ pub fn ites(
 ) -> [u32; MAX_BITS]
     requires { ⌜ Table (now job) (now work) n ⌝ }
     requires { ⌜ w ≤ max-width ⌝ }
-    ensures { λ r. ⌜ take w r ≡ choose (numbers (kept (now (job .entry)) (now (work .entry)) n)) c (take w x) (take w y) ⌝ }
+    ensures { λ r. ⌜ take w r ≡ choose (numbers-in (now (job .entry)) (now (work .entry)) n) c (take w x) (take w y) ⌝ }
 {
     let mut out = [0u32; MAX_BITS];
     let mut i = 0;

@@ -11,14 +11,13 @@ ghost use Prim.Native.Nat.{_≤_};
 ghost use lib.ListN.{take};
 ghost use Rattle.theory.specs.Limit.{max-width};
 ghost use Rattle.theory.specs.Circuit.{less-step, sign-step, bitblast-ult, slt, equality};
-ghost use Rattle.rows.specs.Rows.{kept};
 ghost use Rattle.table.specs.Buckets.{Table};
-ghost use Rattle.store.specs.Numbers.{numbers};
+ghost use Rattle.store.specs.Numbers.{numbers-in};
 
 // bitblast_ult, bit 0 alone: x is 0 and y is 1.
 pub fn less_bit(job: &[u8], work: &[u8], n: usize, x: u32, y: u32) -> u32
     requires { ⌜ Table (now job) (now work) n ⌝ }
-    ensures { λ r. ⌜ r ≡ numbers (kept (now (job .entry)) (now (work .entry)) n) .and-gate (numbers (kept (now (job .entry)) (now (work .entry)) n) .not-gate x) y ⌝ }
+    ensures { λ r. ⌜ r ≡ numbers-in (now (job .entry)) (now (work .entry)) n .and-gate (numbers-in (now (job .entry)) (now (work .entry)) n .not-gate x) y ⌝ }
 {
     and2(job, work, n, not1(job, work, n, x), y)
 }
@@ -26,7 +25,7 @@ pub fn less_bit(job: &[u8], work: &[u8], n: usize, x: u32, y: u32) -> u32
 // slt, the sign bits alone: x is 1 and y is 0.
 pub fn sign_bit(job: &[u8], work: &[u8], n: usize, x: u32, y: u32) -> u32
     requires { ⌜ Table (now job) (now work) n ⌝ }
-    ensures { λ r. ⌜ r ≡ numbers (kept (now (job .entry)) (now (work .entry)) n) .and-gate x (numbers (kept (now (job .entry)) (now (work .entry)) n) .not-gate y) ⌝ }
+    ensures { λ r. ⌜ r ≡ numbers-in (now (job .entry)) (now (work .entry)) n .and-gate x (numbers-in (now (job .entry)) (now (work .entry)) n .not-gate y) ⌝ }
 {
     and2(job, work, n, x, not1(job, work, n, y))
 }
@@ -34,7 +33,7 @@ pub fn sign_bit(job: &[u8], work: &[u8], n: usize, x: u32, y: u32) -> u32
 // bitblast_ult, one more bit, where `below` is what the bits below say: equal and below, or x 0 and y 1.
 pub fn less_step(job: &[u8], work: &[u8], n: usize, x: u32, y: u32, below: u32) -> u32
     requires { ⌜ Table (now job) (now work) n ⌝ }
-    ensures { λ r. ⌜ r ≡ less-step (numbers (kept (now (job .entry)) (now (work .entry)) n)) x y below ⌝ }
+    ensures { λ r. ⌜ r ≡ less-step (numbers-in (now (job .entry)) (now (work .entry)) n) x y below ⌝ }
 {
     let equal = and2(job, work, n, eq2(job, work, n, x, y), below);
     or2(job, work, n, equal, less_bit(job, work, n, x, y))
@@ -43,7 +42,7 @@ pub fn less_step(job: &[u8], work: &[u8], n: usize, x: u32, y: u32, below: u32) 
 // slt, the sign bit, where `below` is what the bits below say: equal and below, or x negative and y not.
 pub fn sign_step(job: &[u8], work: &[u8], n: usize, x: u32, y: u32, below: u32) -> u32
     requires { ⌜ Table (now job) (now work) n ⌝ }
-    ensures { λ r. ⌜ r ≡ sign-step (numbers (kept (now (job .entry)) (now (work .entry)) n)) x y below ⌝ }
+    ensures { λ r. ⌜ r ≡ sign-step (numbers-in (now (job .entry)) (now (work .entry)) n) x y below ⌝ }
 {
     let equal = and2(job, work, n, eq2(job, work, n, x, y), below);
     or2(job, work, n, equal, sign_bit(job, work, n, x, y))
@@ -60,7 +59,7 @@ pub fn bitblast_ult(
 ) -> u32
     requires { ⌜ Table (now job) (now work) n ⌝ }
     requires { ⌜ (1 ≤ w) × (w ≤ max-width) ⌝ }
-    ensures { λ r. ⌜ r ≡ bitblast-ult (numbers (kept (now (job .entry)) (now (work .entry)) n)) (take w x) (take w y) ⌝ }
+    ensures { λ r. ⌜ r ≡ bitblast-ult (numbers-in (now (job .entry)) (now (work .entry)) n) (take w x) (take w y) ⌝ }
 {
     let mut res = less_bit(job, work, n, x[0], y[0]);
     let mut i = 1;
@@ -82,7 +81,7 @@ pub fn slt(
 ) -> u32
     requires { ⌜ Table (now job) (now work) n ⌝ }
     requires { ⌜ (1 ≤ w) × (w ≤ max-width) ⌝ }
-    ensures { λ r. ⌜ r ≡ slt (numbers (kept (now (job .entry)) (now (work .entry)) n)) (take w x) (take w y) ⌝ }
+    ensures { λ r. ⌜ r ≡ slt (numbers-in (now (job .entry)) (now (work .entry)) n) (take w x) (take w y) ⌝ }
 {
     let top = w - 1;
     if top == 0 {
@@ -103,7 +102,7 @@ pub fn equality(
 ) -> u32
     requires { ⌜ Table (now job) (now work) n ⌝ }
     requires { ⌜ (1 ≤ w) × (w ≤ max-width) ⌝ }
-    ensures { λ r. ⌜ r ≡ equality (numbers (kept (now (job .entry)) (now (work .entry)) n)) (take w x) (take w y) ⌝ }
+    ensures { λ r. ⌜ r ≡ equality (numbers-in (now (job .entry)) (now (work .entry)) n) (take w x) (take w y) ⌝ }
 {
     let bits = eqs(job, work, n, x, y, w);
     if 1 < w {

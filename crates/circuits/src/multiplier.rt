@@ -11,9 +11,8 @@ ghost use Prim.Native.Nat.{_≤_};
 ghost use lib.ListN.{take, drop};
 ghost use Rattle.theory.specs.Limit.{max-width};
 ghost use Rattle.theory.specs.Circuit.{ripple-carry-adder, partial-products, shift-add-multiplier};
-ghost use Rattle.rows.specs.Rows.{kept};
 ghost use Rattle.table.specs.Buckets.{Table};
-ghost use Rattle.store.specs.Numbers.{numbers, false-number};
+ghost use Rattle.store.specs.Numbers.{false-number, numbers-in};
 
 // One more row: added to the sum so far, from place j on. The places below j stay as they are.
 fn add_row(
@@ -28,7 +27,7 @@ fn add_row(
 ) -> [u32; MAX_BITS]
     requires { ⌜ Table (now job) (now work) n ⌝ }
     requires { ⌜ (j ≤ w) × (w ≤ max-width) ⌝ }
-    ensures { λ r. ⌜ take w r ≡ take j (take w sum) ++ ripple-carry-adder (numbers (kept (now (job .entry)) (now (work .entry)) n)) false-number (drop j (take w sum)) (partial-products (numbers (kept (now (job .entry)) (now (work .entry)) n)) y (take w x)) ⌝ }
+    ensures { λ r. ⌜ take w r ≡ take j (take w sum) ++ ripple-carry-adder (numbers-in (now (job .entry)) (now (work .entry)) n) false-number (drop j (take w sum)) (partial-products (numbers-in (now (job .entry)) (now (work .entry)) n) y (take w x)) ⌝ }
 {
     let mut out = sum;
     let mut c = FALSE;
@@ -56,7 +55,7 @@ pub fn shift_add_multiplier(
 ) -> [u32; MAX_BITS]
     requires { ⌜ Table (now job) (now work) n ⌝ }
     requires { ⌜ (1 ≤ w) × (w ≤ max-width) ⌝ }
-    ensures { λ r. ⌜ take w r ≡ shift-add-multiplier (numbers (kept (now (job .entry)) (now (work .entry)) n)) (take w x) (take w y) ⌝ }
+    ensures { λ r. ⌜ take w r ≡ shift-add-multiplier (numbers-in (now (job .entry)) (now (work .entry)) n) (take w x) (take w y) ⌝ }
 {
     let low = [y[0]; MAX_BITS];
     let mut res = ands(job, work, n, low, x, w);

@@ -2,16 +2,17 @@
 use mathlib.Core.Path.{_≡_, refl, sym, ap, ap₂, _∙_}
 use mathlib.Core.Bool.{Bool, true, false}
 use mathlib.Core.List.{List, _++_}
-use Prim.Native.Nat.{ℕ, _+_, _*_, _≤_, _<_}
+use Prim.Native.Nat.{ℕ, _+_, _*_, _/_, _≤_, _<_}
 use native.Mathlib.Omega.{arith}
 use borrow.Author.Tests.{le-leb, lt-leb}
 use lib.ListN.{length, drop, length-append}
-use Rattle.theory.specs.Limit.{rack, answer-bytes}
+use Rattle.theory.specs.Limit.{rack, answer-bytes, number-bytes}
 use Rattle.theory.specs.Record.{Bytes, AllBytes, number-length}
 use Rattle.theory.specs.Answer.{Answer}
 use Rattle.theory.specs.Job.{Returned, run, answers-after, call}
 use Rattle.theory.specs.Program.{memory, end-line, too-long-text, outcome-text, bbcheck}
 use Rattle.theory.proofs.Bounds.{run-fits}
+use Rattle.theory.proofs.Lengths.{either-length}
 use Rattle.theory.proofs.Written.{answers-read, answers-kept}
 use Rattle.report.specs.Text.{head-space, line-space, report-text, too-long, written}
 use Rattle.console.specs.Shown.{text-space, shown, Printed}
@@ -49,16 +50,21 @@ module _ (input old : Bytes) where
   unfolding shown too-long
   long-shown h l = rw (le-leb text-space (length old) h, le-leb head-space (length old) (omega arith)) (of-long input l)
 
+  -- no more answers fit than short ones
+  few-answers : (n : ℕ) → answer-bytes (number-length input) * n ≤ memory → n ≤ memory / answer-bytes number-bytes
+  few-answers n = either-length (λ b. answer-bytes b * n ≤ memory → n ≤ memory / answer-bytes number-bytes) (λ h. omega arith) (λ h. omega arith) input
+
   -- the answers in the memory are the run's, and there is space for their lines
   pub run-shown : (work answers : Bytes) → AllBytes input → length work ≡ memory → length answers ≡ memory → text-space ≤ length old → length input ≤ memory
       → let c = call rack input work answers in
-      report-text (c .result .stop) (c .result .terms) (c .result .repeats) (c .result .answers) (c .answer-memory) (length old) ≡ shown input (length old)
+      report-text (c .result .stop) (c .result .terms) (c .result .repeats) (c .result .answers) (number-length input) (c .answer-memory) (length old) ≡ shown input (length old)
   unfolding shown report-text
   run-shown work answers bytes w a h l =
       let o = run rack input (length work) (length answers) in
       let n = length (o .answers) in
       let f = run-fits rack input (length work) (length answers) .answers-fit in
       let k = answers-kept rack input work answers .0 in
+      let few = few-answers n (omega (arith, f, a)) in
       rw (
         le-leb (n * answer-bytes (number-length input)) (length (answers-after (number-length input) (o .answers) answers)) (omega arith),
         le-leb (head-space + n * line-space) (length old) (omega arith),
@@ -69,10 +75,11 @@ module _ (input old : Bytes) where
 
   -- what a job came to, as it is returned and stands in the memory
   pub job-shown : (work answers : Bytes) → AllBytes input → memory ≡ length work → memory ≡ length answers → text-space ≤ length old → length input ≤ memory
-      → {q : Returned} {m : Bytes} → q ≡ call rack input work answers .result → m ≡ call rack input work answers .answer-memory
-      → report-text (q .stop) (q .terms) (q .repeats) (q .answers) m (length old) ≡ shown input (length old)
-  job-shown work answers bytes w a h l e f =
-      ap₂ (λ (r : Returned) (n : Bytes). report-text (r .stop) (r .terms) (r .repeats) (r .answers) n (length old)) e f
+      → {q : Returned} {m : Bytes} {b : ℕ} → b ≡ number-length input → q ≡ call rack input work answers .result → m ≡ call rack input work answers .answer-memory
+      → report-text (q .stop) (q .terms) (q .repeats) (q .answers) b m (length old) ≡ shown input (length old)
+  job-shown work answers bytes w a h l {q} {m} g e f =
+      ap (λ (d : ℕ). report-text (q .stop) (q .terms) (q .repeats) (q .answers) d m (length old)) g
+      ∙ ap₂ (λ (r : Returned) (n : Bytes). report-text (r .stop) (r .terms) (r .repeats) (r .answers) (number-length input) n (length old)) e f
       ∙ run-shown work answers bytes (sym w) (sym a) h l
 
 -- an input that was read, and its text in a memory that is long enough

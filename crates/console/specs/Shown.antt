@@ -10,7 +10,7 @@ use Rattle.theory.specs.Record.{Bytes}
 use Rattle.theory.specs.Program.{memory, bbcheck}
 use Rattle.report.specs.Text.{head-space, line-space}
 
--- the text of any job fits into so many bytes: its answers are at most as many as fit into the lent memory
+-- the text of any job fits into so many bytes: its answers are at most as many as fit into the lent memory where they are short
 abbrev pub text-space : ℕ
 text-space = head-space + memory / answer-bytes number-bytes * line-space
 

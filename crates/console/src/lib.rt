@@ -10,11 +10,12 @@ use libc::STDOUT_FILENO;
 use report::HEAD_SPACE;
 use report::LINE_SPACE;
 use terms::ANSWER_BYTES;
+use terms::Term;
 
 // The bytes lent for the job, for work memory and for answers.
 const MEMORY: usize = 65536;
 
-// The space for the text of any such job: it has no more answers than fit into their memory.
+// The space for the text of any such job: it has no more answers than fit into their memory, of which none is shorter than ten bytes.
 const TEXT_SPACE: usize = HEAD_SPACE + MEMORY / ANSWER_BYTES * LINE_SPACE;
 
 // Writes what `bbcheck` prints for an input, and answers how many bytes that is. Nothing is written where `out` has not the space for any
@@ -32,8 +33,9 @@ pub fn bbcheck_text(input: &[u8], out: &mut [u8]) -> usize
     }
     let mut work = io::large_buffer();
     let mut answers = io::large_buffer();
+    let bytes = Term::number_length(input);
     let o = bb_job(input, &mut work, &mut answers);
-    report::report(o.stop, o.terms, o.repeats, o.answers, &answers, out)
+    report::report(o.stop, o.terms, o.repeats, o.answers, &answers, bytes, out)
 }
 
 // Reads the input, of which one byte more than is lent for a job tells that it is too long, prints the text, and answers how many bytes

@@ -10,7 +10,7 @@ use Rattle.theory.specs.Kind.{Op}
 use Rattle.theory.specs.Term.{Term, fold, folds, from-list}
 use Rattle.theory.specs.Sort.{Sort, good, sort-op, sort-of}
 use Rattle.theory.specs.Value.{meaning, value}
-use Rattle.theory.specs.Record.{Bytes}
+use Rattle.theory.specs.Record.{Bytes, number-length}
 use Rattle.theory.specs.Plain.{Plain}
 use Rattle.theory.specs.Codes.{all-below}
 use Rattle.theory.proofs.Basics.{true-T}
@@ -40,7 +40,7 @@ module _ {job work : Bytes} {n : ℕ} {num : ℕ → ℕ} {place : ℕ} {t : Dec
     made : tree-at (listed job work n) place ≡ tree-of (listed job work n) (op-of u) (arguments-of job u)
     made = d .term .term-at .made ∙ ap (λ (z : Decoded). tree-of (listed job work n) (op-of z) (arguments-of job z)) e
 
-    args : arguments-of job u ≡ args-at (listed job work n) place
+    args : arguments-of job u ≡ args-at (number-length job) (listed job work n) place
     args = ap (arguments-of job) (sym e) ∙ d .term .args-are
 
     -- its arguments may be evaluated
@@ -53,13 +53,13 @@ module _ {job work : Bytes} {n : ℕ} {num : ℕ → ℕ} {place : ℕ} {t : Dec
     }
 
     -- and what they come to is its value
-    pub done-at : {r : ℕ} → Comes (listed job work n) num (op-of u) (arguments-of job u) r → Evaluated (listed job work n) num place r
+    pub done-at : {r : ℕ} → Comes (listed job work n) num (op-of u) (arguments-of job u) r → Evaluated (number-length job) (listed job work n) num place r
     done-at f ρ a v =
         f ρ (subst (AllRight ρ (listed job work n) num) (sym args) a)
         ∙ ap as-number (sym (ap (value ρ) made ∙ fold-of (meaning ρ) (listed job work n) (op-of u) (arguments-of job u)))
 
     -- a variable's value stands in its own cell
-    pub own-at : {r : ℕ} → T (is-variable (tree-of (listed job work n) (op-of u) (arguments-of job u))) → r ≡ num place → Evaluated (listed job work n) num place r
+    pub own-at : {r : ℕ} → T (is-variable (tree-of (listed job work n) (op-of u) (arguments-of job u))) → r ≡ num place → Evaluated (number-length job) (listed job work n) num place r
     own-at i f ρ a v = f ∙ v (subst (λ (z : Term). T (is-variable z)) (sym made) i)
 
     -- a list of arguments lies in the job
@@ -67,14 +67,14 @@ module _ {job work : Bytes} {n : ℕ} {num : ℕ → ℕ} {place : ℕ} {t : Dec
     placed-at = subst (λ (z : Decoded). OperandsPlaced job (operands-of z)) e (d .term .term-at .placed)
 
   -- ---- the terms without arguments
-  pub true-at : t ≡ D.True → Evaluated (listed job work n) num place 1
+  pub true-at : t ≡ D.True → Evaluated (number-length job) (listed job work n) num place 1
   unfolding meaning
   true-at e = done-at D.True e (λ ρ a. refl)
 
-  pub false-at : t ≡ D.False → Evaluated (listed job work n) num place 0
+  pub false-at : t ≡ D.False → Evaluated (number-length job) (listed job work n) num place 0
   unfolding meaning
   false-at e = done-at D.False e (λ ρ a. refl)
 
-  pub const-at : (m x : ℕ) → t ≡ D.Const m x → Evaluated (listed job work n) num place x
+  pub const-at : (m x : ℕ) → t ≡ D.Const m x → Evaluated (number-length job) (listed job work n) num place x
   unfolding meaning
   const-at m x e = done-at (D.Const m x) e (λ ρ a. refl)

@@ -4,6 +4,7 @@ ghost use Rattle.theory.specs.Kind.{Ite};
 ghost use Rattle.store.specs.Store.{listed};
 ghost use Rattle.terms.specs.Decoded.{words-in};
 ghost use Rattle.operations.specs.Apply.{unary-op, binary-op, many-op};
+ghost use Rattle.theory.specs.Record.{number-length};
 ghost use Rattle.evaluation.specs.Cells.{lane-at, Lane, Given, GivenList, Comes, Decodable, Evaluated};
 use crate::cells::lane;
 use operations::apply::Binary;
@@ -102,7 +103,7 @@ pub fn evaluate(
     t: Term,
 ) -> u64
     requires { ⌜ Lane w j × Decodable (now job) (now work) n (lane-at (now values) w j) place t ⌝ }
-    ensures { λ r. ⌜ Evaluated (listed (now (job .entry)) (now (work .entry)) n) (lane-at (now (values .entry)) w j) place r ⌝ }
+    ensures { λ r. ⌜ Evaluated (number-length (now (job .entry))) (listed (now (job .entry)) (now (work .entry)) n) (lane-at (now (values .entry)) w j) place r ⌝ }
 {
     match t {
         Term::True => 1,

@@ -15,7 +15,7 @@ use Rattle.theory.specs.Record.{Bytes}
 use Rattle.theory.specs.Plain.{Plain}
 use Rattle.theory.proofs.Places.{tree-at}
 use Rattle.theory.proofs.Sorts.{sized, sorts-sized}
-use Rattle.rows.specs.Layout.{number-end}
+use Rattle.rows.specs.Layout.{place-end}
 use Rattle.terms.specs.declared.Args.{Args}
 use Rattle.terms.specs.declared.Operands.{Operands}
 use Rattle.terms.specs.declared.Operands.the-variants.{None, One, Two, Three, List as Listed}
@@ -163,14 +163,14 @@ module _ {list : Plain} {ks : List ℕ} where
 -- ---- the deepest: what is left from i on
 pub record Deepening (list : Plain) (ks : List ℕ) (most i : ℕ) : Type 0 where
   pub passed : i ≤ length ks
-  pub small : most < number-end
+  pub small : most < place-end
   pub rest : deepest-at list ks ≡ max most (deepest-at list (drop i ks))
 
 module _ {list : Plain} {ks : List ℕ} where
   pub deep-start : Deepening list ks 0 0
   deep-start = record { passed = omega arith; small = omega arith; rest = omega arith }
 
-  pub deep-turn : {most i : ℕ} → Deepening list ks most i → i < length ks → {d : ℕ} → d ≡ depth (tree-at list (getD ks i 0)) → d < number-end
+  pub deep-turn : {most i : ℕ} → Deepening list ks most i → i < length ks → {d : ℕ} → d ≡ depth (tree-at list (getD ks i 0)) → d < place-end
       → {m : ℕ} → m ≡ max most d → Deepening list ks m (i + 1)
   unfolding depth
   deep-turn {most} {i} p h {d} e l {m} f =

@@ -4,6 +4,7 @@ use mathlib.Core.Bool.{Bool, true, false, _&&_, _||_, cond}
 use mathlib.Core.List.{List, [], _∷_, _++_, map, map-append}
 use mathlib.Core.Option.{some}
 use Prim.Native.Nat.{ℕ, zero, suc, _+_, _-_, _*_, _^_, _<_, _≤_, min}
+use native.Mathlib.Nat.{pow-le-pow-right}
 use native.Mathlib.Omega.{arith}
 use native.Mathlib.Decide.{ℕ-discrete, decLe}
 use lib.Dec.{T, leb, ltb, eqb, leb→le}
@@ -33,14 +34,15 @@ use Rattle.theory.proofs.Run.{AllGood}
 use Rattle.theory.proofs.Distinct.{WellKept}
 use Rattle.theory.proofs.Bounds.{place-depth}
 use Rattle.terms.specs.Framing.{record-at}
-use Rattle.rows.specs.Layout.{link-bytes, link-size, measure-at, missing, number-at, number-end}
+use Rattle.terms.proofs.Numbers.{length-of}
+use Rattle.rows.specs.Layout.{link-size, measure-at, missing, number-at}
 use Rattle.rows.specs.Rows.{kept, measures, offsets, place-of}
 use Rattle.table.specs.Buckets.{Table}
 use Rattle.table.specs.Promise.{Grown, room-for, added-for, count-after, list-after, memory-after, with-row}
 use Rattle.table.specs.declared.kept.Added.{Added}
 use Rattle.table.specs.declared.kept.Added.the-variants as A
 use Rattle.table.proofs.Face.{measures-at, place-stands, place-absent}
-use Rattle.rows.proofs.RowLaws.{and-first, length-column, length-kept, number-same, rows-small}
+use Rattle.rows.proofs.RowLaws.{and-first, length-column, length-kept, link-whole, number-same, rows-small}
 use Rattle.terms.specs.declared.Term.{Term as Decoded}
 use Rattle.terms.specs.Decoded.{op-of, arguments-of}
 use Rattle.store.specs.Measure.{measure, measure-in}
@@ -132,10 +134,10 @@ module _ {job work : Bytes} {n : ℕ} (s : Store job work n) (r : Bytes) where
 pub store-same : {job work after : Bytes} {n : ℕ} → Store job work n → Table job after n → kept job after n ≡ kept job work n
     → measures (link-size job) after n ≡ measures (link-size job) work n → Store job after n
 store-same {job} {work} {after} {n} s t k m =
-    let e : listed job after n ≡ listed job work n = ap stored k in
+    let e : listed job after n ≡ listed job work n = ap (stored (number-length job)) k in
     record {
       table = t;
-      well = subst (WellKept number-bytes) (sym e) (s .well);
+      well = subst (WellKept (number-length job)) (sym e) (s .well);
       sorted = subst AllGood (sym e) (s .sorted);
       count = ap length e ∙ s .count;
       records-are = ap records e ∙ s .records-are ∙ sym k;
@@ -162,21 +164,21 @@ column-snoc f g n x l e p q = (
 )
 
 module _ {job work : Bytes} {n : ℕ} (s : Store job work n) (r : Bytes) (o : Op) (ks : List ℕ)
-    (says : read number-bytes r ≡ term o ks) (below : T (all-below (length (listed job work n)) ks)) where
+    (says : read (number-length job) r ≡ term o ks) (below : T (all-below (length (listed job work n)) ks)) where
   -- what the list becomes
-  fed-as : feed number-bytes (listed job work n) r ≡ cond (has (listed job work n) r) (listed job work n) (listed job work n ++ (entry (tree-of (listed job work n) o ks) r ∷ []))
+  fed-as : feed (number-length job) (listed job work n) r ≡ cond (has (listed job work n) r) (listed job work n) (listed job work n ++ (entry (tree-of (listed job work n) o ks) r ∷ []))
   unfolding feed
   fed-as = ap (feed-item (listed job work n) r) says ∙ ap (put (listed job work n) r) (term-of-is (listed job work n) o ks below)
 
-  pub fed-old : has (listed job work n) r ≡ true → listed job work n ≡ feed number-bytes (listed job work n) r
+  pub fed-old : has (listed job work n) r ≡ true → listed job work n ≡ feed (number-length job) (listed job work n) r
   fed-old e = sym (fed-as ∙ ap (λ (b : Bool). cond b (listed job work n) (listed job work n ++ (entry (tree-of (listed job work n) o ks) r ∷ []))) e)
 
   module _ (after : Bytes) (new : has (listed job work n) r ≡ false) (k : kept job after (n + 1) ≡ kept job work n ++ (r ∷ [])) where
-    fed-new : feed number-bytes (listed job work n) r ≡ listed job work n ++ (entry (tree-of (listed job work n) o ks) r ∷ [])
+    fed-new : feed (number-length job) (listed job work n) r ≡ listed job work n ++ (entry (tree-of (listed job work n) o ks) r ∷ [])
     fed-new = fed-as ∙ ap (λ (b : Bool). cond b (listed job work n) (listed job work n ++ (entry (tree-of (listed job work n) o ks) r ∷ []))) new
 
-    pub snoc-fed : listed job after (n + 1) ≡ feed number-bytes (listed job work n) r
-    snoc-fed = ap stored k ∙ foldl-append (feed number-bytes) P.start (kept job work n) (r ∷ [])
+    pub snoc-fed : listed job after (n + 1) ≡ feed (number-length job) (listed job work n) r
+    snoc-fed = ap (stored (number-length job)) k ∙ foldl-append (feed (number-length job)) P.start (kept job work n) (r ∷ [])
 
     snoc-listed : listed job after (n + 1) ≡ listed job work n ++ (entry (tree-of (listed job work n) o ks) r ∷ [])
     snoc-listed = snoc-fed ∙ fed-new
@@ -214,7 +216,7 @@ module _ {job work : Bytes} {n : ℕ} (s : Store job work n) (r : Bytes) (o : Op
         (λ i h. ap (λ (x : List ℕ). getD x i 0) (sym m) ∙ measures-at l job after (n + 1) i h) in
         record {
           table = t;
-          well = subst (WellKept number-bytes) (sym snoc-listed) (snoc-well list r o ks (s .well) sound says below (λ z. subst T new z));
+          well = subst (WellKept (number-length job)) (sym snoc-listed) (snoc-well list r o ks (s .well) sound says below (λ z. subst T new z));
           sorted = subst AllGood (sym snoc-listed) (good-snoc list e (s .sorted) sorted);
           count = ap length snoc-listed ∙ length-append list (e ∷ []) ∙ omega arith;
           records-are = ap records snoc-listed ∙ records-snoc list e (omega arith) ∙ ap (λ (rs : List Bytes). rs ++ (r ∷ [])) (s .records-are) ∙ sym k;
@@ -277,20 +279,19 @@ abbrev fits : Limits → Sort → Bool
 fits limits s = good s && leb (sort-width s) (limits .width)
 
 module _ (limits : Limits) {job work : Bytes} {n at : ℕ} {t : Decoded} (o : Offered job work n at t) where
-  says-it : read number-bytes (record-at job at) ≡ term (op-of t) (arguments-of job t)
+  says-it : read (number-length job) (record-at job at) ≡ term (op-of t) (arguments-of job t)
   says-it = sym (o .says)
 
   pub fitting : Fitting job work n t
   fitting = record {
     arguments = o .arguments;
-    number = T-true _ (says-count (record-at job at) (op-of t) (arguments-of job t) (says-term number-bytes (record-at job at) (op-of t) (arguments-of job t) says-it));
+    number = T-true _ (says-count (length-of job) (record-at job at) (op-of t) (arguments-of job t) (says-term (number-length job) (record-at job at) (op-of t) (arguments-of job t) says-it));
   }
 
   all-low : T (all-below (length (listed job work n)) (arguments-of job t))
   all-low = subst T (sym (ap (λ (m : ℕ). all-below m (arguments-of job t)) (o .arguments .store .count) ∙ o .arguments .below)) tt
 
-  depth-small : {d : ℕ} → d ≡ depth (tree-of (listed job work n) (op-of t) (arguments-of job t)) → d < number-end
-  unfolding link-bytes
+  depth-small : {d : ℕ} → d ≡ depth (tree-of (listed job work n) (op-of t) (arguments-of job t)) → d < 256 ^ link-size job
   depth-small e =
       let s = o .arguments .store in
       let c = s .count in
@@ -310,7 +311,7 @@ module _ (limits : Limits) {job work : Bytes} {n at : ℕ} {t : Decoded} (o : Of
 
   -- the kind that stands in the record
   kind-is : {k : ℕ} → k ≡ number-at job (at + number-bytes) number-bytes → k ≡ kind (op-of t)
-  kind-is f = f ∙ kind-at job at (o .stands) ∙ term-kind number-bytes (record-at job at) (op-of t) (arguments-of job t) says-it
+  kind-is f = f ∙ kind-at job at (o .stands) ∙ term-kind (number-length job) (record-at job at) (op-of t) (arguments-of job t) says-it
 
   -- the measure that the code computes is the term's, and fits into a row
   pub measured : {k d w m : ℕ} {s : Sort} → k ≡ number-at job (at + number-bytes) number-bytes → d ≡ depth (tree-of (listed job work n) (op-of t) (arguments-of job t)) → w ≡ sort-width s
@@ -319,32 +320,33 @@ module _ (limits : Limits) {job work : Bytes} {n at : ℕ} {t : Decoded} (o : Of
 
   pub measure-fits : (k : ℕ) {d w m : ℕ} {s : Sort} → d ≡ depth (tree-of (listed job work n) (op-of t) (arguments-of job t)) → w ≡ sort-width s
       → s ≡ sort-of (tree-of (listed job work n) (op-of t) (arguments-of job t)) → m ≡ measure-in k d w → m < 256 ^ link-size job
-  unfolding link-bytes
-  measure-fits k {d} {w} {m} {s} b c e f = let q = measure-small k d w number-end (depth-small b) (omega (arith, width-small e c)) in omega arith
+  measure-fits k {d} {w} {m} {s} b c e f =
+      let least : 256 ^ 1 ≤ 256 ^ link-size job = pow-le-pow-right (omega arith) (link-whole (length-of job) .some-bytes) in
+      subst (λ (x : ℕ). x < 256 ^ link-size job) (sym f) (measure-small k d w (256 ^ link-size job) (depth-small b) (omega (arith, width-small e c)))
 
   sorted-is : {s : Sort} → s ≡ sort-of (tree-of (listed job work n) (op-of t) (arguments-of job t))
-      → well-sorted (capped limits) (term-of (listed job work n) (op-of t) (arguments-of job t)) ≡ fits limits s
+      → well-sorted (capped (number-length job) limits) (term-of (listed job work n) (op-of t) (arguments-of job t)) ≡ fits limits s
   sorted-is {s} e =
-      ap (well-sorted (capped limits)) (term-of-is (listed job work n) (op-of t) (arguments-of job t) all-low) ∙ ap (fits (capped limits)) (sym e)
+      ap (well-sorted (capped (number-length job) limits)) (term-of-is (listed job work n) (op-of t) (arguments-of job t) all-low) ∙ ap (fits (capped (number-length job) limits)) (sym e)
       ∙ ap (λ (b : Bool). good s && b) (capped-width (sort-width s) (limits .width) (width-within e))
 
-  room-is : room number-bytes (capped limits) (length work) (listed job work n) ≡ room-for (number-length job) (limits .terms) n (length work)
+  room-is : room (number-length job) (capped (number-length job) limits) (length work) (listed job work n) ≡ room-for (number-length job) (limits .terms) n (length work)
   unfolding room-for
   room-is =
       let c = o .arguments .store .count in
       let a : suc (length (listed job work n)) - first-terms ≡ suc n = omega arith in
-      ap₂ (λ (x y : ℕ). leb (term-bytes number-bytes * x) (length work) && ltb y (capped limits .terms)) a c
+      ap₂ (λ (x y : ℕ). leb (term-bytes (number-length job) * x) (length work) && ltb y (capped (number-length job) limits .terms)) a c
 
   -- the answer and its code
-  decided : {sorted there roomy : Bool} → well-sorted (capped limits) (term-of (listed job work n) (op-of t) (arguments-of job t)) ≡ sorted
-      → has (listed job work n) (record-at job at) ≡ there → room number-bytes (capped limits) (length work) (listed job work n) ≡ roomy
-      → answer-for sorted there roomy n ≡ answer-for (well-sorted (capped limits) (term-of (listed job work n) (op-of t) (arguments-of job t))) (has (listed job work n) (record-at job at)) (room number-bytes (capped limits) (length work) (listed job work n)) n
+  decided : {sorted there roomy : Bool} → well-sorted (capped (number-length job) limits) (term-of (listed job work n) (op-of t) (arguments-of job t)) ≡ sorted
+      → has (listed job work n) (record-at job at) ≡ there → room (number-length job) (capped (number-length job) limits) (length work) (listed job work n) ≡ roomy
+      → answer-for sorted there roomy n ≡ answer-for (well-sorted (capped (number-length job) limits) (term-of (listed job work n) (op-of t) (arguments-of job t))) (has (listed job work n) (record-at job at)) (room (number-length job) (capped (number-length job) limits) (length work) (listed job work n)) n
   decided e f g = rw (e, f, g)
 
   taken : {answer : Interned} {after : Bytes}
-      → answer ≡ answer-for (well-sorted (capped limits) (term-of (listed job work n) (op-of t) (arguments-of job t))) (has (listed job work n) (record-at job at)) (room number-bytes (capped limits) (length work) (listed job work n)) n
+      → answer ≡ answer-for (well-sorted (capped (number-length job) limits) (term-of (listed job work n) (op-of t) (arguments-of job t))) (has (listed job work n) (record-at job at)) (room (number-length job) (capped (number-length job) limits) (length work) (listed job work n)) n
       → after ≡ bytes-after answer work (with-term job work n at (tree-of (listed job work n) (op-of t) (arguments-of job t)))
-      → Store job after (rows-after answer n) → listed job after (rows-after answer n) ≡ list-after-of answer (listed job work n) (record-at job at)
+      → Store job after (rows-after answer n) → listed job after (rows-after answer n) ≡ list-after-of answer (listed job work n) (feed (number-length job) (listed job work n) (record-at job at))
       → offsets (link-size job) after (rows-after answer n) ≡ offsets-after answer at (offsets (link-size job) work n) → Taken limits job work after n at t answer
   taken {answer} e m s l f = record { answer-is = e; code-is = ap code-of e ∙ code-law _ _ _ n; memory-is = m; store = s; listed-is = l; offsets-are = f }
 
@@ -355,7 +357,7 @@ module _ (limits : Limits) {job work : Bytes} {n at : ℕ} {t : Decoded} (o : Of
 
   module _ {after : Bytes} {m : ℕ} {s : Sort} (bytes : AllBytes job) (e : s ≡ sort-of (tree-of (listed job work n) (op-of t) (arguments-of job t))) (f : fits limits s ≡ true)
       (me : m ≡ measure (tree-of (listed job work n) (op-of t) (arguments-of job t))) {a : Added} (g : Grown (number-length job) job work after n (limits .terms) at m a) where
-    sorted-true : well-sorted (capped limits) (term-of (listed job work n) (op-of t) (arguments-of job t)) ≡ true
+    sorted-true : well-sorted (capped (number-length job) limits) (term-of (listed job work n) (op-of t) (arguments-of job t)) ≡ true
     sorted-true = sorted-is e ∙ f
 
     sound-it : Sound (record-at job at)
@@ -371,7 +373,7 @@ module _ (limits : Limits) {job work : Bytes} {n at : ℕ} {t : Decoded} (o : Of
         let s = o .arguments .store in
         let there = found-there s (record-at job at) (found-means (number-length job) (limits .terms) (record-at job at) (kept job work n) (length work) (h .answer-is)) in
         taken (decided sorted-true there refl) (h .memory-is) (store-same s (h .table) (h .kept-is) (h .measures-are))
-        (ap stored (h .kept-is) ∙ fed-old s (record-at job at) (op-of t) (arguments-of job t) says-it all-low there) (h .offsets-are)
+        (ap (stored (number-length job)) (h .kept-is) ∙ fed-old s (record-at job at) (op-of t) (arguments-of job t) says-it all-low there) (h .offsets-are)
 
     pub taken-spent : a ≡ A.Spent → Taken limits job work after n at t I.Spent
     unfolding count-after list-after memory-after answer-for
@@ -380,8 +382,8 @@ module _ (limits : Limits) {job work : Bytes} {n at : ℕ} {t : Decoded} (o : Of
         let s = o .arguments .store in
         let w = spent-means (number-length job) (limits .terms) (record-at job at) (kept job work n) (length work) (h .answer-is) in
         let there = missing-there s (record-at job at) (sound-it .long) (w .0) in
-        let none-left : room number-bytes (capped limits) (length work) (listed job work n) ≡ false = room-is ∙ ap (λ (k : ℕ). room-for (number-length job) (limits .terms) k (length work)) (sym (length-kept (link-size job) job work n)) ∙ w .1 in
-        taken (decided sorted-true there none-left) (h .memory-is) (store-same s (h .table) (h .kept-is) (h .measures-are)) (ap stored (h .kept-is)) (h .offsets-are)
+        let none-left : room (number-length job) (capped (number-length job) limits) (length work) (listed job work n) ≡ false = room-is ∙ ap (λ (k : ℕ). room-for (number-length job) (limits .terms) k (length work)) (sym (length-kept (link-size job) job work n)) ∙ w .1 in
+        taken (decided sorted-true there none-left) (h .memory-is) (store-same s (h .table) (h .kept-is) (h .measures-are)) (ap (stored (number-length job)) (h .kept-is)) (h .offsets-are)
 
     pub taken-new : {p : ℕ} → a ≡ A.New p → Taken limits job work after n at t (I.New (n + 1))
     unfolding count-after list-after memory-after answer-for with-term
@@ -390,7 +392,7 @@ module _ (limits : Limits) {job work : Bytes} {n at : ℕ} {t : Decoded} (o : Of
         let st = o .arguments .store in
         let w = new-means (number-length job) (limits .terms) (record-at job at) (kept job work n) (length work) (h .answer-is) in
         let there = missing-there st (record-at job at) (sound-it .long) (w .0) in
-        let some-left : room number-bytes (capped limits) (length work) (listed job work n) ≡ true = room-is ∙ ap (λ (k : ℕ). room-for (number-length job) (limits .terms) k (length work)) (sym (length-kept (link-size job) job work n)) ∙ w .1 in
+        let some-left : room (number-length job) (capped (number-length job) limits) (length work) (listed job work n) ≡ true = room-is ∙ ap (λ (k : ℕ). room-for (number-length job) (limits .terms) k (length work)) (sym (length-kept (link-size job) job work n)) ∙ w .1 in
         let ms = h .measures-are ∙ ap (λ (x : ℕ). measures (link-size job) work n ++ (x ∷ [])) me in
         taken (decided sorted-true there some-left) (h .memory-is ∙ ap (with-row (number-length job) job work n at) me)
         (store-snoc st (record-at job at) (op-of t) (arguments-of job t) says-it all-low after there (h .kept-is) sound-it (subst (λ (x : Sort). T (good x)) e (subst T (sym (and-first (good s) _ f)) tt)) (h .table) ms)

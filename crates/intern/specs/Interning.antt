@@ -4,7 +4,7 @@ use mathlib.Core.Bool.{Bool, true, _||_, cond}
 use mathlib.Core.List.{List, [], _∷_, _++_}
 use Prim.Native.Nat.{ℕ, _+_, _-_}
 use lib.ListN.{length, take, drop}
-use Rattle.theory.specs.Limit.{Limits, stated, capped, first-terms, number-bytes}
+use Rattle.theory.specs.Limit.{Limits, stated, capped, first-terms}
 use Rattle.theory.specs.Term as T
 use Rattle.theory.specs.Record.{Bytes, whole, read, number-length}
 use Rattle.theory.specs.Plain.{Plain, term-of, has, feed}
@@ -62,11 +62,11 @@ rows-after (Found m) n = m
 rows-after (New m) n = m
 
 -- the list after it: fed the record where the code is 0
-abbrev pub list-after : Interned → Plain → Bytes → Plain
-list-after Unsorted list r = list
-list-after Spent list r = list
-list-after (Found m) list r = feed number-bytes list r
-list-after (New m) list r = feed number-bytes list r
+abbrev pub list-after : Interned → Plain → Plain → Plain
+list-after Unsorted list fed = list
+list-after Spent list fed = list
+list-after (Found m) list fed = fed
+list-after (New m) list fed = fed
 
 -- where the records of the rows stand after it: a new one stands at `at`
 abbrev pub offsets-after : Interned → ℕ → List ℕ → List ℕ
@@ -94,18 +94,18 @@ answer-for sorted there roomy n = cond sorted (cond there (Found n) (cond roomy 
 pub record Offered (job work : Bytes) (n at : ℕ) (t : Term) : Type 0 where
   pub arguments : Arguments job work n (operands-of t)
   pub stands : whole (drop at job) ≡ true
-  pub says : item-of job (I.Term t) ≡ read number-bytes (record-at job at)
+  pub says : item-of job (I.Term t) ≡ read (number-length job) (record-at job at)
 
 -- the term was taken or not, under stated limits: the answer, its code by document 01's tests 7 and 8, the work memory then, and the store
 -- in it
 pub record Taken (limits : Limits) (job work after : Bytes) (n at : ℕ) (t : Term) (answer : Interned) : Type 0 where
   pub answer-is : answer
-      ≡ answer-for (well-sorted (capped limits) (term-of (listed job work n) (op-of t) (arguments-of job t)))
-      (has (listed job work n) (record-at job at)) (room number-bytes (capped limits) (length work) (listed job work n)) n
+      ≡ answer-for (well-sorted (capped (number-length job) limits) (term-of (listed job work n) (op-of t) (arguments-of job t)))
+      (has (listed job work n) (record-at job at)) (room (number-length job) (capped (number-length job) limits) (length work) (listed job work n)) n
   pub code-is : code-of answer
-      ≡ first-fault ((well-sorted (capped limits) (term-of (listed job work n) (op-of t) (arguments-of job t)), 7)
-      ∷ (has (listed job work n) (record-at job at) || room number-bytes (capped limits) (length work) (listed job work n), 8) ∷ [])
+      ≡ first-fault ((well-sorted (capped (number-length job) limits) (term-of (listed job work n) (op-of t) (arguments-of job t)), 7)
+      ∷ (has (listed job work n) (record-at job at) || room (number-length job) (capped (number-length job) limits) (length work) (listed job work n), 8) ∷ [])
   pub memory-is : after ≡ bytes-after answer work (with-term job work n at (tree-of (listed job work n) (op-of t) (arguments-of job t)))
   pub store : Store job after (rows-after answer n)
-  pub listed-is : listed job after (rows-after answer n) ≡ list-after answer (listed job work n) (record-at job at)
+  pub listed-is : listed job after (rows-after answer n) ≡ list-after answer (listed job work n) (feed (number-length job) (listed job work n) (record-at job at))
   pub offsets-are : offsets (link-size job) after (rows-after answer n) ≡ offsets-after answer at (offsets (link-size job) work n)

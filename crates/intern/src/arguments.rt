@@ -6,7 +6,7 @@ ghost use lib.ListN.{getD};
 ghost use Rattle.theory.specs.Sort.{bv, guard, all-are, good, first, alike, all-bv, sum-widths, width, sort-of};
 ghost use Rattle.theory.specs.Depth.{depth};
 ghost use Rattle.theory.specs.Places.{tree-at};
-ghost use Rattle.rows.specs.Layout.{Bounded, number-end};
+ghost use Rattle.rows.specs.Layout.{Bounded, place-end};
 ghost use Rattle.terms.specs.Decoded.{OperandsPlaced, numbers-of};
 ghost use Rattle.store.specs.Store.{listed};
 ghost use Rattle.store.specs.Sorts.{sort-read, sorts-at, deepest-at, count-of, Arguments};
@@ -63,7 +63,7 @@ pub fn operand_sort(job: &[u8], work: &[u8], n: usize, ops: Operands, i: usize) 
 // The depth of argument i.
 pub fn operand_depth(job: &[u8], work: &[u8], n: usize, ops: Operands, i: usize) -> usize
     requires { ⌜ Arguments (now job) (now work) n ops × (i < count-of ops) ⌝ }
-    ensures { λ r. ⌜ Bounded r (depth (tree-at (listed (now (job .entry)) (now (work .entry)) n) (getD (numbers-of (now (job .entry)) ops) i 0))) number-end ⌝ }
+    ensures { λ r. ⌜ Bounded r (depth (tree-at (listed (now (job .entry)) (now (work .entry)) n) (getD (numbers-of (now (job .entry)) ops) i 0))) place-end ⌝ }
 {
     let x = operand(job, ops, i);
     depth_at(job, work, n, x)
@@ -156,7 +156,7 @@ fn larger(a: usize, b: usize) -> usize
 // The depth of the deepest argument, 0 where there is none.
 pub fn deepest(job: &[u8], work: &[u8], n: usize, ops: Operands) -> usize
     requires { ⌜ Arguments (now job) (now work) n ops ⌝ }
-    ensures { λ r. ⌜ Bounded r (deepest-at (listed (now (job .entry)) (now (work .entry)) n) (numbers-of (now (job .entry)) ops)) number-end ⌝ }
+    ensures { λ r. ⌜ Bounded r (deepest-at (listed (now (job .entry)) (now (work .entry)) n) (numbers-of (now (job .entry)) ops)) place-end ⌝ }
 {
     let end = count(ops);
     let mut most: usize = 0;

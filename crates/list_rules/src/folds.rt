@@ -6,9 +6,8 @@ ghost use lib.ListN.{take};
 ghost use Rattle.theory.specs.Limit.{max-width};
 ghost use Rattle.theory.specs.Verdict.{held};
 ghost use Rattle.theory.specs.Rule.{compare};
-ghost use Rattle.rows.specs.Rows.{kept};
 ghost use Rattle.table.specs.Buckets.{Table};
-ghost use Rattle.store.specs.Numbers.{numbers};
+ghost use Rattle.store.specs.Numbers.{numbers-in};
 ghost use Rattle.operand_rules.specs.Rules.{number-in, tree, verdict-of};
 ghost use Rattle.list_rules.specs.Lists.{Alike, Many, circuit, least, folded-bits, expected, arguments};
 use circuits::adder::ripple_carry_adder;
@@ -47,7 +46,7 @@ fn combine(
 ) -> [u32; MAX_BITS]
     requires { ⌜ Table (now job) (now work) n ⌝ }
     requires { ⌜ (1 ≤ w) × (w ≤ max-width) ⌝ }
-    ensures { λ r. ⌜ take w r ≡ circuit (numbers (kept (now (job .entry)) (now (work .entry)) n)) op (take w x) (take w y) ⌝ }
+    ensures { λ r. ⌜ take w r ≡ circuit (numbers-in (now (job .entry)) (now (work .entry)) n) op (take w x) (take w y) ⌝ }
 {
     match op {
         Operation::And => ands(job, work, n, x, y, w),

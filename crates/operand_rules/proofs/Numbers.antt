@@ -7,14 +7,14 @@ use native.Mathlib.Omega.{arith}
 use lib.Dec.{T, eqb, eqb→eq, leb, leb→le}
 use lib.Ieee.Fits.{and-l, and-r}
 use lib.ListN.{length, take, drop, length-map}
-use Rattle.theory.specs.Limit.{first-terms, max-terms}
+use Rattle.theory.specs.Limit.{first-terms}
 use Rattle.theory.specs.Kind.{Op, False, BvBbTerm, kind, many, takes}
 use Rattle.theory.specs.Term.{Term, Terms, node, nil, same-term, fold, folds, to-list, from-list}
 use Rattle.theory.specs.Sort.{Sort, bad, bool, bv, guard, all-are, sort-width, sort-op, sort-of}
 use Rattle.theory.specs.Gates.{term-gates}
 use Rattle.theory.specs.Bits.{get-term-bits, select, bb, literally-false}
 use Rattle.theory.specs.Move.{bits}
-use Rattle.theory.specs.Record.{Bytes}
+use Rattle.theory.specs.Record.{Bytes, number-length}
 use Rattle.theory.specs.Codes.{all-below}
 use Rattle.theory.specs.Verdict.{Verdict, terms-differ}
 use Rattle.theory.specs.Rule.{compare}
@@ -30,11 +30,11 @@ use Rattle.terms.specs.declared.Term.{Term as Decoded}
 use Rattle.terms.specs.declared.Term.the-variants as D
 use Rattle.terms.specs.Decoded.{op-of, arguments-of, words-in}
 use Rattle.rows.specs.Rows.{kept}
-use Rattle.store.specs.Numbers.{numbers, bit-number, bb-number, is-false-number}
-use Rattle.rows.specs.Layout.{link-bytes}
+use Rattle.rows.proofs.RowLaws.{link-holds, link-back}
+use Rattle.store.specs.Numbers.{numbers, bit-number, bb-number, is-false-number, numbers-in}
 use Rattle.store.specs.Store.{Store, listed}
 use Rattle.store.specs.Terms.{TermAt}
-use Rattle.store.proofs.Lookup.{number-hom, number-exact, bb-hom}
+use Rattle.store.proofs.Lookup.{Few, number-hom, number-exact, bb-hom}
 use Rattle.store.proofs.Claims.{own-numbers, select-numbers, compare-number}
 use Rattle.operand_rules.specs.Rules.{Operand, tree, number-in}
 use Rattle.theory.proofs.Basics.{true-T, T-same}
@@ -72,9 +72,12 @@ bb-width us w e =
     guarded false m k d = absurd (let z : _≡_ {A = ℕ} 0 1 = ap (λ (x : Sort). is-bv-number x) d in omega arith)
 
 module _ {job work : Bytes} {n : ℕ} where
-  pub few : Store job work n → length (listed job work n) ≤ max-terms
-  unfolding link-bytes
-  few s = let c = s .count in let f = s .table .rows .few in omega arith
+  pub few : Store job work n → Few (number-length job) (listed job work n)
+  few s =
+      let c = s .count in
+      let r = s .table .rows in
+      let f = link-holds (number-length job) _ (r .few) in
+      record { length-b = link-back (r .link-length); count = omega arith }
 
   pub there : Store job work n → {x : ℕ} → x < first-terms + n → x < length (listed job work n)
   there s h = let c = s .count in omega arith
@@ -86,8 +89,8 @@ module _ {job work : Bytes} {n : ℕ} where
   operand-as {x} o e = subst (λ (u : ℕ). Operand job work n x u) (sym e) o
 
   -- looking gates up respects the gates
-  pub store-hom : Store job work n → Hom term-gates (numbers (kept job work n)) (number-in job work n)
-  store-hom s = subst (λ (rs : List Bytes). Hom term-gates (numbers rs) (number-in job work n)) (s .records-are) (number-hom (listed job work n) (s .well) (few s))
+  pub store-hom : Store job work n → Hom term-gates (numbers-in job work n) (number-in job work n)
+  store-hom s = subst (λ (rs : List Bytes). Hom term-gates (numbers (number-length job) rs) (number-in job work n)) (s .records-are) (number-hom (listed job work n) (s .well) (few s))
 
   -- the divider's test: the term `false` has the number 1
   pub false-test : Store job work n → (t : Term) → literally-false t ≡ is-false-number (number-in job work n t)
@@ -106,18 +109,18 @@ module _ {job work : Bytes} {n : ℕ} where
 
   -- where a term of bits is expected, and bs are the numbers of these
   pub bits-end : (ok : Verdict) → Store job work n → {v : Verdict} {claim : ℕ} {bs : List ℕ} → claim < first-terms + n → (ts : List Term) → bs ≡ map (number-in job work n) ts
-      → v ≡ cond (eqb (bb-number (kept job work n) bs) claim) ok terms-differ → v ≡ compare ok (bb ts) (tree job work n claim)
+      → v ≡ cond (eqb (bb-number (number-length job) (kept job work n) bs) claim) ok terms-differ → v ≡ compare ok (bb ts) (tree job work n claim)
   bits-end ok s h ts d =
       ends ok s h (bb ts)
-      (ap₂ bb-number (sym (s .records-are)) d ∙ sym (bb-hom (listed job work n) (s .well) (few s) ts))
+      (ap₂ (bb-number (number-length job)) (sym (s .records-are)) d ∙ sym (bb-hom (listed job work n) (s .well) (few s) ts))
 
   pub selected : {p w : ℕ} {t : Decoded} {xs : List ℕ} → Operand job work n p w → TermAt job work n p t → eqb (kind (op-of t)) (kind BvBbTerm) ≡ false
-      → xs ≡ bits w (λ i. bit-number (kept job work n) i p) → xs ≡ map (number-in job work n) (get-term-bits (tree job work n p))
+      → xs ≡ bits w (λ i. bit-number (number-length job) (kept job work n) i p) → xs ≡ map (number-in job work n) (get-term-bits (tree job work n p))
   selected {p} {w} {t} o s d e =
       e
       ∙ sym (ap (map (number-in job work n)) (other-bits (tree job work n p) (op-of t) _ (s .made) d ∙ ap (λ (x : Sort). select (tree job work n p) 0 (sort-width x)) (o .sort))
       ∙ select-numbers (listed job work n) (o .store .well) (few (o .store)) p w (there (o .store) (o .there)) (widths o .1)
-      ∙ ap (λ (rs : List Bytes). bits w (λ i. bit-number rs i p)) (o .store .records-are))
+      ∙ ap (λ (rs : List Bytes). bits w (λ i. bit-number (number-length job) rs i p)) (o .store .records-are))
 
   pub argued : {p w : ℕ} {t : Decoded} {a : Args} (xs : List ℕ) → Operand job work n p w → TermAt job work n p t → t ≡ D.BvBbTerm a
       → take (a .count) xs ≡ words-in job a → take w xs ≡ map (number-in job work n) (get-term-bits (tree job work n p))

@@ -14,7 +14,7 @@ use Rattle.theory.specs.Term.{Term, node, nil, fold}
 use Rattle.theory.specs.Sort.{bv, guard, is-bv-sort, sort-width, sort-of}
 use Rattle.theory.specs.Bits.{get-term-bits, select}
 use Rattle.theory.specs.Move.{bits}
-use Rattle.theory.specs.Record.{Bytes}
+use Rattle.theory.specs.Record.{Bytes, number-length}
 use Rattle.theory.specs.Verdict.{Verdict, not-bit-vector}
 use Rattle.theory.specs.Rule.{of-bits}
 use Rattle.theory.specs.Sort as Th
@@ -59,26 +59,26 @@ module _ {job work : Bytes} {n : ℕ} where
 
   -- the bits of any term that is no BvBbTerm, from bit i on
   pub select-from : (s : Store job work n) (t : Term) (i k : ℕ) → i + k ≤ 64
-      → map (number-in job work n) (select t i k) ≡ bits k (λ j. bit-number (records (listed job work n)) (i + j) (number-in job work n t))
+      → map (number-in job work n) (select t i k) ≡ bits k (λ j. bit-number (number-length job) (records (listed job work n)) (i + j) (number-in job work n t))
   unfolding select
   select-from s t i zero l = refl
   select-from s t i (suc k) l =
       ap₂ (λ (y : ℕ) (ys : List ℕ). y ∷ ys)
       (bit-hom (listed job work n) (s .well) (few s) i (omega arith) t
-      ∙ ap (λ (m : ℕ). bit-number (records (listed job work n)) m (number-in job work n t)) (sym (add-zero i)))
+      ∙ ap (λ (m : ℕ). bit-number (number-length job) (records (listed job work n)) m (number-in job work n t)) (sym (add-zero i)))
       (select-from s t (suc i) k (omega arith)
-      ∙ bits-same k (λ j. bit-number (records (listed job work n)) (suc i + j) (number-in job work n t)) (λ j. bit-number (records (listed job work n)) (i + suc j) (number-in job work n t))
-      (λ j. ap (λ (m : ℕ). bit-number (records (listed job work n)) m (number-in job work n t)) (let z : suc i + j ≡ i + suc j = omega arith in z)))
+      ∙ bits-same k (λ j. bit-number (number-length job) (records (listed job work n)) (suc i + j) (number-in job work n t)) (λ j. bit-number (number-length job) (records (listed job work n)) (i + suc j) (number-in job work n t))
+      (λ j. ap (λ (m : ℕ). bit-number (number-length job) (records (listed job work n)) m (number-in job work n t)) (let z : suc i + j ≡ i + suc j = omega arith in z)))
 
   -- the bits of a width
   pub width-numbers : {xs : List ℕ} {k : ℕ} → Store job work n → (w : ℕ) → 1 ≤ w → w ≤ 64 → k ≡ constant-number (kept job work n) w w
-      → xs ≡ bits w (λ i. bit-number (kept job work n) i k) → xs ≡ map (number-in job work n) (width-bits w)
+      → xs ≡ bits w (λ i. bit-number (number-length job) (kept job work n) i k) → xs ≡ map (number-in job work n) (width-bits w)
   width-numbers {xs} {k} s w h l d e =
       let t = node (Const w w) nil in
       let m : k ≡ number-in job work n t =
       d ∙ ap (λ (rs : List Bytes). constant-number rs w w) (sym (s .records-are)) ∙ sym (constant-hom (listed job work n) (s .well) (few s) w w (omega arith) (omega arith)) in
       e
-      ∙ ap₂ (λ (rs : List Bytes) (j : ℕ). bits w (λ i. bit-number rs i j)) (sym (s .records-are)) m
+      ∙ ap₂ (λ (rs : List Bytes) (j : ℕ). bits w (λ i. bit-number (number-length job) rs i j)) (sym (s .records-are)) m
       ∙ sym (ap (map (number-in job work n)) (const-bits w h l) ∙ select-from s t 0 w (omega arith)
-      ∙ bits-same w (λ j. bit-number (records (listed job work n)) (0 + j) (number-in job work n t)) (λ j. bit-number (records (listed job work n)) j (number-in job work n t))
-      (λ j. ap (λ (i : ℕ). bit-number (records (listed job work n)) i (number-in job work n t)) (zero-add j)))
+      ∙ bits-same w (λ j. bit-number (number-length job) (records (listed job work n)) (0 + j) (number-in job work n t)) (λ j. bit-number (number-length job) (records (listed job work n)) j (number-in job work n t))
+      (λ j. ap (λ (i : ℕ). bit-number (number-length job) (records (listed job work n)) i (number-in job work n t)) (zero-add j)))

@@ -12,6 +12,7 @@ ghost use Rattle.terms.specs.Decoded.{Inside, words-in};
 ghost use Rattle.rows.specs.Rows.{kept};
 ghost use Rattle.table.specs.Buckets.{Table};
 ghost use Rattle.store.specs.Numbers.{bb-number};
+ghost use Rattle.theory.specs.Record.{number-length};
 ghost use Rattle.operand_rules.specs.Rules.{Operand, width-in, number-in, tree, verdict-of};
 use crate::Verdict;
 use crate::compare;
@@ -71,7 +72,7 @@ pub fn compare_bits(
 ) -> Verdict
     requires { ⌜ Table (now job) (now work) n ⌝ }
     requires { ⌜ w ≤ max-width ⌝ }
-    ensures { λ v. ⌜ verdict-of v ≡ cond (eqb (bb-number (kept (now (job .entry)) (now (work .entry)) n) (take w bits)) claim) held terms-differ ⌝ }
+    ensures { λ v. ⌜ verdict-of v ≡ cond (eqb (bb-number (number-length (now (job .entry))) (kept (now (job .entry)) (now (work .entry)) n) (take w bits)) claim) held terms-differ ⌝ }
 {
     compare(bb_term(job, work, n, &bits[..w]), claim)
 }
@@ -87,7 +88,7 @@ pub fn compare_bits_form(
 ) -> Verdict
     requires { ⌜ Table (now job) (now work) n ⌝ }
     requires { ⌜ w ≤ max-width ⌝ }
-    ensures { λ v. ⌜ verdict-of v ≡ cond (eqb (bb-number (kept (now (job .entry)) (now (work .entry)) n) (take w bits)) claim) form-only terms-differ ⌝ }
+    ensures { λ v. ⌜ verdict-of v ≡ cond (eqb (bb-number (number-length (now (job .entry))) (kept (now (job .entry)) (now (work .entry)) n) (take w bits)) claim) form-only terms-differ ⌝ }
 {
     compare_form(bb_term(job, work, n, &bits[..w]), claim)
 }

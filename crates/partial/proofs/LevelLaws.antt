@@ -11,7 +11,7 @@ use borrow.Author.Tests.{eqb-true, eqb-false, ltb-true, ltb-false, leb-true, leb
 use lib.Dec.{ltb}
 use Rattle.theory.specs.Limit.{first-terms}
 use Rattle.theory.specs.Term.{Term, Terms, node, nil, cons}
-use Rattle.theory.specs.Record.{Bytes}
+use Rattle.theory.specs.Record.{Bytes, number-length}
 use Rattle.theory.specs.Claim.{element}
 use Rattle.theory.proofs.Basics.{true-T, T-true}
 use Rattle.theory.proofs.Distinct.{tree-0, tree-1}
@@ -63,14 +63,14 @@ off false f = refl
 pub record Searching (job work : Bytes) (n asked k : ℕ) : Type 0 where
   pub marked : Marked job work n asked
   pub most : k ≤ suc asked
-  pub kinds : (p : ℕ) → p < k → T (mark-of work p) → T (bit-kind-in (tree-at (listed job work n) p))
+  pub kinds : (p : ℕ) → p < k → T (mark-of job work p) → T (bit-kind-in (tree-at (listed job work n) p))
 
 module _ {job work : Bytes} {n asked : ℕ} where
   pub searching-start : Marked job work n asked → Searching job work n asked 0
   searching-start m = record { marked = m; most = omega arith; kinds = λ p l. absurd (omega arith) }
 
   -- one place more, whose kind is not refused or which is unmarked
-  searching-more : {k : ℕ} → Searching job work n asked k → k ≤ asked → (T (mark-of work k) → T (bit-kind-in (tree-at (listed job work n) k))) → Searching job work n asked (k + 1)
+  searching-more : {k : ℕ} → Searching job work n asked k → k ≤ asked → (T (mark-of job work k) → T (bit-kind-in (tree-at (listed job work n) k))) → Searching job work n asked (k + 1)
   searching-more {k} s l e = record {
     marked = s .marked;
     most = omega arith;
@@ -80,22 +80,22 @@ module _ {job work : Bytes} {n asked : ℕ} where
       lower : (p : ℕ) → p < k + 1 → (p ≡ k → ⊥) → p < k
       lower p l f = omega arith
 
-      go : (p : ℕ) → p < k + 1 → T (mark-of work p) → (b : Bool) → (b ≡ true → p ≡ k) → (b ≡ false → p ≡ k → ⊥) → T (bit-kind-in (tree-at (listed job work n) p))
-      go p h m true x y = subst (λ (q : ℕ). T (bit-kind-in (tree-at (listed job work n) q))) (sym (x refl)) (e (subst (λ (q : ℕ). T (mark-of work q)) (x refl) m))
+      go : (p : ℕ) → p < k + 1 → T (mark-of job work p) → (b : Bool) → (b ≡ true → p ≡ k) → (b ≡ false → p ≡ k → ⊥) → T (bit-kind-in (tree-at (listed job work n) p))
+      go p h m true x y = subst (λ (q : ℕ). T (bit-kind-in (tree-at (listed job work n) q))) (sym (x refl)) (e (subst (λ (q : ℕ). T (mark-of job work q)) (x refl) m))
       go p h m false x y = s .kinds p (lower p h (y refl)) m
 
-  pub searching-turn : {k q : ℕ} → Searching job work n asked k → k ≤ asked → bit-kind-in (tree-at (listed job work n) k) ≡ true → Next work asked k q → Searching job work n asked q
+  pub searching-turn : {k q : ℕ} → Searching job work n asked k → k ≤ asked → bit-kind-in (tree-at (listed job work n) k) ≡ true → Next job work asked k q → Searching job work n asked q
   searching-turn {k} {q} s l e x =
-      jump (Searching job work n asked) (λ r. mark-of work r ≡ false) q
+      jump (Searching job work n asked) (λ r. mark-of job work r ≡ false) q
       (λ j h m i. searching-more i (omega (arith, x .most)) (λ t. absurd (subst T m t))) (q - (k + 1)) (k + 1) (omega (arith, x .above)) (λ r a b. x .between r (omega arith) b)
       (searching-more s l (λ t. true-T _ e))
 
   -- a place where a term of the asked one stands is marked
-  marks-it : Marked job work n asked → (p : ℕ) → p < first-terms + n → T (stands (tree-at (listed job work n) p) (tree-at (listed job work n) asked)) → T (mark-of work p)
+  marks-it : Marked job work n asked → (p : ℕ) → p < first-terms + n → T (stands (tree-at (listed job work n) p) (tree-at (listed job work n) asked)) → T (mark-of job work p)
   marks-it m p l s = go (ltb p first-terms) (ltb-true p first-terms) (ltb-false p first-terms)
     where
-      go : (b : Bool) → (b ≡ true → p < first-terms) → (b ≡ false → first-terms ≤ p) → T (mark-of work p)
-      go true f g = subst T (mark-low work p (f refl)) tt
+      go : (b : Bool) → (b ≡ true → p < first-terms) → (b ≡ false → first-terms ≤ p) → T (mark-of job work p)
+      go true f g = subst T (mark-low job work p (f refl)) tt
       go false f g = subst T (sym (m .marks-are p (g refl) l)) s
 
   -- `true` and `false` are not refused
@@ -104,13 +104,13 @@ module _ {job work : Bytes} {n asked : ℕ} where
   low-kind m (suc zero) h = subst (λ (z : Term). T (bit-kind-in z)) (sym (tree-1 (listed job work n) (m .shelf .well))) tt
   low-kind m (suc (suc p)) h = absurd (omega arith)
 
-  pub searching-done : {k : ℕ} → Searching job work n asked k → asked < k → BitLevel (listed job work n) work n asked true
+  pub searching-done : {k : ℕ} → Searching job work n asked k → asked < k → BitLevel (listed job work n) job work n asked true
   searching-done {k} s h = record {
     is = sym (T-true (bit-level (tree-at (listed job work n) asked)) (level-by (tree-at (listed job work n) asked) each));
     kinds = λ e p l m. all p l m (ltb p first-terms) (ltb-true p first-terms) (ltb-false p first-terms) (leb p asked) (leb-true p asked) (leb-false p asked);
   }
     where
-      all : (p : ℕ) → p < first-terms + n → T (mark-of work p) → (b : Bool) → (b ≡ true → p < first-terms) → (b ≡ false → first-terms ≤ p) → (c : Bool) → (c ≡ true → p ≤ asked) → (c ≡ false → asked < p) → T (bit-kind-in (tree-at (listed job work n) p))
+      all : (p : ℕ) → p < first-terms + n → T (mark-of job work p) → (b : Bool) → (b ≡ true → p < first-terms) → (b ≡ false → first-terms ≤ p) → (c : Bool) → (c ≡ true → p ≤ asked) → (c ≡ false → asked < p) → T (bit-kind-in (tree-at (listed job work n) p))
       all p l m true f g c x y = low-kind (s .marked) p (f refl)
       all p l m false f g true x y = let z = x refl in s .kinds p (omega arith) m
       all p l m false f g false x y = absurd (subst T (s .marked .last p (g refl) (y refl) l) m)
@@ -123,7 +123,7 @@ module _ {job work : Bytes} {n asked : ℕ} where
           subst (λ (z : Term). T (bit-kind-in z)) (q .is)
           (s .kinds (q .place) (omega (arith, q .low)) (marks-it m (q .place) (omega (arith, q .low, m .low)) (subst (λ (z : Term). T (stands z (tree-at (listed job work n) asked))) (sym (q .is)) t)))
 
-  pub searching-not : {k : ℕ} → Searching job work n asked k → k ≤ asked → T (mark-of work k) → bit-kind-in (tree-at (listed job work n) k) ≡ false → BitLevel (listed job work n) work n asked false
+  pub searching-not : {k : ℕ} → Searching job work n asked k → k ≤ asked → T (mark-of job work k) → bit-kind-in (tree-at (listed job work n) k) ≡ false → BitLevel (listed job work n) job work n asked false
   searching-not {k} s l m e = record {
     is = off (bit-level (tree-at (listed job work n) asked)) (λ t. subst T e (go (ltb k first-terms) (ltb-true k first-terms) (ltb-false k first-terms) t));
     kinds = λ f. absurd (let z : _≡_ {A = ℕ} 0 1 = cc in omega arith);
@@ -134,14 +134,14 @@ module _ {job work : Bytes} {n asked : ℕ} where
       go false f g t = kinds-of (tree-at (listed job work n) asked) t (tree-at (listed job work n) k) (subst T (s .marked .marks-are k (g refl) (omega (arith, s .marked .low))) m)
 
   -- the marked terms, once all of them are bit-level
-  pub closed-of : Marked job work n asked → BitLevel (listed job work n) work n asked true → Closed job work n
+  pub closed-of : Marked job work n asked → BitLevel (listed job work n) job work n asked true → Closed job work n
   closed-of m a = record {
     shelf = m .shelf;
     closed = λ p l k j e. go p l k j e (ltb p first-terms) (ltb-true p first-terms) (ltb-false p first-terms);
     kinds = a .kinds refl;
   }
     where
-      go : (p : ℕ) → p < first-terms + n → T (mark-of work p) → (j : ℕ) → T (element j (args-at (listed job work n) p)) → (b : Bool) → (b ≡ true → p < first-terms) → (b ≡ false → first-terms ≤ p) → T (mark-of work j)
+      go : (p : ℕ) → p < first-terms + n → T (mark-of job work p) → (j : ℕ) → T (element j (args-at (number-length job) (listed job work n) p)) → (b : Bool) → (b ≡ true → p < first-terms) → (b ≡ false → first-terms ≤ p) → T (mark-of job work j)
       go p l k j e true f g = absurd (subst (λ (ks : List ℕ). T (element j ks)) (first-args (listed job work n) (m .shelf .well) p (f refl)) e)
       go p l k j e false f g =
           let q : p < length (listed job work n) = omega (arith, m .shelf .count) in

@@ -89,12 +89,12 @@ by-tests a b c d = a && (b && (c && d))
 abbrev all-bits : Plain → ℕ → ℕ
 all-bits list asked = total-bits (variables list (tree-at list asked))
 
-level-is : {list : Plain} {work : Bytes} {n asked : ℕ} {b : Bool} → BitLevel list work n asked b → b ≡ true → BitLevel list work n asked true
-level-is {list} {work} {n} {asked} l e = subst (BitLevel list work n asked) e l
+level-is : {list : Plain} {job work : Bytes} {n asked : ℕ} {b : Bool} → BitLevel list job work n asked b → b ≡ true → BitLevel list job work n asked true
+level-is {list} {job} {work} {n} {asked} l e = subst (BitLevel list job work n asked) e l
 
-module _ {list : Plain} {work : Bytes} {n asked : ℕ} {inputs : Bytes} {room : ℕ} {b : Bool} (l : BitLevel list work n asked b) where
+module _ {list : Plain} {job work : Bytes} {n asked : ℕ} {inputs : Bytes} {room : ℕ} {b : Bool} (l : BitLevel list job work n asked b) where
   -- the asked term is not of such kinds
-  pub not-level : b ≡ false → Derivable list work n asked inputs room false
+  pub not-level : b ≡ false → Derivable list job work n asked inputs room false
   not-level e = record {
     is = ap (λ (a : Bool). by-tests a (eqb (length inputs) (all-bits list asked)) (all-below 3 inputs) (leb (bits-in (tree-at list asked)) room)) (sym e ∙ l .is);
     level = λ f. absurd (false-true f);
@@ -102,7 +102,7 @@ module _ {list : Plain} {work : Bytes} {n asked : ℕ} {inputs : Bytes} {room : 
 
   module _ (e : b ≡ true) {size : ℕ} (f : size ≡ all-bits list asked) where
     -- not a byte for each bit
-    pub not-each : (length inputs ≡ size → ⊥) → Derivable list work n asked inputs room false
+    pub not-each : (length inputs ≡ size → ⊥) → Derivable list job work n asked inputs room false
     not-each g = record {
       is = λ i. by-tests (level-is l e .is i) (sym (ne-eqb (length inputs) (all-bits list asked) (λ h. g (h ∙ sym f))) i) (all-below 3 inputs) (leb (bits-in (tree-at list asked)) room);
       level = λ h. absurd (false-true h);
@@ -110,14 +110,14 @@ module _ {list : Plain} {work : Bytes} {n asked : ℕ} {inputs : Bytes} {room : 
 
     module _ (g : length inputs ≡ size) where
       -- a byte above 2
-      pub not-bytes : {c : Bool} → c ≡ all-below 3 inputs → c ≡ false → Derivable list work n asked inputs room false
+      pub not-bytes : {c : Bool} → c ≡ all-below 3 inputs → c ≡ false → Derivable list job work n asked inputs room false
       not-bytes h k = record {
         is = λ i. by-tests (level-is l e .is i) (sym (eq-eqb (length inputs) (all-bits list asked) (g ∙ f)) i) ((sym k ∙ h) i) (leb (bits-in (tree-at list asked)) room);
         level = λ z. absurd (false-true z);
       }
 
       -- the output decides
-      pub by-room : {c : Bool} → c ≡ all-below 3 inputs → c ≡ true → {w : ℕ} → w ≡ bits-in (tree-at list asked) → Derivable list work n asked inputs room (leb w room)
+      pub by-room : {c : Bool} → c ≡ all-below 3 inputs → c ≡ true → {w : ℕ} → w ≡ bits-in (tree-at list asked) → Derivable list job work n asked inputs room (leb w room)
       by-room h k d = record {
         is = λ i. by-tests (level-is l e .is i) (sym (eq-eqb (length inputs) (all-bits list asked) (g ∙ f)) i) ((sym k ∙ h) i) (leb (d i) room);
         level = λ z. level-is l e;
@@ -150,18 +150,18 @@ module _ {job work : Bytes} {n : ℕ} {values : Bytes} {asked : ℕ} {inputs out
   asked-low : asked < length list
   asked-low = omega (arith, s .marked .shelf .count, s .marked .low)
 
-  asked-marked : T (mark-of work asked)
+  asked-marked : T (mark-of job work asked)
   asked-marked = go (ltb asked first-terms) (ltb-true asked first-terms) (ltb-false asked first-terms)
     where
-      go : (b : Bool) → (b ≡ true → asked < first-terms) → (b ≡ false → first-terms ≤ asked) → T (mark-of work asked)
-      go true f g = subst T (mark-low work asked (f refl)) tt
+      go : (b : Bool) → (b ≡ true → asked < first-terms) → (b ≡ false → first-terms ≤ asked) → T (mark-of job work asked)
+      go true f g = subst T (mark-low job work asked (f refl)) tt
       go false f g = subst T (sym (s .marked .marks-are asked (g refl) (s .marked .low))) (stands-self (tree-at list asked))
 
   closed : Closed job work n
   closed = closed-of (s .marked) (s .level)
 
   -- a marked variable stands in the asked term
-  variable-stands : (p : ℕ) → p < length list → T (mark-of work p) → T (is-variable (tree-at list p)) → T (stands (tree-at list p) (tree-at list asked))
+  variable-stands : (p : ℕ) → p < length list → T (mark-of job work p) → T (is-variable (tree-at list p)) → T (stands (tree-at list p) (tree-at list asked))
   variable-stands zero l m v = absurd (subst (λ (t : Term). T (is-variable t)) (tree-0 list (s .marked .shelf .well)) v)
   variable-stands (suc zero) l m v = absurd (subst (λ (t : Term). T (is-variable t)) (tree-1 list (s .marked .shelf .well)) v)
   variable-stands (suc (suc p)) l m v = subst T (s .marked .marks-are (suc (suc p)) (omega arith) (omega (arith, s .marked .shelf .count))) m
@@ -173,7 +173,7 @@ module _ {job work : Bytes} {n : ℕ} {values : Bytes} {asked : ℕ} {inputs out
     abbrev input : Term → List Known
     input = input-of (variables list (tree-at list asked)) inputs
 
-    inputs-there : Offsets input list work inputs mid
+    inputs-there : Offsets input list job work inputs mid
     inputs-there p l m v = offsets d inputs (s .inputs-are) p l (good-at list p (s .marked .shelf .sorted) l) v (variable-stands p l m v)
 
     known-length : length (known input (tree-at list asked)) ≡ bits-in (tree-at list asked)
@@ -184,8 +184,8 @@ module _ {job work : Bytes} {n : ℕ} {values : Bytes} {asked : ℕ} {inputs out
     pub derive-output : {size : ℕ} → Few size (bits-in (tree-at list asked)) → Output job work n asked size outputs
     derive-output f = record { closed = closed; low = s .marked .low; marked = asked-marked; bits-are = f .value; room = omega (arith, f .value, s .output-room) }
 
-    module _ {next : Bytes} (e : Passed list work inputs asked mid next) where
-      pub derive-bytes : {size : ℕ} → Few size (bits-in (tree-at list asked)) → {after : Bytes} → Wrote list work inputs next asked size outputs after
+    module _ {next : Bytes} (e : Passed list job work inputs asked mid next) where
+      pub derive-bytes : {size : ℕ} → Few size (bits-in (tree-at list asked)) → {after : Bytes} → Wrote list job work inputs next asked size outputs after
           → after ≡ written (bits-of list asked inputs) outputs
       derive-bytes {size} f {after} w =
           let t = tree-at list asked in
@@ -236,10 +236,10 @@ done values old new e f z = (ap (λ (x : Derived). x .code) (sym e), (f ∙ ap (
 
 -- ---- after the marks
 module _ {job work after : Bytes} {n asked : ℕ} (m : Marks job work n asked after) where
-  pub derivable-moved : {inputs : Bytes} {output : ℕ} {r b : Bool} → Derivable (listed job after n) after n asked inputs output r → r ≡ b → b ≡ derivable (listed job work n) (tree-at (listed job work n) asked) inputs output
+  pub derivable-moved : {inputs : Bytes} {output : ℕ} {r b : Bool} → Derivable (listed job after n) job after n asked inputs output r → r ≡ b → b ≡ derivable (listed job work n) (tree-at (listed job work n) asked) inputs output
   derivable-moved {inputs} {output} d e = sym e ∙ d .is ∙ ap (λ (list : Plain). derivable list (tree-at list asked) inputs output) (m .list-is)
 
-  pub accepted-of : {values inputs outputs : Bytes} {r : Bool} → asked < first-terms + n → Derivable (listed job after n) after n asked inputs (length outputs) r → r ≡ true → 8 * (n + 2) ≤ length values
+  pub accepted-of : {values inputs outputs : Bytes} {r : Bool} → asked < first-terms + n → Derivable (listed job after n) job after n asked inputs (length outputs) r → r ≡ true → 8 * (n + 2) ≤ length values
       → Accepted job after n values asked inputs outputs
   accepted-of {values} {inputs} {outputs} l d e r =
       let list = listed job after n in

@@ -20,7 +20,7 @@ pub record Writing (job work : Bytes) (n : ℕ) (values inputs : Bytes) (asked b
   pub able : Output job work n asked bits outputs
   pub most : i ≤ bits
   pub length-is : length now ≡ length outputs
-  pub holds : (input : Term → List Known) → Sound input (listed job work n) work inputs values (suc asked) → Holds (byte-of input (tree-at (listed job work n) asked)) i outputs now
+  pub holds : (input : Term → List Known) → Sound input (listed job work n) job work inputs values (suc asked) → Holds (byte-of input (tree-at (listed job work n) asked)) i outputs now
 
 module _ {job work : Bytes} {n : ℕ} {values inputs : Bytes} {asked bits : ℕ} {outputs : Bytes} where
   pub writing-start : Output job work n asked bits outputs → Writing job work n values inputs asked bits outputs outputs 0
@@ -33,7 +33,7 @@ module _ {job work : Bytes} {n : ℕ} {values inputs : Bytes} {asked bits : ℕ}
     pub writing-low : i < length now
     writing-low = omega (arith, s .length-is, s .able .room)
 
-    pub writing-turn : {x v : ℕ} → BitOn (listed job work n) work inputs values asked i x → v ≡ known-byte (of-byte x) → Writing job work n values inputs asked bits outputs (set now i v) (i + 1)
+    pub writing-turn : {x v : ℕ} → BitOn (listed job work n) job work inputs values asked i x → v ≡ known-byte (of-byte x) → Writing job work n values inputs asked bits outputs (set now i v) (i + 1)
     writing-turn {x} {v} b e = record {
       able = s .able;
       most = omega arith;
@@ -43,7 +43,7 @@ module _ {job work : Bytes} {n : ℕ} {values inputs : Bytes} {asked bits : ℕ}
           (e ∙ ap (λ (k : ℕ). known-byte (of-byte k)) (b input sound) ∙ ap known-byte (byte-back (getD (known input (tree-at (listed job work n) asked)) i unknown))) (s .holds input sound));
     }
 
-  pub writing-done : {now : Bytes} {i : ℕ} → Writing job work n values inputs asked bits outputs now i → bits ≤ i → Wrote (listed job work n) work inputs values asked bits outputs now
+  pub writing-done : {now : Bytes} {i : ℕ} → Writing job work n values inputs asked bits outputs now i → bits ≤ i → Wrote (listed job work n) job work inputs values asked bits outputs now
   writing-done {now} {i} s h = record {
     length-is = s .length-is;
     holds = λ input sound. subst (λ (k : ℕ). Holds (byte-of input (tree-at (listed job work n) asked)) k outputs now) (let z : i ≡ bits = omega (arith, s .most) in z) (s .holds input sound);

@@ -41,7 +41,7 @@ pub record Knowing (job work : Bytes) (n : ℕ) (inputs : Bytes) (asked : ℕ) (
   pub most : k ≤ suc asked
   pub length-is : length now ≡ length values
   pub above : (p : ℕ) → k ≤ p → cell-at now p ≡ cell-at values p
-  pub sound : (input : Term → List Known) → Offsets input (listed job work n) work inputs values → Sound input (listed job work n) work inputs now k
+  pub sound : (input : Term → List Known) → Offsets input (listed job work n) job work inputs values → Sound input (listed job work n) job work inputs now k
 
 module _ {job work : Bytes} {n : ℕ} {inputs : Bytes} {asked : ℕ} {values : Bytes} where
   pub knowing-start : Ready job work n values asked → Knowing job work n inputs asked values values 0
@@ -57,7 +57,7 @@ module _ {job work : Bytes} {n : ℕ} {inputs : Bytes} {asked : ℕ} {values : B
     pub know-cell : k * cell-bytes + cell-bytes ≤ length now
     know-cell = omega (arith, s .ready .room, s .length-is, list-low)
 
-    pub know-asked : T (mark-of work k) → {w : ℕ} → w ≡ sort-width (sort-of (tree-at (listed job work n) k)) → w ≡ 0 → KnownAsked job work n k
+    pub know-asked : T (mark-of job work k) → {w : ℕ} → w ≡ sort-width (sort-of (tree-at (listed job work n) k)) → w ≡ 0 → KnownAsked job work n k
     know-asked m e z = record { closed = s .ready .closed; low = know-low; marked = m; bool-there = sym e ∙ z }
 
     lower : (p : ℕ) → p < k + 1 → (p ≡ k → ⊥) → p < k
@@ -71,14 +71,14 @@ module _ {job work : Bytes} {n : ℕ} {inputs : Bytes} {asked : ℕ} {values : B
         to false y u = w p (u refl)
 
     -- a Bool's bit is stored
-    pub know-turn : T (mark-of work k) → {w : ℕ} → w ≡ sort-width (sort-of (tree-at (listed job work n) k)) → w ≡ 0 → {v : ℕ} {after : Bytes} → v < 18446744073709551616
-        → KnownOn (listed job work n) work inputs now k v → after ≡ stored-cell now k v → Knowing job work n inputs asked values after (k + 1)
+    pub know-turn : T (mark-of job work k) → {w : ℕ} → w ≡ sort-width (sort-of (tree-at (listed job work n) k)) → w ≡ 0 → {v : ℕ} {after : Bytes} → v < 18446744073709551616
+        → KnownOn (listed job work n) job work inputs now k v → after ≡ stored-cell now k v → Knowing job work n inputs asked values after (k + 1)
     know-turn t d y {v} {after} f g e = subst (λ (m : Bytes). Knowing job work n inputs asked values m (k + 1)) (sym e) (record {
       ready = s .ready;
       most = omega arith;
       length-is = length-cell now k v know-cell ∙ s .length-is;
       above = λ p h. cell-other now k v know-cell p (λ z. absurd (omega arith)) ∙ s .above p (omega arith);
-      sound = λ input o. by-place (λ p. p < k + 1 → T (mark-of work p) → Tells input (listed job work n) inputs (stored-cell now k v) p)
+      sound = λ input o. by-place (λ p. p < k + 1 → T (mark-of job work p) → Tells input (listed job work n) inputs (stored-cell now k v) p)
           (λ h m. record {
             bool-is = λ z. cell-here now k v know-cell f ∙ g input (s .sound input o) (λ i. offset-moved (s .above k (omega arith)) (o k list-low m i));
             variable-is = λ z. absurd (z (sym d ∙ y));
@@ -87,13 +87,13 @@ module _ {job work : Bytes} {n : ℕ} {inputs : Bytes} {asked : ℕ} {values : B
     })
 
     -- any other term is passed by
-    pub know-over : (T (mark-of work k) → sort-width (sort-of (tree-at (listed job work n) k)) ≡ 0 → ⊥) → Knowing job work n inputs asked values now (k + 1)
+    pub know-over : (T (mark-of job work k) → sort-width (sort-of (tree-at (listed job work n) k)) ≡ 0 → ⊥) → Knowing job work n inputs asked values now (k + 1)
     know-over b = record {
       ready = s .ready;
       most = omega arith;
       length-is = s .length-is;
       above = λ p h. s .above p (omega arith);
-      sound = λ input o. by-place (λ p. p < k + 1 → T (mark-of work p) → Tells input (listed job work n) inputs now p)
+      sound = λ input o. by-place (λ p. p < k + 1 → T (mark-of job work p) → Tells input (listed job work n) inputs now p)
           (λ h m. record { bool-is = λ z. absurd (b m z); variable-is = λ z i. offset-moved (s .above k (omega arith)) (o k list-low m i) })
           (λ p q h m. s .sound input o p (lower p h q) m);
     }
@@ -102,10 +102,10 @@ module _ {job work : Bytes} {n : ℕ} {inputs : Bytes} {asked : ℕ} {values : B
   know-same {k = k} e r = subst (λ (z : Bytes). Knowing job work n inputs asked values z k) (sym e) r
 
   -- on to the next marked place
-  pub know-next : {now : Bytes} {k q : ℕ} → Knowing job work n inputs asked values now (k + 1) → Next work asked k q → Knowing job work n inputs asked values now q
+  pub know-next : {now : Bytes} {k q : ℕ} → Knowing job work n inputs asked values now (k + 1) → Next job work asked k q → Knowing job work n inputs asked values now q
   know-next {now} {k} {q} s e =
-      jump (Knowing job work n inputs asked values now) (λ r. mark-of work r ≡ false) q
+      jump (Knowing job work n inputs asked values now) (λ r. mark-of job work r ≡ false) q
       (λ j l m i. know-over i (omega (arith, e .most)) (λ t. absurd (subst T m t))) (q - (k + 1)) (k + 1) (omega (arith, e .above)) (λ r a b. e .between r (omega arith) b) s
 
-  pub know-done : {now : Bytes} {k : ℕ} → Knowing job work n inputs asked values now k → asked < k → Passed (listed job work n) work inputs asked values now
+  pub know-done : {now : Bytes} {k : ℕ} → Knowing job work n inputs asked values now k → asked < k → Passed (listed job work n) job work inputs asked values now
   know-done {now} {k} s l = record { length-is = s .length-is; sound = λ input o j h m. s .sound input o j (omega arith) m }

@@ -12,6 +12,6 @@ use Rattle.marks.specs.Marks.{mark-of}
 use Rattle.ternary.specs.Bits.{bit-kind-in}
 
 -- r says whether the asked term is one; the kind of every marked term is then not refused
-pub record BitLevel (list : Plain) (work : Bytes) (n asked : ℕ) (r : Bool) : Type 0 where
+pub record BitLevel (list : Plain) (job work : Bytes) (n asked : ℕ) (r : Bool) : Type 0 where
   pub is : r ≡ bit-level (tree-at list asked)
-  pub kinds : r ≡ true → (p : ℕ) → p < first-terms + n → T (mark-of work p) → T (bit-kind-in (tree-at list p))
+  pub kinds : r ≡ true → (p : ℕ) → p < first-terms + n → T (mark-of job work p) → T (bit-kind-in (tree-at list p))

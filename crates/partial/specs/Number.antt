@@ -16,14 +16,14 @@ use Rattle.digits.specs.Digits.{Marked}
 use Rattle.partial.specs.Levels.{BitLevel}
 
 -- r says whether the bits of the asked term are given
-pub record Derivable (list : Plain) (work : Bytes) (n asked : ℕ) (inputs : Bytes) (output : ℕ) (r : Bool) : Type 0 where
+pub record Derivable (list : Plain) (job work : Bytes) (n asked : ℕ) (inputs : Bytes) (output : ℕ) (r : Bool) : Type 0 where
   pub is : r ≡ derivable list (tree-at list asked) inputs output
-  pub level : r ≡ true → BitLevel list work n asked true
+  pub level : r ≡ true → BitLevel list job work n asked true
 
 -- they are, and the memories have room
 pub record Accepted (job work : Bytes) (n : ℕ) (values : Bytes) (asked : ℕ) (inputs outputs : Bytes) : Type 0 where
   pub marked : Marked job work n asked
-  pub level : BitLevel (listed job work n) work n asked true
+  pub level : BitLevel (listed job work n) job work n asked true
   pub inputs-are : length inputs ≡ total-bits (variables (listed job work n) (tree-at (listed job work n) asked))
   pub room : cell-bytes * length (listed job work n) ≤ length values
   pub output-room : bits-in (tree-at (listed job work n) asked) ≤ length outputs

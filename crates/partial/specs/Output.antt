@@ -20,7 +20,7 @@ use Rattle.ternary.specs.Bits.{Closed, Sound}
 pub record Output (job work : Bytes) (n asked bits : ℕ) (outputs : Bytes) : Type 0 where
   pub closed : Closed job work n
   pub low : asked < first-terms + n
-  pub marked : T (mark-of work asked)
+  pub marked : T (mark-of job work asked)
   pub bits-are : bits ≡ bits-in (tree-at (listed job work n) asked)
   pub room : bits ≤ length outputs
 
@@ -29,7 +29,7 @@ abbrev pub byte-of : (Term → List Known) → Term → ℕ → ℕ
 byte-of input t j = known-byte (getD (known input t) j unknown)
 
 -- the first bytes are those of the asked term's bits, where the cells are sound, and the others are as before
-pub record Wrote (list : Plain) (work inputs values : Bytes) (asked bits : ℕ) (outputs after : Bytes) : Type 0 where
+pub record Wrote (list : Plain) (job work inputs values : Bytes) (asked bits : ℕ) (outputs after : Bytes) : Type 0 where
   pub length-is : length after ≡ length outputs
-  pub holds : (input : Term → List Known) → Sound input list work inputs values (suc asked)
+  pub holds : (input : Term → List Known) → Sound input list job work inputs values (suc asked)
       → Holds (byte-of input (tree-at list asked)) bits outputs after

@@ -23,11 +23,11 @@ pub record Ready (job work : Bytes) (n : ℕ) (values : Bytes) (asked : ℕ) : T
   pub room : cell-bytes * length (listed job work n) ≤ length values
 
 -- the cells of the marked variables say where their bits stand
-abbrev pub Offsets : (Term → List Known) → Plain → Bytes → Bytes → Bytes → Type 0
-Offsets input list work inputs values =
-    (p : ℕ) → p < length list → T (mark-of work p) → T (is-variable (tree-at list p)) → Offset input list inputs values p
+abbrev pub Offsets : (Term → List Known) → Plain → Bytes → Bytes → Bytes → Bytes → Type 0
+Offsets input list job work inputs values =
+    (p : ℕ) → p < length list → T (mark-of job work p) → T (is-variable (tree-at list p)) → Offset input list inputs values p
 
 -- then the cells up to the asked one are sound
-pub record Passed (list : Plain) (work inputs : Bytes) (asked : ℕ) (values after : Bytes) : Type 0 where
+pub record Passed (list : Plain) (job work inputs : Bytes) (asked : ℕ) (values after : Bytes) : Type 0 where
   pub length-is : length after ≡ length values
-  pub sound : (input : Term → List Known) → Offsets input list work inputs values → Sound input list work inputs after (suc asked)
+  pub sound : (input : Term → List Known) → Offsets input list job work inputs values → Sound input list job work inputs after (suc asked)

@@ -24,6 +24,6 @@ pub fn place_inputs(job: &[u8], work: &[u8], n: usize, values: &mut [u8], asked:
             put_cell(values, k, at);
             at = at + b as u64;
         }
-        k = next_marked(work, asked, k);
+        k = next_marked(job, work, asked, k);
     }
 }

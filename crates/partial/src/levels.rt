@@ -8,14 +8,14 @@ use ternary::kinds::is_bit_kind;
 // Is the asked term of such kinds alone?
 pub fn is_bit_level(job: &[u8], work: &[u8], n: usize, asked: u32) -> bool
     requires { ⌜ Marked (now job) (now work) n asked ⌝ }
-    ensures { λ r. ⌜ BitLevel (listed (now (job .entry)) (now (work .entry)) n) (now (work .entry)) n asked r ⌝ }
+    ensures { λ r. ⌜ BitLevel (listed (now (job .entry)) (now (work .entry)) n) (now (job .entry)) (now (work .entry)) n asked r ⌝ }
 {
     let mut k: u32 = 0;
     while k <= asked {
         if !is_bit_kind(job, work, n, k) {
             return false;
         }
-        k = next_marked(work, asked, k);
+        k = next_marked(job, work, asked, k);
     }
     true
 }

@@ -31,7 +31,7 @@ pub fn write_bits(
 )
     requires { ⌜ Output (now job) (now work) n asked bits (now outputs) ⌝ }
     ensures { λ _. let list = listed (now (job .entry)) (now (work .entry)) n in
-        ⌜ Wrote list (now (work .entry)) (now (inputs .entry)) (now (values .entry)) asked bits
+        ⌜ Wrote list (now (job .entry)) (now (work .entry)) (now (inputs .entry)) (now (values .entry)) asked bits
         (now (outputs .entry)) (now (outputs .exit)) ⌝ }
 {
     let mut i: u32 = 0;

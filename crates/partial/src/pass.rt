@@ -11,7 +11,7 @@ use ternary::known::known_of;
 pub fn known_all(job: &[u8], work: &[u8], n: usize, values: &mut [u8], inputs: &[u8], asked: u32)
     requires { ⌜ Ready (now job) (now work) n (now values) asked ⌝ }
     ensures { λ _. let list = listed (now (job .entry)) (now (work .entry)) n in
-        ⌜ Passed list (now (work .entry)) (now (inputs .entry)) asked (now (values .entry)) (now (values .exit)) ⌝ }
+        ⌜ Passed list (now (job .entry)) (now (work .entry)) (now (inputs .entry)) asked (now (values .entry)) (now (values .exit)) ⌝ }
 {
     let mut k: u32 = 0;
     while k <= asked {
@@ -19,6 +19,6 @@ pub fn known_all(job: &[u8], work: &[u8], n: usize, values: &mut [u8], inputs: &
             let v = known_of(job, work, n, values, inputs, k);
             put_cell(values, k, v);
         }
-        k = next_marked(work, asked, k);
+        k = next_marked(job, work, asked, k);
     }
 }

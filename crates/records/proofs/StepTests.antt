@@ -1,17 +1,21 @@
 -- The tests of a step, as the code makes them one after the other.
-use mathlib.Core.Path.{_≡_, refl, _∙_}
+use mathlib.Core.Path.{_≡_, refl, ap, _∙_}
 use mathlib.Core.Bool.{Bool, true, false, cond}
 use mathlib.Core.Option.{none}
 use mathlib.Core.List.{List, [], _∷_}
-use Prim.Native.Nat.{ℕ, zero, suc, _-_, _*_, _<_, _≤_}
+use Prim.Native.Nat.{ℕ, zero, suc, _+_, _-_, _*_, _<_, _≤_}
 use native.Mathlib.Omega.{arith}
 use lib.Dec.{leb}
-use lib.ListN.{length, getElem?}
-use borrow.Author.Tests.{le-leb, lt-leb, lt-ltb, le-ltb}
-use Rattle.theory.specs.Limit.{answer-bytes, number-bytes}
+use lib.ListN.{length, drop, getElem?}
+use borrow.Author.Tests.{eq-eqb, ne-eqb, le-leb, lt-leb, lt-ltb, le-ltb}
+use Rattle.theory.specs.Limit.{answer-bytes}
 use Rattle.theory.specs.Optional.{is-some}
 use Rattle.theory.specs.RuleTable.{Rule, rules, rule-at, chain-rules, chain-rule-at}
-use Rattle.theory.specs.Codes.{first-fault, all-below, step-tests}
+use Rattle.theory.specs.Record.{Bytes, word, whole, kind-of, body-of, long-kind}
+use Rattle.terms.specs.Framing.{record-at}
+use Rattle.terms.proofs.Parts.{length-part}
+use Rattle.terms.proofs.Reading.{stands, body-there}
+use Rattle.theory.specs.Codes.{first-fault, all-below, step-tests, opening-tests}
 
 -- ---- a rule's number is 1 to 30
 -- such a number has a rule
@@ -69,24 +73,50 @@ pub one-gone : (n k : ℕ) → n ≤ k → all-below n (k ∷ []) ≡ false
 one-gone n k h = rw (le-ltb k n h)
 
 -- ---- the first test that fails gives the code
-module _ (terms space answered : ℕ) (known : Bool) (ks : List ℕ) where
+module _ (b terms space answered : ℕ) (known : Bool) (ks : List ℕ) where
   -- a literal is not kept
-  pub fault-6 : all-below terms ks ≡ false → 6 ≡ first-fault (step-tests number-bytes terms space answered known ks)
+  pub fault-6 : all-below terms ks ≡ false → 6 ≡ first-fault (step-tests b terms space answered known ks)
   fault-6 a = rw a
 
   -- there is no such rule
-  pub fault-9 : all-below terms ks ≡ true → known ≡ false → 9 ≡ first-fault (step-tests number-bytes terms space answered known ks)
-  fault-9 a b = rw (a, b)
+  pub fault-9 : all-below terms ks ≡ true → known ≡ false → 9 ≡ first-fault (step-tests b terms space answered known ks)
+  fault-9 a k = rw (a, k)
 
   -- what the last test says
-  pub fault-room : all-below terms ks ≡ true → known ≡ true → {c : ℕ} → c ≡ cond (leb (answer-bytes number-bytes * suc answered) space) 0 19
-      → c ≡ first-fault (step-tests number-bytes terms space answered known ks)
-  fault-room a b e = e ∙ rw (a, b)
+  pub fault-room : all-below terms ks ≡ true → known ≡ true → {c : ℕ} → c ≡ cond (leb (answer-bytes b * suc answered) space) 0 19
+      → c ≡ first-fault (step-tests b terms space answered known ks)
+  fault-room a k e = e ∙ rw (a, k)
 
 -- there is no room for one more answer
-pub no-room : (space answered : ℕ) → space < answer-bytes number-bytes * suc answered → _≡_ {A = ℕ} 19 (cond (leb (answer-bytes number-bytes * suc answered) space) 0 19)
-no-room space answered h = rw (lt-leb (answer-bytes number-bytes * suc answered) space h)
+pub no-room : (b space answered : ℕ) → space < answer-bytes b * suc answered → _≡_ {A = ℕ} 19 (cond (leb (answer-bytes b * suc answered) space) 0 19)
+no-room b space answered h = rw (lt-leb (answer-bytes b * suc answered) space h)
 
 -- there is
-pub some-room : (space answered : ℕ) → answer-bytes number-bytes * suc answered ≤ space → _≡_ {A = ℕ} 0 (cond (leb (answer-bytes number-bytes * suc answered) space) 0 19)
-some-room space answered h = rw (le-leb (answer-bytes number-bytes * suc answered) space h)
+pub some-room : (b space answered : ℕ) → answer-bytes b * suc answered ≤ space → _≡_ {A = ℕ} 0 (cond (leb (answer-bytes b * suc answered) space) 0 19)
+some-room b space answered h = rw (le-leb (answer-bytes b * suc answered) space h)
+
+-- ---- a record that says no term, step, chain or back: the job's first may ask for long numbers
+module _ (place : ℕ) (r : Bytes) where
+  -- it is not the first
+  pub opening-later : (place ≡ 0 → ⊥) → 4 ≡ first-fault (opening-tests place r)
+  opening-later h = rw (ne-eqb place 0 h)
+
+  -- it asks for something else
+  pub opening-other : place ≡ 0 → (kind-of r ≡ long-kind → ⊥) → 4 ≡ first-fault (opening-tests place r)
+  opening-other e h = rw (eq-eqb place 0 e, ne-eqb (kind-of r) long-kind h)
+
+  -- it has a body
+  pub opening-body : place ≡ 0 → kind-of r ≡ long-kind → (length (body-of r) ≡ 0 → ⊥) → 5 ≡ first-fault (opening-tests place r)
+  opening-body e k h = rw (eq-eqb place 0 e, eq-eqb (kind-of r) long-kind k, ne-eqb (length (body-of r)) 0 h)
+
+  -- it has none
+  pub opening-none : place ≡ 0 → kind-of r ≡ long-kind → length (body-of r) ≡ 0 → 0 ≡ first-fault (opening-tests place r)
+  opening-none e k h = rw (eq-eqb place 0 e, eq-eqb (kind-of r) long-kind k, eq-eqb (length (body-of r)) 0 h)
+
+-- the length of its body
+pub body-length : (job : Bytes) (at n : ℕ) → whole (drop at job) ≡ true → n ≡ word (drop at job) → length (body-of (record-at job at)) ≡ n - 2
+body-length job at n w e =
+    let s = stands job at w in
+    let low = s .low in
+    let end = s .end in
+    ap length (body-there s e) ∙ length-part job (at + 4) (n - 2) (omega arith)

@@ -2,17 +2,20 @@
 ghost use mathlib.Core.Path.{_≡_};
 ghost use mathlib.Core.Bool.{true, cond};
 ghost use mathlib.Core.List.{[], _∷_};
-ghost use Prim.Native.Nat.{suc, _+_, _*_, _≤_};
+ghost use Prim.Native.Nat.{ℕ, suc, _+_, _*_, _<_, _≤_};
 ghost use lib.Dec.{leb};
 ghost use lib.ListN.{length, drop};
 ghost use Rattle.theory.specs.Limit as L;
-ghost use Rattle.theory.specs.Limit.{answer-bytes, first-terms, max-terms, number-bytes};
+ghost use Rattle.theory.specs.Limit.{answer-bytes, first-terms};
 ghost use Rattle.theory.specs.Optional.{is-some};
 ghost use Rattle.theory.specs.RuleTable.{rule-at, chain-rule-at};
-ghost use Rattle.theory.specs.Record.{Bytes, whole};
-ghost use Rattle.theory.specs.Codes.{first-fault, step-tests};
+ghost use Rattle.theory.specs.Record.{Bytes, whole, number-length};
+ghost use Rattle.theory.specs.Codes.{first-fault, step-tests, opening-tests};
 ghost use Rattle.terms.specs.declared.Item.the-variants as I;
+ghost use Rattle.terms.specs.Framing.{record-at};
+ghost use Rattle.terms.specs.Bodies.{Length};
 ghost use Rattle.terms.specs.Decoded.{Inside, words-in};
+ghost use Rattle.rows.specs.Layout.{place-end};
 ghost use Rattle.intern.specs.Interning.{limits-of, code-of, rows-after};
 ghost use Rattle.steps.specs.Answering.{given, with-notes};
 ghost use Rattle.chains.specs.Premises.{Noted};
@@ -27,8 +30,8 @@ use steps::answer;
 use steps::answers::Reply;
 use steps::answers::put_answer;
 use steps::judge;
-use terms::ANSWER_BYTES;
 use terms::Args;
+use terms::DEPTH_AT;
 use terms::Item;
 use terms::Term;
 
@@ -92,8 +95,8 @@ fn term_record(
     term: Term,
 ) -> Turn
     requires { ⌜ Reading (now job) (now work) rows at (I.Term term) ⌝ }
-    ensures { λ r. ⌜ ((answers : Bytes)
-        → Turned (limits-of limits) (now (job .entry)) (now (work .entry)) answers rows answered at (now (work .exit)) answers r) ⌝ }
+    ensures { λ r. ⌜ ((place : ℕ) (answers : Bytes)
+        → Turned (limits-of limits) place (now (job .entry)) (now (work .entry)) answers rows answered at (now (work .exit)) answers r) ⌝ }
 {
     if !term.below(job, (rows + FIRST_PLACE) as u32) {
         return Turn {
@@ -107,12 +110,13 @@ fn term_record(
     kept_turn(kept, answered, rows)
 }
 
-// 19 where there is no room for one more answer, or 0.
-fn room_fault(answered: usize, space: usize) -> u32
-    requires { ⌜ answer-bytes number-bytes * answered ≤ space ⌝ }
-    ensures { λ r. ⌜ r ≡ cond (leb (answer-bytes number-bytes * suc answered) space) 0 19 ⌝ }
+// 19 where there is no room for one more answer, whose depth has so many bytes, or 0.
+fn room_fault(bytes: usize, answered: usize, space: usize) -> u32
+    requires { ⌜ Length bytes × (answer-bytes bytes * answered ≤ space) ⌝ }
+    ensures { λ r. ⌜ r ≡ cond (leb (answer-bytes bytes * suc answered) space) 0 19 ⌝ }
 {
-    if space - ANSWER_BYTES * answered < ANSWER_BYTES {
+    let size = DEPTH_AT + bytes;
+    if space - size * answered < size {
         return 19;
     }
     0
@@ -121,14 +125,15 @@ fn room_fault(answered: usize, space: usize) -> u32
 // The code that stops the job at a step, or 0: 6 where a literal is not kept, 9 where there is no such rule, 19 where there is no room for its answer.
 fn step_fault(
     job: &[u8],
+    bytes: usize,
     rows: usize,
     answered: usize,
     space: usize,
     rule: u32,
     literals: Args,
 ) -> u32
-    requires { ⌜ Inside (now job) literals × (rows + first-terms ≤ max-terms) × (answer-bytes number-bytes * answered ≤ space) ⌝ }
-    ensures { λ r. ⌜ r ≡ first-fault (step-tests number-bytes (rows + first-terms) space answered (is-some (rule-at rule)) (words-in (now (job .entry)) literals)) ⌝ }
+    requires { ⌜ Inside (now job) literals × Length bytes × (rows + first-terms < place-end) × (answer-bytes bytes * answered ≤ space) ⌝ }
+    ensures { λ r. ⌜ r ≡ first-fault (step-tests bytes (rows + first-terms) space answered (is-some (rule-at rule)) (words-in (now (job .entry)) literals)) ⌝ }
 {
     if !Term::all_below(job, literals, (rows + FIRST_PLACE) as u32) {
         return 6;
@@ -139,23 +144,24 @@ fn step_fault(
     if LAST_RULE < rule {
         return 9;
     }
-    room_fault(answered, space)
+    room_fault(bytes, answered, space)
 }
 
 // The answer to a step of either kind is written.
 fn answered_turn(
     answers: &mut [u8],
+    bytes: usize,
     rows: usize,
     answered: usize,
     at: usize,
     rule: u32,
     reply: Reply,
 ) -> Turn
-    requires { ⌜ answer-bytes number-bytes * suc answered ≤ length (now answers) ⌝ }
-    ensures written { λ _. ⌜ now (answers .exit) ≡ with-notes (now (answers .entry)) answered at (given rule reply ∷ []) ⌝ }
+    requires { ⌜ Length bytes × (answer-bytes bytes * suc answered ≤ length (now answers)) ⌝ }
+    ensures written { λ _. ⌜ now (answers .exit) ≡ with-notes bytes (now (answers .entry)) answered at (given rule reply ∷ []) ⌝ }
     ensures turned { λ r. ⌜ r ≡ turn 0 (answered + 1) rows 0 ⌝ }
 {
-    put_answer(answers, answered, at, rule, reply);
+    put_answer(answers, bytes, answered, at, rule, reply);
     Turn {
         code: 0,
         answers: answered + 1,
@@ -175,11 +181,12 @@ fn step_record(
     rule: u32,
     literals: Args,
 ) -> Turn
-    requires { ⌜ Reading (now job) (now work) rows at (I.Step rule literals) × (answer-bytes number-bytes * answered ≤ length (now answers)) ⌝ }
-    ensures { λ r. ⌜ ((limits : L.Limits)
-        → Turned limits (now (job .entry)) (now (work .entry)) (now (answers .entry)) rows answered at (now (work .entry)) (now (answers .exit)) r) ⌝ }
+    requires { ⌜ Reading (now job) (now work) rows at (I.Step rule literals) × (answer-bytes (number-length (now job)) * answered ≤ length (now answers)) ⌝ }
+    ensures { λ r. ⌜ ((limits : L.Limits) (place : ℕ)
+        → Turned limits place (now (job .entry)) (now (work .entry)) (now (answers .entry)) rows answered at (now (work .entry)) (now (answers .exit)) r) ⌝ }
 {
-    let code = step_fault(job, rows, answered, answers.len(), rule, literals);
+    let bytes = Term::number_length(job);
+    let code = step_fault(job, bytes, rows, answered, answers.len(), rule, literals);
     if code != 0 {
         return Turn {
             code: code,
@@ -189,13 +196,20 @@ fn step_record(
         };
     }
     let reply = answer(job, work, rows, rule, literals);
-    answered_turn(answers, rows, answered, at, rule, reply)
+    answered_turn(answers, bytes, rows, answered, at, rule, reply)
 }
 
 // The code that stops the job at a chain, or 0: 6 where its literal is not kept, 9 where there is no such rule, 19 where there is no room for its answer.
-fn chain_fault(rows: usize, answered: usize, space: usize, rule: u32, literal: u32) -> u32
-    requires { ⌜ (rows + first-terms ≤ max-terms) × (answer-bytes number-bytes * answered ≤ space) ⌝ }
-    ensures { λ r. ⌜ r ≡ first-fault (step-tests number-bytes (rows + first-terms) space answered (is-some (chain-rule-at rule)) (literal ∷ [])) ⌝ }
+fn chain_fault(
+    bytes: usize,
+    rows: usize,
+    answered: usize,
+    space: usize,
+    rule: u32,
+    literal: u32,
+) -> u32
+    requires { ⌜ Length bytes × (rows + first-terms < place-end) × (answer-bytes bytes * answered ≤ space) ⌝ }
+    ensures { λ r. ⌜ r ≡ first-fault (step-tests bytes (rows + first-terms) space answered (is-some (chain-rule-at rule)) (literal ∷ [])) ⌝ }
 {
     if (rows + FIRST_PLACE) as u32 <= literal {
         return 6;
@@ -206,7 +220,7 @@ fn chain_fault(rows: usize, answered: usize, space: usize, rule: u32, literal: u
     if LAST_CHAIN_RULE < rule {
         return 9;
     }
-    room_fault(answered, space)
+    room_fault(bytes, answered, space)
 }
 
 // A chain: where it passes, its answer is written.
@@ -222,10 +236,11 @@ fn chain_record(
     literal: u32,
 ) -> Turn
     requires { ⌜ Reading (now job) (now work) rows at (I.Chain rule premises literal) × Noted (now job) (now work) (now answers) rows answered ⌝ }
-    ensures { λ r. ⌜ ((limits : L.Limits)
-        → Turned limits (now (job .entry)) (now (work .entry)) (now (answers .entry)) rows answered at (now (work .entry)) (now (answers .exit)) r) ⌝ }
+    ensures { λ r. ⌜ ((limits : L.Limits) (place : ℕ)
+        → Turned limits place (now (job .entry)) (now (work .entry)) (now (answers .entry)) rows answered at (now (work .entry)) (now (answers .exit)) r) ⌝ }
 {
-    let code = chain_fault(rows, answered, answers.len(), rule, literal);
+    let bytes = Term::number_length(job);
+    let code = chain_fault(bytes, rows, answered, answers.len(), rule, literal);
     if code != 0 {
         return Turn {
             code: code,
@@ -236,7 +251,7 @@ fn chain_record(
     }
     let v = chain_verdict(job, work, answers, rows, answered, rule, premises, literal);
     let reply = judge(job, work, rows, literal, v);
-    answered_turn(answers, rows, answered, at, rule, reply)
+    answered_turn(answers, bytes, rows, answered, at, rule, reply)
 }
 
 // A back: 18 where its count is below 2 or above the number of terms.
@@ -249,8 +264,8 @@ fn back_record(
     count: u32,
 ) -> Turn
     requires { ⌜ Reading (now job) (now work) rows at (I.Back count) ⌝ }
-    ensures { λ r. ⌜ ((limits : L.Limits) (answers : Bytes)
-        → Turned limits (now (job .entry)) (now (work .entry)) answers rows answered at (now (work .exit)) answers r) ⌝ }
+    ensures { λ r. ⌜ ((limits : L.Limits) (place : ℕ) (answers : Bytes)
+        → Turned limits place (now (job .entry)) (now (work .entry)) answers rows answered at (now (work .exit)) answers r) ⌝ }
 {
     let n = count as usize;
     if n < FIRST_PLACE {
@@ -278,7 +293,27 @@ fn back_record(
     }
 }
 
-// The whole record at `at`, under limits that the caller states: 4 where its kind is unknown, 5 where its body has not the kind's length.
+// The code that stops the job at a record that says no term, step, chain or back, or 0: 4, unless it is the job's first and asks for long numbers;
+// then 5 where it has a body.
+fn opening_fault(job: &[u8], place: usize, at: usize) -> u32
+    requires { ⌜ whole (drop at (now job)) ≡ true ⌝ }
+    ensures { λ r. ⌜ r ≡ first-fault (opening-tests place (record-at (now (job .entry)) at)) ⌝ }
+{
+    if place != 0 {
+        return 4;
+    }
+    if Term::number(job, at + Term::NUMBER_BYTES) != Term::LONG_KIND as u32 {
+        return 4;
+    }
+    // A record's length counts its kind.
+    if Term::number(job, at) as usize != Term::NUMBER_BYTES {
+        return 5;
+    }
+    0
+}
+
+// The whole record at `at`, before which `place` others stand, under limits that the caller states: 4 where its kind is unknown, 5 where its body
+// has not the kind's length.
 pub fn take_record(
     job: &[u8],
     work: &mut [u8],
@@ -286,10 +321,11 @@ pub fn take_record(
     limits: Limits,
     rows: usize,
     answered: usize,
+    place: usize,
     at: usize,
 ) -> Turn
     requires { ⌜ Noted (now job) (now work) (now answers) rows answered × (whole (drop at (now job)) ≡ true) ⌝ }
-    ensures { λ r. ⌜ Turned (limits-of limits) (now (job .entry)) (now (work .entry)) (now (answers .entry)) rows answered at
+    ensures { λ r. ⌜ Turned (limits-of limits) place (now (job .entry)) (now (work .entry)) (now (answers .entry)) rows answered at
         (now (work .exit)) (now (answers .exit)) r ⌝ }
 {
     let item = Term::read(job, at);
@@ -318,7 +354,7 @@ pub fn take_record(
         ),
         Item::Back(count) => back_record(job, work, rows, answered, at, count),
         Item::Unknown => Turn {
-            code: 4,
+            code: opening_fault(job, place, at),
             answers: answered,
             rows: rows,
             repeats: 0,

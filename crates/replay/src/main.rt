@@ -8,6 +8,8 @@ ghost use Prim.Native.Nat.{_≤_, _<_};
 ghost use lib.ListN.{length};
 use libc::STDOUT_FILENO;
 use terms::ANSWER_BYTES;
+use terms::DEPTH_AT;
+use terms::Term;
 
 // The digits of a number, and the space after them.
 const FIELD: usize = 9;
@@ -117,6 +119,16 @@ fn print_bytes(bytes: &[u8], n: usize) {
     io::write_all(STDOUT_FILENO, b"\n");
 }
 
+// The bytes of so many answers to a job's steps.
+fn answers_size(job: &[u8], count: usize) -> usize
+    requires { ⌜ count < 4294967296 ⌝ }
+{
+    if Term::number_length(job) == Term::LONG_BYTES {
+        return count * (DEPTH_AT + Term::LONG_BYTES);
+    }
+    count * ANSWER_BYTES
+}
+
 // Runs a job on the lent memories, and prints what it came to.
 fn run(job: &[u8], work: &mut [u8], answers: &mut [u8]) {
     fill(work);
@@ -127,7 +139,7 @@ fn run(job: &[u8], work: &mut [u8], answers: &mut [u8]) {
     print_number(o.answers);
     print_number(o.terms);
     print_number(o.repeats);
-    print_bytes(answers, o.answers as usize * ANSWER_BYTES);
+    print_bytes(answers, answers_size(job, o.answers as usize));
 }
 
 // Reads the next line of the file and runs its job; answers whether there was one.

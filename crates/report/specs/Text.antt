@@ -5,7 +5,7 @@ use mathlib.Core.List.{[], _++_}
 use Prim.Native.Nat.{ℕ, _+_, _*_, _≤_}
 use lib.Dec.{leb}
 use lib.ListN.{length, take, drop}
-use Rattle.theory.specs.Limit.{answer-bytes, number-bytes}
+use Rattle.theory.specs.Limit.{answer-bytes}
 use Rattle.theory.specs.Record.{Bytes}
 use Rattle.theory.specs.Answer.{Answer, decode-answers}
 use Rattle.theory.specs.Job.{Outcome}
@@ -22,7 +22,7 @@ abbrev pub head-space : ℕ
 head-space = 80
 
 abbrev pub line-space : ℕ
-line-space = 32
+line-space = 34
 
 -- the first line
 abbrev pub head : ℕ → ℕ → ℕ → ℕ → Bytes
@@ -32,15 +32,15 @@ head steps terms repeats stop = steps-text ++ decimal steps ++ terms-text ++ dec
 abbrev pub line : ℕ → Answer → Bytes
 line place a = decimal place ++ blank ++ decimal (a .rule) ++ blank ++ decimal (a .code) ++ blank ++ decimal (a .depth) ++ end-line
 
--- a run that came to these numbers and answers; the text does not say how many records were done
-abbrev pub came-to : ℕ → ℕ → ℕ → ℕ → Bytes → Outcome
-came-to stop terms repeats count answers = record { stop = stop; records = 0; answers = decode-answers number-bytes count answers; terms = terms; repeats = repeats }
+-- a run that came to these numbers and answers, whose depths have b bytes; the text does not say how many records were done
+abbrev pub came-to : ℕ → ℕ → ℕ → ℕ → ℕ → Bytes → Outcome
+came-to stop terms repeats count b answers = record { stop = stop; records = 0; answers = decode-answers b count answers; terms = terms; repeats = repeats }
 
 -- the text, where the answers are all there and a memory of `space` bytes is long enough for any such text
-unfoldable pub report-text : ℕ → ℕ → ℕ → ℕ → Bytes → ℕ → Bytes
-report-text stop terms repeats count answers space =
-    cond (leb (count * answer-bytes number-bytes) (length answers) && leb (head-space + count * line-space) space)
-    (outcome-text (came-to stop terms repeats count answers))
+unfoldable pub report-text : ℕ → ℕ → ℕ → ℕ → ℕ → Bytes → ℕ → Bytes
+report-text stop terms repeats count b answers space =
+    cond (leb (count * answer-bytes b) (length answers) && leb (head-space + count * line-space) space)
+    (outcome-text (came-to stop terms repeats count b answers))
     []
 
 -- `too long`, where a memory of `space` bytes is long enough for any first line

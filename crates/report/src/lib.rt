@@ -3,12 +3,12 @@ ghost use mathlib.Core.Path.{_≡_};
 ghost use mathlib.Core.List.{[], _∷_, _++_};
 ghost use Prim.Native.Nat.{_+_, _*_, _<_, _≤_};
 ghost use lib.ListN.{length, drop};
-ghost use Rattle.theory.specs.Limit.{answer-bytes, number-bytes};
+ghost use Rattle.theory.specs.Limit.{answer-bytes};
+ghost use Rattle.terms.specs.Bodies.{Length};
 ghost use Rattle.theory.specs.Record.{word};
 ghost use Rattle.theory.specs.Answer.{decode-answer, decode-answers};
 ghost use Rattle.theory.specs.Program.{decimal, answer-lines};
 ghost use Rattle.report.specs.Text.{Wrote, line-space, head-space, line, head, report-text, too-long, written};
-use terms::ANSWER_BYTES;
 use terms::CODE_AT;
 use terms::DEPTH_AT;
 use terms::RULE_AT;
@@ -18,7 +18,7 @@ use terms::Term;
 pub const HEAD_SPACE: usize = 80;
 
 // No line of an answer is longer than this.
-pub const LINE_SPACE: usize = 32;
+pub const LINE_SPACE: usize = 34;
 
 // The digit 0.
 const ZERO: u32 = 48;
@@ -100,31 +100,32 @@ fn put_head(steps: u32, terms: u32, repeats: u32, stop: u32, out: &mut [u8]) -> 
     put_byte(NEWLINE, out, d)
 }
 
-// Writes the line of answer k, counted from 0: its place from 1, rule, code and depth.
-fn put_line(answers: &[u8], k: u32, out: &mut [u8], at: usize) -> usize
-    requires { ⌜ (k < 4294967295) × (k * answer-bytes number-bytes + answer-bytes number-bytes ≤ length (now answers)) × (at + line-space ≤ length (now out)) ⌝ }
-    ensures { λ r. ⌜ Wrote (now (out .entry)) at (line (k + 1) (decode-answer number-bytes (drop (k * answer-bytes number-bytes) (now (answers .entry))))) (now (out .exit)) r × (r ≤ at + line-space) ⌝ }
+// Writes the line of answer k, counted from 0: its place from 1, rule, code and depth, which has so many bytes.
+fn put_line(answers: &[u8], bytes: usize, k: u32, out: &mut [u8], at: usize) -> usize
+    requires { ⌜ (k < 4294967295) × Length bytes × (k * answer-bytes bytes + answer-bytes bytes ≤ length (now answers)) × (at + line-space ≤ length (now out)) ⌝ }
+    ensures { λ r. ⌜ Wrote (now (out .entry)) at (line (k + 1) (decode-answer bytes (drop (k * answer-bytes bytes) (now (answers .entry))))) (now (out .exit)) r × (r ≤ at + line-space) ⌝ }
 {
-    let i = k as usize * ANSWER_BYTES;
+    let i = k as usize * (DEPTH_AT + bytes);
     let a = put_ended(k + 1, SPACE, out, at);
     let b = put_field(answers, i + RULE_AT, SPACE, out, a);
     let c = put_field(answers, i + CODE_AT, SPACE, out, b);
-    put_field(answers, i + DEPTH_AT, NEWLINE, out, c)
+    let depth = Term::place(answers, i + DEPTH_AT, bytes);
+    put_ended(depth, NEWLINE, out, c)
 }
 
 // Writes the lines of the first `count` answers.
-fn put_lines(answers: &[u8], count: u32, out: &mut [u8], at: usize) -> usize
-    requires { ⌜ (count * answer-bytes number-bytes ≤ length (now answers)) × (at + count * line-space ≤ length (now out)) ⌝ }
-    ensures { λ r. ⌜ Wrote (now (out .entry)) at (answer-lines 1 (decode-answers number-bytes count (now (answers .entry)))) (now (out .exit)) r ⌝ }
+fn put_lines(answers: &[u8], bytes: usize, count: u32, out: &mut [u8], at: usize) -> usize
+    requires { ⌜ Length bytes × (count * answer-bytes bytes ≤ length (now answers)) × (at + count * line-space ≤ length (now out)) ⌝ }
+    ensures { λ r. ⌜ Wrote (now (out .entry)) at (answer-lines 1 (decode-answers bytes count (now (answers .entry)))) (now (out .exit)) r ⌝ }
 {
     let mut next = at;
     for k in 0..count {
-        next = put_line(answers, k, out, next);
+        next = put_line(answers, bytes, k, out, next);
     }
     next
 }
 
-// Writes what a run came to into `out`, and answers how many bytes that is.
+// Writes what a run came to into `out`, and answers how many bytes that is. The depths of the answers have `bytes` bytes.
 // Nothing is written where `answers` holds fewer than `count` answers, or where `out` has not the space for
 // the longest such text.
 pub fn report(
@@ -133,20 +134,22 @@ pub fn report(
     repeats: u32,
     count: u32,
     answers: &[u8],
+    bytes: usize,
     out: &mut [u8],
 ) -> usize
-    ensures memory { λ r. ⌜ now (out .exit) ≡ written (report-text stop terms repeats count (now (answers .entry)) (length (now (out .entry)))) (now (out .entry)) ⌝ }
-    ensures size { λ r. ⌜ r ≡ length (report-text stop terms repeats count (now (answers .entry)) (length (now (out .entry)))) ⌝ }
+    requires { ⌜ Length bytes ⌝ }
+    ensures memory { λ r. ⌜ now (out .exit) ≡ written (report-text stop terms repeats count bytes (now (answers .entry)) (length (now (out .entry)))) (now (out .entry)) ⌝ }
+    ensures size { λ r. ⌜ r ≡ length (report-text stop terms repeats count bytes (now (answers .entry)) (length (now (out .entry)))) ⌝ }
 {
     let n = count as usize;
-    if answers.len() < n * ANSWER_BYTES {
+    if answers.len() < n * (DEPTH_AT + bytes) {
         return 0;
     }
     if out.len() < HEAD_SPACE + n * LINE_SPACE {
         return 0;
     }
     let lines = put_head(count, terms, repeats, stop, out);
-    put_lines(answers, count, out, lines)
+    put_lines(answers, bytes, count, out, lines)
 }
 
 // Writes `too long`, and answers how many bytes that is. Nothing is written where `out` has not the space for a first line.

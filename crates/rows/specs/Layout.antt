@@ -13,6 +13,10 @@ use Rattle.theory.specs.Record.{Bytes, little-endian, number-length}
 abbrev pub number-end : ℕ
 number-end = 256 ^ number-bytes
 
+-- above every place, and so above every depth, which is at most its term's place
+abbrev pub place-end : ℕ
+place-end = 256 ^ long-bytes
+
 -- what stands for no place
 abbrev pub missing : ℕ
 missing = 4294967295

@@ -14,7 +14,7 @@ pub fn wide(x: u8) -> usize
 }
 
 // The number at a place, of up to four bytes.
-pub fn number(s: &[u8], at: usize, len: usize) -> usize
+fn number_of(s: &[u8], at: usize, len: usize) -> usize
     requires { ⌜ (at + len ≤ length (now s)) × (len ≤ 4) ⌝ }
     ensures { λ r. ⌜ Bounded r (number-at (now (s .entry)) at len) (256 ^ len) ⌝ }
 {
@@ -27,8 +27,22 @@ pub fn number(s: &[u8], at: usize, len: usize) -> usize
     x
 }
 
+// The same. A call for each length that is common: each is then compiled for its length.
+pub fn number(s: &[u8], at: usize, len: usize) -> usize
+    requires { ⌜ (at + len ≤ length (now s)) × (len ≤ 4) ⌝ }
+    ensures { λ r. ⌜ Bounded r (number-at (now (s .entry)) at len) (256 ^ len) ⌝ }
+{
+    if len == 2 {
+        return number_of(s, at, 2);
+    }
+    if len == 3 {
+        return number_of(s, at, 3);
+    }
+    number_of(s, at, len)
+}
+
 // Stores `len` bytes of a number.
-pub fn put_number(s: &mut [u8], at: usize, len: usize, x: usize)
+fn put_number_of(s: &mut [u8], at: usize, len: usize, x: usize)
     requires { ⌜ at + len ≤ length (now s) ⌝ }
     ensures { λ _. ⌜ now (s .exit) ≡ sets (now (s .entry)) at (bytes-of len x) ⌝ }
 {
@@ -40,4 +54,20 @@ pub fn put_number(s: &mut [u8], at: usize, len: usize, x: usize)
         rest = rest / 256;
         i += 1;
     }
+}
+
+// The same. A call for each length that is common: each is then compiled for its length.
+pub fn put_number(s: &mut [u8], at: usize, len: usize, x: usize)
+    requires { ⌜ at + len ≤ length (now s) ⌝ }
+    ensures { λ _. ⌜ now (s .exit) ≡ sets (now (s .entry)) at (bytes-of len x) ⌝ }
+{
+    if len == 2 {
+        put_number_of(s, at, 2, x);
+        return;
+    }
+    if len == 3 {
+        put_number_of(s, at, 3, x);
+        return;
+    }
+    put_number_of(s, at, len, x);
 }

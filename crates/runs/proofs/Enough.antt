@@ -4,20 +4,22 @@ use mathlib.Core.Bool.{Bool, true, false, _&&_, _||_, cond}
 use mathlib.Core.List.{List, [], _∷_, _++_}
 use mathlib.Core.Option.{Option, none, some}
 use Prim.Native.Nat.{ℕ, zero, suc, _+_, _*_, _-_, _≤_, _<_}
+use native.Mathlib.Nat.{le-trans, mul-le-mul-right}
 use native.Mathlib.Omega.{arith}
 use native.Mathlib.Decide.{decLt}
 use lib.Dec.{leb, ltb}
 use lib.ListN.{length, take, drop, length-drop, length-take, length-append}
 use lib.Seq.{length-take-le}
 use borrow.Author.Tests.{le-leb}
-use Rattle.theory.specs.Limit.{number-bytes, Limits, capped, max-job, first-terms, term-bytes}
+use Rattle.theory.specs.Limit.{Limits, capped, max-job, first-terms, term-bytes}
 use Rattle.theory.specs.Term.{Term}
-use Rattle.theory.specs.Record.{Bytes, extent, whole, cut, records-of, ending, Item, term, step, chain, back, unknown, misfit, read}
+use Rattle.theory.specs.Record.{Bytes, extent, whole, cut, records-of, ending, Item, term, step, chain, back, unknown, misfit, read, number-length}
 use Rattle.theory.specs.Plain.{Plain, entry, start, term-of, has, put, feed-item, feed, repeat-of}
 use Rattle.theory.specs.Codes.{first-fault, all-below, well-sorted, room, tests, fault}
 use Rattle.theory.specs.Answer.{Answer}
 use Rattle.theory.specs.Chain.{Earlier}
 use Rattle.theory.specs.Job.{Outcome, outcome, answers-to, recall, run-from, run}
+use Rattle.theory.proofs.Lengths.{length-most}
 use Rattle.terms.proofs.Parts.{whole-parts}
 use Rattle.runs.specs.Walking.{Enough}
 
@@ -37,18 +39,18 @@ few-cut (suc fuel) bs =
     next-few (whole bs) n (take n bs) (cut fuel (drop n bs)) (length bs) (λ w. let p = whole-parts bs w in (let a = p .low in omega arith, p .fit)) (omega arith)
 
 -- ---- one record
-room-same : (limits : Limits) (more less : ℕ) (list : Plain) → term-bytes number-bytes * (suc (length list) - first-terms) ≤ less → less ≤ more → room number-bytes limits less list ≡ room number-bytes limits more list
-room-same limits more less list h k =
-    ap (λ (b : Bool). b && ltb (length list) (limits .terms)) (le-leb (term-bytes number-bytes * (suc (length list) - first-terms)) less h ∙ sym (le-leb (term-bytes number-bytes * (suc (length list) - first-terms)) more (omega arith)))
+room-same : (b : ℕ) (limits : Limits) (more less : ℕ) (list : Plain) → term-bytes b * (suc (length list) - first-terms) ≤ less → less ≤ more → room b limits less list ≡ room b limits more list
+room-same b limits more less list h k =
+    ap (λ (t : Bool). t && ltb (length list) (limits .terms)) (le-leb (term-bytes b * (suc (length list) - first-terms)) less h ∙ sym (le-leb (term-bytes b * (suc (length list) - first-terms)) more (omega arith)))
 
-fault-same : (limits : Limits) (more less space : ℕ) (list : Plain) (n : ℕ) (r : Bytes) → room number-bytes (capped limits) less list ≡ room number-bytes (capped limits) more list → fault number-bytes limits less space list n r ≡ fault number-bytes limits more space list n r
+fault-same : (place b : ℕ) (limits : Limits) (more less space : ℕ) (list : Plain) (n : ℕ) (r : Bytes) → room b (capped b limits) less list ≡ room b (capped b limits) more list → fault place b limits less space list n r ≡ fault place b limits more space list n r
 unfolding fault
-fault-same limits more less space list n r e = go (read number-bytes r)
+fault-same place b limits more less space list n r e = go (read b r)
   where
-    go : (i : Item) → first-fault (tests number-bytes limits less space list n r i) ≡ first-fault (tests number-bytes limits more space list n r i)
+    go : (i : Item) → first-fault (tests place b limits less space list n r i) ≡ first-fault (tests place b limits more space list n r i)
     go unknown = refl
     go misfit = refl
-    go (term o ks) = ap (λ (b : Bool). first-fault ((all-below (length list) ks, 6) ∷ (well-sorted (capped limits) (term-of list o ks), 7) ∷ (has list r || b, 8) ∷ [])) e
+    go (term o ks) = ap (λ (t : Bool). first-fault ((all-below (length list) ks, 6) ∷ (well-sorted (capped b limits) (term-of list o ks), 7) ∷ (has list r || t, 8) ∷ [])) e
     go (step m ks) = refl
     go (chain m ps k) = refl
     go (back m) = refl
@@ -57,9 +59,9 @@ put-short : (list : Plain) (r : Bytes) (t : Term) (b : Bool) → length (cond b 
 put-short list r t true = omega arith
 put-short list r t false = let l = length-append list (entry t r ∷ []) in omega arith
 
-feed-short : (list : Plain) (r : Bytes) → length (feed number-bytes list r) ≤ suc (length list)
+feed-short : (b : ℕ) (list : Plain) (r : Bytes) → length (feed b list r) ≤ suc (length list)
 unfolding feed
-feed-short list r = go (read number-bytes r)
+feed-short b list r = go (read b r)
   where
     of-term : (q : Option Term) → length (put list r q) ≤ suc (length list)
     of-term none = omega arith
@@ -74,21 +76,25 @@ feed-short list r = go (read number-bytes r)
     go (back m) = let l = length-take m list in omega arith
 
 -- ---- the run
+-- a term costs twelve bytes at most
+cheap : (b n : ℕ) {less : ℕ} → b ≤ 4 → 12 * n ≤ less → term-bytes b * n ≤ less
+cheap b n few h = le-trans (mul-le-mul-right n (let c : term-bytes b ≤ 12 = omega arith in c)) h
+
 by-fault : (c : ℕ) {x y : Outcome} (f : ℕ → Outcome) → x ≡ y
     → _≡_ {A = Outcome} (elim c as (λ w. Outcome) [ zero ↦ x | suc code ↦ f code ]) (elim c as (λ w. Outcome) [ zero ↦ y | suc code ↦ f code ])
 by-fault zero f e = e
 by-fault (suc code) f e = refl
 
-run-from-same : (limits : Limits) (more less space end : ℕ) → less ≤ more → (rs : List Bytes) (done repeats : ℕ) (earlier : Earlier) (list : Plain) (given : List Answer)
-    → term-bytes number-bytes * (length list + length rs - first-terms) ≤ less → run-from number-bytes limits less space end done repeats earlier list given rs ≡ run-from number-bytes limits more space end done repeats earlier list given rs
+run-from-same : (b : ℕ) → b ≤ 4 → (limits : Limits) (more less space end : ℕ) → less ≤ more → (rs : List Bytes) (done repeats : ℕ) (earlier : Earlier) (list : Plain) (given : List Answer)
+    → 12 * (length list + length rs - first-terms) ≤ less → run-from b limits less space end done repeats earlier list given rs ≡ run-from b limits more space end done repeats earlier list given rs
 unfolding run-from
-run-from-same limits more less space end k [] done repeats earlier list given h = refl
-run-from-same limits more less space end k (r ∷ rs) done repeats earlier list given h =
-    let s = feed-short list r in
+run-from-same b few limits more less space end k [] done repeats earlier list given h = refl
+run-from-same b few limits more less space end k (r ∷ rs) done repeats earlier list given h =
+    let s = feed-short b list r in
     let stop : ℕ → Outcome = λ code. outcome (suc code) done repeats given list in
-    ap (λ (c : ℕ). elim c as (λ w. Outcome) [ zero ↦ run-from number-bytes limits less space end (suc done) (repeats + repeat-of number-bytes list r) (recall number-bytes earlier list r) (feed number-bytes list r) (given ++ answers-to number-bytes earlier list r) rs | suc code ↦ stop code ])
-    (fault-same limits more less space list (length given) r (room-same (capped limits) more less list (omega arith) k))
-    ∙ by-fault (fault number-bytes limits more space list (length given) r) stop (run-from-same limits more less space end k rs (suc done) (repeats + repeat-of number-bytes list r) (recall number-bytes earlier list r) (feed number-bytes list r) (given ++ answers-to number-bytes earlier list r) (omega arith))
+    ap (λ (c : ℕ). elim c as (λ w. Outcome) [ zero ↦ run-from b limits less space end (suc done) (repeats + repeat-of b list r) (recall b earlier list r) (feed b list r) (given ++ answers-to b earlier list r) rs | suc code ↦ stop code ])
+    (fault-same done b limits more less space list (length given) r (room-same b (capped b limits) more less list (cheap b (suc (length list) - first-terms) few (omega arith)) k))
+    ∙ by-fault (fault done b limits more space list (length given) r) stop (run-from-same b few limits more less space end k rs (suc done) (repeats + repeat-of b list r) (recall b earlier list r) (feed b list r) (given ++ answers-to b earlier list r) (omega arith))
 
 by-length : (b : Bool) {x y : Outcome} (z : Outcome) → x ≡ y
     → _≡_ {A = Outcome} (elim b as (λ w. Outcome) [ true ↦ x | false ↦ z ]) (elim b as (λ w. Outcome) [ true ↦ y | false ↦ z ])
@@ -100,7 +106,7 @@ run-same : (limits : Limits) (job : Bytes) (more less space : ℕ) → less ≤ 
 unfolding run
 run-same limits job more less space k h =
     let f = few-cut (length job) job in
-    by-length (leb (length job) max-job) (outcome 2 0 0 [] start) (run-from-same limits more less space (ending job) k (records-of job) 0 0 [] start [] (omega arith))
+    by-length (leb (length job) max-job) (outcome 2 0 0 [] start) (run-from-same (number-length job) (length-most job) limits more less space (ending job) k (records-of job) 0 0 [] start [] (omega arith))
 
 -- the first bytes of a work memory, where they are enough
 pub run-enough : (limits : Limits) (job work : Bytes) (used space : ℕ) → Enough (length job) (length work) used → (lent : Bytes) → length lent ≡ length work

@@ -3,16 +3,16 @@ use mathlib.Core.Path.{_≡_, refl, sym, ap, ap₂, subst, _∙_}
 use mathlib.Core.Bool.{true, cond}
 use mathlib.Core.List.{List, [], _∷_, _++_, map, append-assoc, append-nil}
 use mathlib.Core.Option.{Option, none, some}
-use Prim.Native.Nat.{ℕ, _+_, _-_, _*_, _<_, _≤_}
-use native.Mathlib.Nat.{add-zero}
+use Prim.Native.Nat.{ℕ, suc, _+_, _-_, _*_, _<_, _≤_}
+use native.Mathlib.Nat.{add-zero, mul-le-mul-left}
 use native.Mathlib.Omega.{arith}
 use native.Mathlib.Decide.{decLt}
 use lib.Dec.{eqb}
 use lib.ListN.{length, take, drop, getElem?, length-append, length-drop, length-map}
 use lib.Seq.{take-take, take-append-le, drop-append-le, drop-append-add, drop-at, drop-drop, length-take-le, take-at}
-use Rattle.theory.specs.Limit.{answer-bytes, number-bytes}
+use Rattle.theory.specs.Limit.{answer-bytes}
 use Rattle.theory.specs.Optional.{either}
-use Rattle.theory.specs.Record.{Bytes, little-endian, whole, Item, term, step, chain, back, unknown, misfit, read, claim-of}
+use Rattle.theory.specs.Record.{Bytes, little-endian, whole, Item, term, step, chain, back, unknown, misfit, read, claim-of, number-length}
 use Rattle.theory.specs.Plain.{Plain}
 use Rattle.theory.specs.Answer.{Answer, encode-answers}
 use Rattle.theory.specs.Chain.{Earlier, leaves}
@@ -23,7 +23,7 @@ use Rattle.terms.specs.Framing.{record-at}
 use Rattle.terms.proofs.Parts.{drop-take}
 use Rattle.rows.proofs.RowLaws.{column-more, column-same}
 use Rattle.steps.specs.Answering.{note, notes, with-notes, step-place, step-code, sealed}
-use Rattle.steps.proofs.Writing.{Note, all-notes, sealed-all, none-written, one-item}
+use Rattle.steps.proofs.Writing.{Note, all-notes, note-length, sealed-all, none-written, one-item}
 use Rattle.chains.specs.Premises.{claimed-at, left-at, mark-at, marks-in}
 
 -- ---- one more answer
@@ -36,66 +36,71 @@ front-part memory more q p n h l =
     ap (take n) (drop-append-le p (take q memory) more (omega arith) ∙ ap (λ (bs : Bytes). bs ++ more) (drop-take p q memory))
     ∙ take-append-le n (take (q - p) (drop p memory)) more (omega arith) ∙ take-take n (q - p) (drop p memory) (omega arith)
 
-module _ (memory : Bytes) (k place : ℕ) (fits : answer-bytes number-bytes * k ≤ length memory) where
+module _ (b : ℕ) (memory : Bytes) (k place : ℕ) (fits : answer-bytes b * k ≤ length memory) where
   -- the answers before stay
   module _ (new : List Answer) (j : ℕ) (h : j < k) where
-    pub place-before : step-place (with-notes memory k place new) j ≡ step-place memory j
-    unfolding with-notes
-    place-before = ap little-endian (front-part memory _ (answer-bytes number-bytes * k) (answer-bytes number-bytes * j) 3 (omega arith) fits)
+    earlier : answer-bytes b * suc j ≤ answer-bytes b * k
+    earlier = mul-le-mul-left (answer-bytes b) h
 
-    code-before : step-code (with-notes memory k place new) j ≡ step-code memory j
+    pub place-before : step-place b (with-notes b memory k place new) j ≡ step-place b memory j
     unfolding with-notes
-    code-before = ap little-endian (front-part memory _ (answer-bytes number-bytes * k) (answer-bytes number-bytes * j + 6) 2 (omega arith) fits)
+    place-before = ap little-endian (front-part memory _ (answer-bytes b * k) (answer-bytes b * j) 3 (omega (arith, earlier)) fits)
+
+    code-before : step-code b (with-notes b memory k place new) j ≡ step-code b memory j
+    unfolding with-notes
+    code-before = ap little-endian (front-part memory _ (answer-bytes b * k) (answer-bytes b * j + 6) 2 (omega (arith, earlier)) fits)
 
   -- and the new one is there
   module _ (a : Answer) where
-    here : drop (answer-bytes number-bytes * k) (with-notes memory k place (a ∷ [])) ≡ note place a ++ drop (answer-bytes number-bytes * (k + 1)) memory
+    here : drop (answer-bytes b * k) (with-notes b memory k place (a ∷ [])) ≡ note b place a ++ drop (answer-bytes b * (k + 1)) memory
     unfolding with-notes
-    here = drop-at (take (answer-bytes number-bytes * k) memory) (note place a ++ drop (answer-bytes number-bytes * (k + 1)) memory) (answer-bytes number-bytes * k) (length-take-le (answer-bytes number-bytes * k) memory fits)
+    here =
+        drop-at (take (answer-bytes b * k) memory) ((note b place a ++ []) ++ drop (answer-bytes b * (k + 1)) memory) (answer-bytes b * k)
+        (length-take-le (answer-bytes b * k) memory fits) ∙ ap (λ (bs : Bytes). bs ++ drop (answer-bytes b * (k + 1)) memory) (append-nil (note b place a))
 
-    pub place-new : place < 16777216 → step-place (with-notes memory k place (a ∷ [])) k ≡ place
+    pub place-new : place < 16777216 → step-place b (with-notes b memory k place (a ∷ [])) k ≡ place
     place-new s = ap (λ (bs : Bytes). little-endian (take 3 bs)) here ∙ omega arith
 
-    code-new : a .code < 65536 → step-code (with-notes memory k place (a ∷ [])) k ≡ a .code
+    code-new : a .code < 65536 → step-code b (with-notes b memory k place (a ∷ [])) k ≡ a .code
     code-new s =
-        ap (λ (bs : Bytes). little-endian (take 2 bs)) (sym (drop-drop 6 (answer-bytes number-bytes * k) (with-notes memory k place (a ∷ []))) ∙ ap (drop 6) here) ∙ omega arith
+        ap (λ (bs : Bytes). little-endian (take 2 bs)) (sym (drop-drop 6 (answer-bytes b * k) (with-notes b memory k place (a ∷ []))) ∙ ap (drop 6) here) ∙ omega arith
 
 -- ---- the marks
-module _ (job memory : Bytes) (k place : ℕ) (fits : answer-bytes number-bytes * k ≤ length memory) (near : place < 16777216) where
-  mark-before : (new : List Answer) (j : ℕ) → j < k → mark-at job (with-notes memory k place new) j ≡ mark-at job memory j
+module _ (job memory : Bytes) (k place : ℕ) (fits : answer-bytes (number-length job) * k ≤ length memory) (near : place < 16777216) where
+  mark-before : (new : List Answer) (j : ℕ) → j < k → mark-at job (with-notes (number-length job) memory k place new) j ≡ mark-at job memory j
   unfolding left-at
   mark-before new j h =
-      ap₂ (λ (p c : ℕ). (p, cond (eqb c 0) (claimed-at job p) none)) (place-before memory k place fits new j h) (code-before memory k place fits new j h)
+      ap₂ (λ (p c : ℕ). (p, cond (eqb c 0) (claimed-at job p) none)) (place-before (number-length job) memory k place fits new j h) (code-before (number-length job) memory k place fits new j h)
 
-  mark-new : (a : Answer) → a .code < 65536 → (n : ℕ) (ks : List ℕ) → claim-of (read number-bytes (record-at job place)) ≡ some (n, ks)
-      → mark-at job (with-notes memory k place (a ∷ [])) k ≡ (place, leaves ks a)
+  mark-new : (a : Answer) → a .code < 65536 → (n : ℕ) (ks : List ℕ) → claim-of (read (number-length job) (record-at job place)) ≡ some (n, ks)
+      → mark-at job (with-notes (number-length job) memory k place (a ∷ [])) k ≡ (place, leaves ks a)
   unfolding left-at claimed-at
   mark-new a s n ks e =
-      ap₂ (λ (p c : ℕ). (p, cond (eqb c 0) (claimed-at job p) none)) (place-new memory k place fits a near) (code-new memory k place fits a s)
+      ap₂ (λ (p c : ℕ). (p, cond (eqb c 0) (claimed-at job p) none)) (place-new (number-length job) memory k place fits a near) (code-new (number-length job) memory k place fits a s)
       ∙ ap (λ (q : Option (ℕ × List ℕ)). (place, cond (eqb (a .code) 0) (either none (λ (c : ℕ × List ℕ). getElem? (c .1) 0) q) none)) e
 
-  none-more : marks-in job (with-notes memory k place []) (k + 0) ≡ marks-in job memory k
-  none-more = ap₂ (marks-in job) (none-written memory k place) (add-zero k)
+  none-more : marks-in job (with-notes (number-length job) memory k place []) (k + 0) ≡ marks-in job memory k
+  none-more = ap₂ (marks-in job) (none-written (number-length job) memory k place) (add-zero k)
 
   -- a step of either kind
-  step-marks : (n : ℕ) (ks : List ℕ) → claim-of (read number-bytes (record-at job place)) ≡ some (n, ks) → (new : List Answer) → length new ≤ 1 → AllSmall number-bytes new
-      → marks-in job (with-notes memory k place new) (k + length new) ≡ marks-in job memory k ++ map (λ (a : Answer). (place, leaves ks a)) new
+  step-marks : (n : ℕ) (ks : List ℕ) → claim-of (read (number-length job) (record-at job place)) ≡ some (n, ks) → (new : List Answer) → length new ≤ 1 → AllSmall (number-length job) new
+      → marks-in job (with-notes (number-length job) memory k place new) (k + length new) ≡ marks-in job memory k ++ map (λ (a : Answer). (place, leaves ks a)) new
   unfolding marks-in
   step-marks n ks e [] l s = none-more ∙ sym (append-nil (marks-in job memory k))
   step-marks n ks e (a ∷ []) l s =
-      column-more (mark-at job (with-notes memory k place (a ∷ []))) k
+      column-more (mark-at job (with-notes (number-length job) memory k place (a ∷ []))) k
       ∙ ap₂ (λ (ms : List Mark) (m : Mark). ms ++ (m ∷ []))
-      (column-same (mark-at job (with-notes memory k place (a ∷ []))) (mark-at job memory) k (λ j h. mark-before (a ∷ []) j h)) (mark-new a (s 0 a refl .code-small) n ks e)
+      (column-same (mark-at job (with-notes (number-length job) memory k place (a ∷ []))) (mark-at job memory) k (λ j h. mark-before (a ∷ []) j h)) (mark-new a (s 0 a refl .code-small) n ks e)
   step-marks n ks e (a ∷ b ∷ new) l s = absurd (omega arith)
 
-  pub marks-more : (earlier : Earlier) (list : Plain) → AllSmall number-bytes (answers-to number-bytes earlier list (record-at job place))
-      → marks-in job (with-notes memory k place (answers-to number-bytes earlier list (record-at job place))) (k + length (answers-to number-bytes earlier list (record-at job place)))
-      ≡ marks-item (marks-in job memory k) place (read number-bytes (record-at job place)) (answers-to number-bytes earlier list (record-at job place))
+  pub marks-more : (earlier : Earlier) (list : Plain) → AllSmall (number-length job) (answers-to (number-length job) earlier list (record-at job place))
+      → marks-in job (with-notes (number-length job) memory k place (answers-to (number-length job) earlier list (record-at job place))) (k + length (answers-to (number-length job) earlier list (record-at job place)))
+      ≡ marks-item (marks-in job memory k) place (read (number-length job) (record-at job place)) (answers-to (number-length job) earlier list (record-at job place))
   unfolding answers-to
-  marks-more earlier list s = go (read number-bytes (record-at job place)) refl s
+  marks-more earlier list s = go (read (number-length job) (record-at job place)) refl s
     where
-      go : (i : Item) → read number-bytes (record-at job place) ≡ i → AllSmall number-bytes (item-answers earlier list i)
-          → marks-in job (with-notes memory k place (item-answers earlier list i)) (k + length (item-answers earlier list i))
+      go : (i : Item) → read (number-length job) (record-at job place) ≡ i → AllSmall (number-length job) (item-answers earlier list i)
+          → marks-in job (with-notes (number-length job) memory k place (item-answers earlier list i)) (k + length (item-answers earlier list i))
           ≡ marks-item (marks-in job memory k) place i (item-answers earlier list i)
       go (term o ks) e s = none-more
       go (step n ks) e s = step-marks n ks (ap claim-of e) (item-answers earlier list (step n ks)) (one-item earlier list (step n ks)) s
@@ -105,16 +110,16 @@ module _ (job memory : Bytes) (k place : ℕ) (fits : answer-bytes number-bytes 
       go misfit e s = none-more
 
   -- at the place of each step stands a whole record
-  pub places-more : whole (drop place job) ≡ true → ((j : ℕ) → j < k → whole (drop (step-place memory j) job) ≡ true) → (new : List Answer) → length new ≤ 1
-      → (j : ℕ) → j < k + length new → whole (drop (step-place (with-notes memory k place new) j) job) ≡ true
-  places-more w h [] l j b = subst (λ (m : Bytes). whole (drop (step-place m j) job) ≡ true) (sym (none-written memory k place)) (h j (omega arith))
+  pub places-more : whole (drop place job) ≡ true → ((j : ℕ) → j < k → whole (drop (step-place (number-length job) memory j) job) ≡ true) → (new : List Answer) → length new ≤ 1
+      → (j : ℕ) → j < k + length new → whole (drop (step-place (number-length job) (with-notes (number-length job) memory k place new) j) job) ≡ true
+  places-more w h [] l j b = subst (λ (m : Bytes). whole (drop (step-place (number-length job) m j) job) ≡ true) (sym (none-written (number-length job) memory k place)) (h j (omega arith))
   places-more w h (a ∷ []) l j b = go (decLt j k)
     where
-      go : Dec (j < k) → whole (drop (step-place (with-notes memory k place (a ∷ [])) j) job) ≡ true
-      go (yes c) = ap (λ (p : ℕ). whole (drop p job)) (place-before memory k place fits (a ∷ []) j c) ∙ h j c
+      go : Dec (j < k) → whole (drop (step-place (number-length job) (with-notes (number-length job) memory k place (a ∷ [])) j) job) ≡ true
+      go (yes c) = ap (λ (p : ℕ). whole (drop p job)) (place-before (number-length job) memory k place fits (a ∷ []) j c) ∙ h j c
       go (no c) =
           let e : j ≡ k = omega arith in
-          ap (λ (i : ℕ). whole (drop (step-place (with-notes memory k place (a ∷ [])) i) job)) e ∙ ap (λ (p : ℕ). whole (drop p job)) (place-new memory k place fits a near) ∙ w
+          ap (λ (i : ℕ). whole (drop (step-place (number-length job) (with-notes (number-length job) memory k place (a ∷ [])) i) job)) e ∙ ap (λ (p : ℕ). whole (drop p job)) (place-new (number-length job) memory k place fits a near) ∙ w
   places-more w h (a ∷ b ∷ new) l j c = absurd (omega arith)
 
 -- ---- all answers so far, each with the place of its step's record
@@ -125,48 +130,51 @@ abbrev pub at-record : ℕ → List Answer → List Note
 at-record place new = map (λ (a : Answer). (place, a)) new
 
 -- the memory with these in it
-abbrev pub notes-after : List Note → Bytes → Bytes
-notes-after ms old = all-notes ms ++ drop (answer-bytes number-bytes * length ms) old
+abbrev pub notes-after : ℕ → List Note → Bytes → Bytes
+notes-after b ms old = all-notes b ms ++ drop (answer-bytes b * length ms) old
 
 pub answers-more : (ms : List Note) (place : ℕ) (new : List Answer) → answers-of (ms ++ at-record place new) ≡ answers-of ms ++ new
 answers-more [] place [] = refl
 answers-more [] place (a ∷ new) = ap (λ (xs : List Answer). a ∷ xs) (answers-more [] place new)
 answers-more (m ∷ ms) place new = ap (λ (xs : List Answer). m .1 ∷ xs) (answers-more ms place new)
 
-notes-length : (ms : List Note) → length (all-notes ms) ≡ answer-bytes number-bytes * length ms
-notes-length [] = refl
-notes-length (m ∷ ms) = omega (arith, notes-length ms)
+notes-length : (b : ℕ) (ms : List Note) → length (all-notes b ms) ≡ answer-bytes b * length ms
+notes-length b [] = omega arith
+notes-length b (m ∷ ms) =
+    length-append (note b (m .0) (m .1)) (all-notes b ms) ∙ (let e = note-length b (m .0) (m .1) in let f = notes-length b ms in omega arith)
 
-notes-append : (ms ns : List Note) → all-notes (ms ++ ns) ≡ all-notes ms ++ all-notes ns
-notes-append [] ns = refl
-notes-append (m ∷ ms) ns = ap (λ (bs : Bytes). note (m .0) (m .1) ++ bs) (notes-append ms ns) ∙ sym (append-assoc (note (m .0) (m .1)) (all-notes ms) (all-notes ns))
+notes-append : (b : ℕ) (ms ns : List Note) → all-notes b (ms ++ ns) ≡ all-notes b ms ++ all-notes b ns
+notes-append b [] ns = refl
+notes-append b (m ∷ ms) ns =
+    ap (λ (bs : Bytes). note b (m .0) (m .1) ++ bs) (notes-append b ms ns) ∙ sym (append-assoc (note b (m .0) (m .1)) (all-notes b ms) (all-notes b ns))
 
-notes-are : (place : ℕ) (new : List Answer) → notes place new ≡ all-notes (at-record place new)
-notes-are place [] = refl
-notes-are place (a ∷ new) = ap (λ (bs : Bytes). note place a ++ bs) (notes-are place new)
+notes-are : (b place : ℕ) (new : List Answer) → notes b place new ≡ all-notes b (at-record place new)
+notes-are b place [] = refl
+notes-are b place (a ∷ new) = ap (λ (bs : Bytes). note b place a ++ bs) (notes-are b place new)
 
-pub notes-more : (old : Bytes) (ms : List Note) (place : ℕ) (new : List Answer) {k : ℕ} → k ≡ length ms
-    → with-notes (notes-after ms old) k place new ≡ notes-after (ms ++ at-record place new) old
+pub notes-more : (b : ℕ) (old : Bytes) (ms : List Note) (place : ℕ) (new : List Answer) {k : ℕ} → k ≡ length ms
+    → with-notes b (notes-after b ms old) k place new ≡ notes-after b (ms ++ at-record place new) old
 unfolding with-notes
-notes-more old ms place new {k} e =
-    let bs = all-notes ms in
-    let cs = notes place new in
-    let l : length bs ≡ answer-bytes number-bytes * length ms = notes-length ms in
+notes-more b old ms place new {k} e =
+    let bs = all-notes b ms in
+    let cs = notes b place new in
+    let l : length bs ≡ answer-bytes b * length ms = notes-length b ms in
     let i : length (at-record place new) ≡ length new = length-map new (λ (a : Answer). (place, a)) in
-    let m : length cs ≡ answer-bytes number-bytes * length new = ap length (notes-are place new) ∙ notes-length (at-record place new) ∙ ap (λ (x : ℕ). answer-bytes number-bytes * x) i in
-    let p : length bs ≡ answer-bytes number-bytes * k = omega arith in
-    let q : answer-bytes number-bytes * (k + length new) ≡ length bs + length cs = omega arith in
+    let m : length cs ≡ answer-bytes b * length new = ap length (notes-are b place new) ∙ notes-length b (at-record place new) ∙ ap (λ (x : ℕ). answer-bytes b * x) i in
+    let p : length bs ≡ answer-bytes b * k = l ∙ ap (λ (x : ℕ). answer-bytes b * x) (sym e) in
+    let q : answer-bytes b * (k + length new) ≡ length bs + length cs = ap (λ (x : ℕ). answer-bytes b * (x + length new)) e ∙ omega arith in
     let j : length (ms ++ at-record place new) ≡ length ms + length new = length-append ms (at-record place new) ∙ ap (λ (x : ℕ). length ms + x) i in
-    let n : answer-bytes number-bytes * length ms + length cs ≡ answer-bytes number-bytes * length (ms ++ at-record place new) = omega arith in
-    ap₂ (λ (x y : Bytes). x ++ (cs ++ y)) (take-at bs (drop (answer-bytes number-bytes * length ms) old) (answer-bytes number-bytes * k) p)
-    (ap (λ (x : ℕ). drop x (bs ++ drop (answer-bytes number-bytes * length ms) old)) q ∙ drop-append-add bs (drop (answer-bytes number-bytes * length ms) old) (length cs)
-    ∙ drop-drop (length cs) (answer-bytes number-bytes * length ms) old)
-    ∙ sym (append-assoc bs cs (drop (answer-bytes number-bytes * length ms + length cs) old))
-    ∙ ap₂ (λ (x : Bytes) (y : ℕ). x ++ drop y old) (ap (λ (zs : Bytes). bs ++ zs) (notes-are place new) ∙ sym (notes-append ms (at-record place new))) n
+    let s : answer-bytes b * length ms + length cs ≡ answer-bytes b * (length ms + length new) = omega arith in
+    let n : answer-bytes b * length ms + length cs ≡ answer-bytes b * length (ms ++ at-record place new) = s ∙ ap (λ (x : ℕ). answer-bytes b * x) (sym j) in
+    ap₂ (λ (x y : Bytes). x ++ (cs ++ y)) (take-at bs (drop (answer-bytes b * length ms) old) (answer-bytes b * k) p)
+    (ap (λ (x : ℕ). drop x (bs ++ drop (answer-bytes b * length ms) old)) q ∙ drop-append-add bs (drop (answer-bytes b * length ms) old) (length cs)
+    ∙ drop-drop (length cs) (answer-bytes b * length ms) old)
+    ∙ sym (append-assoc bs cs (drop (answer-bytes b * length ms + length cs) old))
+    ∙ ap₂ (λ (x : Bytes) (y : ℕ). x ++ drop y old) (ap (λ (zs : Bytes). bs ++ zs) (notes-are b place new) ∙ sym (notes-append b ms (at-record place new))) n
 
 -- when the job has ended
-pub notes-sealed : (old : Bytes) (ms : List Note) {k : ℕ} → k ≡ length ms → sealed k (notes-after ms old) ≡ answers-after number-bytes (answers-of ms) old
-notes-sealed old ms e =
+pub notes-sealed : (b : ℕ) (old : Bytes) (ms : List Note) {k : ℕ} → k ≡ length ms → sealed b k (notes-after b ms old) ≡ answers-after b (answers-of ms) old
+notes-sealed b old ms e =
     let l : length (answers-of ms) ≡ length ms = length-map ms (λ (m : Note). m .1) in
-    let n : answer-bytes number-bytes * length ms ≡ length (encode-answers number-bytes (answers-of ms)) = sym (bytes-length number-bytes (answers-of ms) ∙ ap (λ (x : ℕ). answer-bytes number-bytes * x) l) in
-    ap (λ (i : ℕ). sealed i (notes-after ms old)) e ∙ sealed-all ms (drop (answer-bytes number-bytes * length ms) old) ∙ ap (λ (i : ℕ). encode-answers number-bytes (answers-of ms) ++ drop i old) n
+    let n : answer-bytes b * length ms ≡ length (encode-answers b (answers-of ms)) = sym (bytes-length b (answers-of ms) ∙ ap (λ (x : ℕ). answer-bytes b * x) l) in
+    ap (λ (i : ℕ). sealed b i (notes-after b ms old)) e ∙ sealed-all b ms (drop (answer-bytes b * length ms) old) ∙ ap (λ (i : ℕ). encode-answers b (answers-of ms) ++ drop i old) n

@@ -10,8 +10,8 @@ use lib.Dec.{leb}
 use lib.ListN.{length, take, drop, replicate, length-drop, length-append, length-map, length-replicate}
 use lib.Seq.{drop-drop, length-take-le}
 use borrow.Author.Tests.{le-leb, lt-leb}
-use Rattle.theory.specs.Limit.{Limits, first-terms, max-job, answer-bytes, number-bytes}
-use Rattle.theory.specs.Record.{Bytes, extent, whole, records-of, total-length, ending, Item, term, step, chain, back, unknown, misfit, read}
+use Rattle.theory.specs.Limit.{Limits, first-terms, max-job, answer-bytes}
+use Rattle.theory.specs.Record.{Bytes, extent, whole, records-of, total-length, ending, Item, term, step, chain, back, unknown, misfit, read, number-length}
 use Rattle.theory.specs.Plain.{Plain, start, feed, plain-after, has, repeat-item, repeat-of}
 use Rattle.theory.specs.Codes.{fault}
 use Rattle.theory.specs.Answer.{Answer}
@@ -24,7 +24,7 @@ use Rattle.terms.specs.Framing.{record-at}
 use Rattle.terms.proofs.Reading.{stands}
 use Rattle.rows.specs.Rows.{column, offsets}
 use Rattle.store.specs.Store.{Store, listed}
-use Rattle.rows.specs.Layout.{link-bytes}
+use Rattle.rows.proofs.RowLaws.{rows-small, link-holds}
 use Rattle.table.specs.Promise.{cleared}
 use Rattle.table.proofs.MemoryLaws.{length-cleared}
 use Rattle.intern.specs.Interning.{Started}
@@ -51,47 +51,47 @@ one-item list r (back n) = omega arith
 one-item list r unknown = omega arith
 one-item list r misfit = omega arith
 
-one-repeat : (list : Plain) (r : Bytes) → repeat-of number-bytes list r ≤ 1
+one-repeat : (b : ℕ) (list : Plain) (r : Bytes) → repeat-of b list r ≤ 1
 unfolding repeat-of
-one-repeat list r = one-item list r (read number-bytes r)
+one-repeat b list r = one-item list r (read b r)
 
-pub turn-repeats : {limits : Limits} {job work answers work′ answers′ : Bytes} {rows answered at : ℕ} {t : Turn} → Turned limits job work answers rows answered at work′ answers′ t → t .repeats ≤ 1
-turn-repeats {limits} {job} {work} {answers} {work′} {answers′} {rows} {answered} {at} {t} h = subst (λ (n : ℕ). n ≤ 1) (sym (h .repeats-is)) (go (t .code))
+pub turn-repeats : {limits : Limits} {job work answers work′ answers′ : Bytes} {place rows answered at : ℕ} {t : Turn} → Turned limits place job work answers rows answered at work′ answers′ t → t .repeats ≤ 1
+turn-repeats {limits} {job} {work} {answers} {work′} {answers′} {place} {rows} {answered} {at} {t} h = subst (λ (n : ℕ). n ≤ 1) (sym (h .repeats-is)) (go (t .code))
   where
-    go : (c : ℕ) → passed c (repeat-of number-bytes (listed job work rows) (record-at job at)) 0 ≤ 1
-    go zero = one-repeat (listed job work rows) (record-at job at)
+    go : (c : ℕ) → passed c (repeat-of (number-length job) (listed job work rows) (record-at job at)) 0 ≤ 1
+    go zero = one-repeat (number-length job) (listed job work rows) (record-at job at)
     go (suc c) = omega arith
 
 -- ---- the run, record by record
-module _ (limits : Limits) (work space end done repeats : ℕ) (earlier : Earlier) (list : Plain) (answers : List Answer) where
+module _ (b : ℕ) (limits : Limits) (work space end done repeats : ℕ) (earlier : Earlier) (list : Plain) (answers : List Answer) where
   -- what it comes to with one more record, by the record's code
   abbrev by-code : Bytes → List Bytes → ℕ → Outcome
   by-code r rs f =
       elim f as (λ z. Outcome) [
-        | zero ↦ run-from number-bytes limits work space end (suc done) (repeats + repeat-of number-bytes list r) (recall number-bytes earlier list r) (feed number-bytes list r) (answers ++ answers-to number-bytes earlier list r) rs
+        | zero ↦ run-from b limits work space end (suc done) (repeats + repeat-of b list r) (recall b earlier list r) (feed b list r) (answers ++ answers-to b earlier list r) rs
         | suc code ↦ outcome (suc code) done repeats answers list
       ]
 
   -- one more record
-  run-record : (r : Bytes) (rs : List Bytes) {f : ℕ} → fault number-bytes limits work space list (length answers) r ≡ f
-      → run-from number-bytes limits work space end done repeats earlier list answers (r ∷ rs) ≡ by-code r rs f
+  run-record : (r : Bytes) (rs : List Bytes) {f : ℕ} → fault done b limits work space list (length answers) r ≡ f
+      → run-from b limits work space end done repeats earlier list answers (r ∷ rs) ≡ by-code r rs f
   unfolding run-from
   run-record r rs e = ap (by-code r rs) e
 
   -- no record is left
-  run-ends : {rs : List Bytes} → rs ≡ [] → run-from number-bytes limits work space end done repeats earlier list answers rs ≡ outcome end done repeats answers list
+  run-ends : {rs : List Bytes} → rs ≡ [] → run-from b limits work space end done repeats earlier list answers rs ≡ outcome end done repeats answers list
   unfolding run-from
-  run-ends e = ap (run-from number-bytes limits work space end done repeats earlier list answers) e
+  run-ends e = ap (run-from b limits work space end done repeats earlier list answers) e
 
 -- the run, by the test of the job's length
 module _ (limits : Limits) (job : Bytes) (work space : ℕ) where
   by-length : {b : Bool} → leb (length job) max-job ≡ b
-      → run limits job work space ≡ elim b as (λ z. Outcome) [ true ↦ run-from number-bytes limits work space (ending job) 0 0 [] start [] (records-of job) | false ↦ outcome 2 0 0 [] start ]
+      → run limits job work space ≡ elim b as (λ z. Outcome) [ true ↦ run-from (number-length job) limits work space (ending job) 0 0 [] start [] (records-of job) | false ↦ outcome 2 0 0 [] start ]
   unfolding run
-  by-length e = ap (λ (b : Bool). elim b as (λ z. Outcome) [ true ↦ run-from number-bytes limits work space (ending job) 0 0 [] start [] (records-of job) | false ↦ outcome 2 0 0 [] start ]) e
+  by-length e = ap (λ (b : Bool). elim b as (λ z. Outcome) [ true ↦ run-from (number-length job) limits work space (ending job) 0 0 [] start [] (records-of job) | false ↦ outcome 2 0 0 [] start ]) e
 
   -- a job that is not too long
-  run-short : length job ≤ max-job → run limits job work space ≡ run-from number-bytes limits work space (ending job) 0 0 [] start [] (records-of job)
+  run-short : length job ≤ max-job → run limits job work space ≡ run-from (number-length job) limits work space (ending job) 0 0 [] start [] (records-of job)
   run-short h = by-length (le-leb (length job) max-job h)
 
   -- a job that is too long
@@ -124,14 +124,14 @@ module _ {job from work : Bytes} {at m rows : ℕ} (d : Done job from work at m 
       let k : rows ≡ length (plain-after m job) - first-terms = let z = ap length (d .listed-is) in omega arith in
       ap (λ (w : Bytes). memory-at job w rows at) (d .memory-is) ∙ ap₂ (λ (i j : ℕ). memory-at job (memory-run job from m) i j) k (d .at-is) ∙ ap (memory-run job from) (sym (add-one m))
 
-  done-more : {work′ : Bytes} {rows′ n : ℕ} → length r ≡ n → listed job work′ rows′ ≡ feed number-bytes (listed job work rows) r → work′ ≡ memory-at job work rows at
+  done-more : {work′ : Bytes} {rows′ n : ℕ} → length r ≡ n → listed job work′ rows′ ≡ feed (number-length job) (listed job work rows) r → work′ ≡ memory-at job work rows at
       → Done job from work′ (at + n) (m + 1) rows′
   done-more {work′} {rows′} {n} l f w =
       let q = take-next m (records-of job) e .0 in
       let t : take (m + 1) (records-of job) ≡ take m (records-of job) ++ (r ∷ []) = ap (λ (i : ℕ). take i (records-of job)) (add-one m) ∙ q in
       record {
         at-is = let x = d .at-is in let y = total-snoc (take m (records-of job)) r in let z = ap total-length t in omega arith;
-        listed-is = f ∙ ap (λ (x : Plain). feed number-bytes x r) (d .listed-is) ∙ sym (foldl-append (feed number-bytes) start (take m (records-of job)) (r ∷ [])) ∙ ap (foldl (feed number-bytes) start) (sym t);
+        listed-is = f ∙ ap (λ (x : Plain). feed (number-length job) x r) (d .listed-is) ∙ sym (foldl-append (feed (number-length job)) start (take m (records-of job)) (r ∷ [])) ∙ ap (foldl (feed (number-length job)) start) (sym t);
         memory-is = w ∙ memory-more;
       }
 
@@ -144,10 +144,10 @@ pub record Holding (job from old work answers : Bytes) (s : State) (ms : List No
   pub store : Store job work (s .rows)
   pub same-work : length work ≡ length from
   pub same-answers : length answers ≡ length old
-  pub written : answers ≡ notes-after ms old
+  pub written : answers ≡ notes-after (number-length job) ms old
   pub counted : s .answers ≡ length ms
-  pub places : (k : ℕ) → k < s .answers → whole (drop (step-place answers k) job) ≡ true
-  pub roomy : answer-bytes number-bytes * s .answers ≤ length old
+  pub places : (k : ℕ) → k < s .answers → whole (drop (step-place (number-length job) answers k) job) ≡ true
+  pub roomy : answer-bytes (number-length job) * s .answers ≤ length old
   pub within : s .at ≤ length job
   pub few : s .records ≤ s .at
   pub fewer : s .answers ≤ s .records
@@ -162,7 +162,7 @@ pub record Between (limits : Limits) (job from old work answers : Bytes) (s : St
   pub left : drop (s .records) (records-of job) ≡ records-of (drop (s .at) job)
   pub before : total-length (records-of job) ≡ s .at + total-length (records-of (drop (s .at) job))
   pub leads : run limits job (length from) (length old)
-      ≡ run-from number-bytes limits (length from) (length old) (ending job) (s .records) (s .repeats) (earlier-in job work answers (s .rows) (s .answers)) (listed job work (s .rows)) (answers-of given) (records-of (drop (s .at) job))
+      ≡ run-from (number-length job) limits (length from) (length old) (ending job) (s .records) (s .repeats) (earlier-in job work answers (s .rows) (s .answers)) (listed job work (s .rows)) (answers-of given) (records-of (drop (s .at) job))
 
 -- the run ends here
 pub record Stopped (limits : Limits) (job from old work answers : Bytes) (s : State) : Type 0 where
@@ -194,7 +194,7 @@ begins limits {job} {work} {after} old h s = record {
     store = s .store;
     same-work = refl;
     same-answers = refl;
-    written = refl;
+    written = ap (λ (n : ℕ). drop n old) (let z : 0 ≡ answer-bytes (number-length job) * 0 = omega arith in z);
     counted = refl;
     places = λ k l. absurd (omega arith);
     roomy = omega arith;
@@ -211,7 +211,7 @@ begins limits {job} {work} {after} old h s = record {
   left = refl;
   before = omega arith;
   leads = run-short limits job (length after) (length old) h
-      ∙ ap₂ (λ (earlier : Earlier) (list : Plain). run-from number-bytes limits (length after) (length old) (ending job) 0 0 earlier list [] (records-of job)) (sym (none-earlier job after old)) (sym (s .listed-is));
+      ∙ ap₂ (λ (earlier : Earlier) (list : Plain). run-from (number-length job) limits (length after) (length old) (ending job) 0 0 earlier list [] (records-of job)) (sym (none-earlier job after old)) (sym (s .listed-is));
 }
 
 -- what the next record may take for granted
@@ -226,7 +226,7 @@ standing b =
 last : {limits : Limits} {job from old work answers : Bytes} {s : State} (b : Between limits job from old work answers s) → records-of (drop (s .at) job) ≡ [] → {c : ℕ} → ending job ≡ c
     → run limits job (length from) (length old) ≡ outcome c (s .records) (s .repeats) (answers-of (b .given)) (listed job work (s .rows))
 last {limits} {job} {from} {old} {work} {answers} {s} b none e =
-    b .leads ∙ run-ends limits (length from) (length old) (ending job) (s .records) (s .repeats) (earlier-in job work answers (s .rows) (s .answers)) (listed job work (s .rows)) (answers-of (b .given)) none
+    b .leads ∙ run-ends (number-length job) limits (length from) (length old) (ending job) (s .records) (s .repeats) (earlier-in job work answers (s .rows) (s .answers)) (listed job work (s .rows)) (answers-of (b .given)) none
     ∙ ap (λ (x : ℕ). outcome x (s .records) (s .repeats) (answers-of (b .given)) (listed job work (s .rows))) e
 
 -- the job ends where nothing is left
@@ -241,7 +241,6 @@ ends {limits} {job} {from} {old} {work} {answers} {s} b z h =
 -- what the host is told of a job that stopped
 pub walked : {limits : Limits} {job from old work answers : Bytes} {s : State} → length job ≤ max-job → Stopped limits job from old work answers s
     → {lent : Bytes} → from ≡ cleared lent → Walked limits job lent old work answers s
-unfolding link-bytes
 walked {limits} {job} {from} {old} {work} {answers} {s} short t {lent} same =
     let h = t .holding in
     let c = h .counted in
@@ -250,7 +249,7 @@ walked {limits} {job} {from} {old} {work} {answers} {s} short t {lent} same =
     let b = h .few in
     let d = h .fewer in
     let q = h .rarer in
-    let f = h .store .table .rows .few in
+    let f = rows-small (h .store .table .rows) in
     let m : length (answers-of (t .given)) ≡ length (t .given) = length-map (t .given) (λ (x : Note). x .1) in
     let y = h .roomy in
     let z = h .same-answers in
@@ -261,7 +260,7 @@ walked {limits} {job} {from} {old} {work} {answers} {s} short t {lent} same =
       at-is = t .done .at-is;
       memory-is = t .done .memory-is ∙ ap (λ (m : Bytes). memory-run job m (s .records)) same;
       roomy = omega arith;
-      answers-are = ap (sealed (s .answers)) (h .written) ∙ notes-sealed old (t .given) c ∙ ap (λ (o : Outcome). answers-after number-bytes (o .answers) old) (sym e);
+      answers-are = ap (sealed (number-length job) (s .answers)) (h .written) ∙ notes-sealed (number-length job) old (t .given) c ∙ ap (λ (o : Outcome). answers-after (number-length job) (o .answers) old) (sym e);
       few-records = omega arith;
       few-answers = omega arith;
       few-terms = omega arith;
@@ -348,68 +347,67 @@ module _ {limits : Limits} {job from old work answers : Bytes} {s : State} (b : 
   abbrev left : List Bytes
   left = records-of (drop n (drop (s .at) job))
 
-  module _ (w : whole (drop (s .at) job) ≡ true) (t : Turn) (turned : Turned limits job work answers (s .rows) (s .answers) (s .at) work′ answers′ t) where
+  module _ (w : whole (drop (s .at) job) ≡ true) (t : Turn) (turned : Turned limits (s .records) job work answers (s .rows) (s .answers) (s .at) work′ answers′ t) where
     -- it is the run's next record
-    here : run limits job (length from) (length old) ≡ run-from number-bytes limits (length from) (length old) (ending job) (s .records) (s .repeats) E list (answers-of (b .given)) (r ∷ left)
-    here = b .leads ∙ ap (run-from number-bytes limits (length from) (length old) (ending job) (s .records) (s .repeats) E list (answers-of (b .given))) (records-whole (drop (s .at) job) w)
+    here : run limits job (length from) (length old) ≡ run-from (number-length job) limits (length from) (length old) (ending job) (s .records) (s .repeats) E list (answers-of (b .given)) (r ∷ left)
+    here = b .leads ∙ ap (run-from (number-length job) limits (length from) (length old) (ending job) (s .records) (s .repeats) E list (answers-of (b .given))) (records-whole (drop (s .at) job) w)
 
     -- as many answers as the code counts
     counts : s .answers ≡ length (answers-of (b .given))
     counts = b .holding .counted ∙ sym (length-map (b .given) (λ (x : Note). x .1))
 
     -- its code
-    test : fault number-bytes limits (length from) (length old) list (length (answers-of (b .given))) r ≡ t .code
+    test : fault (s .records) (number-length job) limits (length from) (length old) list (length (answers-of (b .given))) r ≡ t .code
     test =
         let h = b .holding in
-        sym (turned .code-is ∙ ap (λ (k : ℕ). fault number-bytes limits (length work) (length answers) list k r) counts
-        ∙ ap₂ (λ (x y : ℕ). fault number-bytes limits x y list (length (answers-of (b .given))) r) (h .same-work) (h .same-answers))
+        sym (turned .code-is ∙ ap (λ (k : ℕ). fault (s .records) (number-length job) limits (length work) (length answers) list k r) counts
+        ∙ ap₂ (λ (x y : ℕ). fault (s .records) (number-length job) limits x y list (length (answers-of (b .given))) r) (h .same-work) (h .same-answers))
 
     -- the answers after it, where the code is c
     module _ (c : ℕ) (e : t .code ≡ c) where
       -- those that it adds
       abbrev new : List Answer
-      new = passed c (answers-to number-bytes E list r) []
+      new = passed c (answers-to (number-length job) E list r) []
 
       -- they are what was written
-      same-new : passed (t .code) (answers-to number-bytes E list r) [] ≡ new
-      same-new = ap (λ (x : ℕ). passed x (answers-to number-bytes E list r) []) e
+      same-new : passed (t .code) (answers-to (number-length job) E list r) [] ≡ new
+      same-new = ap (λ (x : ℕ). passed x (answers-to (number-length job) E list r) []) e
 
       -- the memory holds them all
-      wrote-new : answers′ ≡ with-notes answers (s .answers) (s .at) new
-      wrote-new = turned .written-is ∙ ap (with-notes answers (s .answers) (s .at)) same-new
+      wrote-new : answers′ ≡ with-notes (number-length job) answers (s .answers) (s .at) new
+      wrote-new = turned .written-is ∙ ap (with-notes (number-length job) answers (s .answers) (s .at)) same-new
 
-      wrote : answers′ ≡ notes-after (b .given ++ at-record (s .at) new) old
+      wrote : answers′ ≡ notes-after (number-length job) (b .given ++ at-record (s .at) new) old
       wrote =
           let h = b .holding in
-          wrote-new ∙ ap (λ (x : Bytes). with-notes x (s .answers) (s .at) new) (h .written) ∙ notes-more old (b .given) (s .at) new (h .counted)
+          wrote-new ∙ ap (λ (x : Bytes). with-notes (number-length job) x (s .answers) (s .at) new) (h .written) ∙ notes-more (number-length job) old (b .given) (s .at) new (h .counted)
 
       -- how many they are
       count : t .answers ≡ s .answers + length new
       count = turned .answers-is ∙ ap (λ (xs : List Answer). s .answers + length xs) same-new
 
       -- they have room
-      fits : answer-bytes number-bytes * t .answers ≤ length old
+      fits : answer-bytes (number-length job) * t .answers ≤ length old
       fits =
           let h = b .holding in
           let x = h .same-answers in
           let y = h .roomy in
-          let z = written-fits answers (s .answers) (s .at) new (omega arith) (ap length (sym wrote-new) ∙ la) in
-          let k = count in
-          omega arith
+          let z = written-fits (number-length job) answers (s .answers) (s .at) new (omega arith) (ap length (sym wrote-new) ∙ la) in
+          subst (λ (k : ℕ). answer-bytes (number-length job) * k ≤ length old) (sym count) (omega arith)
 
       -- at most one is new
       few-new : length new ≤ 1
       few-new = go c
         where
-          go : (d : ℕ) → length (passed d (answers-to number-bytes E list r) []) ≤ 1
-          go zero = one-answer E list r
+          go : (d : ℕ) → length (passed d (answers-to (number-length job) E list r) []) ≤ 1
+          go zero = one-answer (number-length job) E list r
           go (suc d) = omega arith
 
       -- what holds at a state after it
       near : s .at < 16777216
       near = let z = b .holding .store .table .rows .short in omega arith
 
-      room : answer-bytes number-bytes * s .answers ≤ length answers
+      room : answer-bytes (number-length job) * s .answers ≤ length answers
       room = let x = b .holding .same-answers in let y = b .holding .roomy in omega arith
 
       held : (at records repeats : ℕ) (stop : ℕ) → at ≤ length job → records ≤ at → t .answers ≤ records → repeats ≤ records
@@ -422,7 +420,7 @@ module _ {limits : Limits} {job from old work answers : Bytes} {s : State} (b : 
             same-answers = la ∙ h .same-answers;
             written = wrote;
             counted = count ∙ ap₂ (λ (k i : ℕ). k + i) (h .counted) (sym (length-map new (λ (a : Answer). (s .at, a)))) ∙ sym (length-append (b .given) (at-record (s .at) new));
-            places = λ k l. subst (λ (m : Bytes). whole (drop (step-place m k) job) ≡ true) (sym wrote-new)
+            places = λ k l. subst (λ (m : Bytes). whole (drop (step-place (number-length job) m k) job) ≡ true) (sym wrote-new)
                 (places-more job answers (s .answers) (s .at) room near w (h .places) new few-new k (let i = count in omega arith));
             roomy = fits;
             within = p;
@@ -433,28 +431,27 @@ module _ {limits : Limits} {job from old work answers : Bytes} {s : State} (b : 
 
     -- no code: the run goes on after the record
     -- the earlier steps after it
-    tracked : t .code ≡ 0 → Tracks (s .at + n) (origins job work′ (t .rows)) (marks-in job answers′ (t .answers)) (recall number-bytes E list r) (listed job work′ (t .rows))
-    unfolding link-bytes
+    tracked : t .code ≡ 0 → Tracks (s .at + n) (origins job work′ (t .rows)) (marks-in job answers′ (t .answers)) (recall (number-length job) E list r) (listed job work′ (t .rows))
     tracked e =
         let h = b .holding in
         let st = stands job (s .at) w in
         let p = st .low in
-        let few = h .store .table .rows .few in
+        let few = link-holds (number-length job) _ (h .store .table .rows .few) in
         let c = h .store .count in
         let f = test ∙ e in
-        let small = new-small number-bytes limits (length from) (length old) E list (length (answers-of (b .given))) r f (h .store .well) (omega arith) in
-        let os : origins-item (origins job work (s .rows)) list (s .at) r (read number-bytes r) ≡ origins job work′ (t .rows)
-        = sym (turned .origins-are ∙ ap (λ (x : ℕ). passed x (origins-item (origins job work (s .rows)) list (s .at) r (read number-bytes r)) (origins job work (s .rows))) e) in
-        let ms : marks-item (marks-in job answers (s .answers)) (s .at) (read number-bytes r) (answers-to number-bytes E list r) ≡ marks-in job answers′ (t .answers)
+        let small = new-small (s .records) (number-length job) limits (length from) (length old) E list (length (answers-of (b .given))) r f (h .store .well) (omega arith) in
+        let os : origins-item (origins job work (s .rows)) list (s .at) r (read (number-length job) r) ≡ origins job work′ (t .rows)
+        = sym (turned .origins-are ∙ ap (λ (x : ℕ). passed x (origins-item (origins job work (s .rows)) list (s .at) r (read (number-length job) r)) (origins job work (s .rows))) e) in
+        let ms : marks-item (marks-in job answers (s .answers)) (s .at) (read (number-length job) r) (answers-to (number-length job) E list r) ≡ marks-in job answers′ (t .answers)
         = sym (ap₂ (marks-in job) (wrote-new 0 e) (count 0 e) ∙ marks-more job answers (s .answers) (s .at) (room 0 e) (near 0 e) E list small) in
-        let ls : feed number-bytes list r ≡ listed job work′ (t .rows) = sym (turned .listed-is ∙ ap (λ (x : ℕ). passed x (feed number-bytes list r) list) e) in
-        subst (λ (l : Plain). Tracks (s .at + n) (origins job work′ (t .rows)) (marks-in job answers′ (t .answers)) (recall number-bytes E list r) l) ls
-        (subst₂ (λ (o : List ℕ) (m : List Mark). Tracks (s .at + n) o m (recall number-bytes E list r) (feed number-bytes list r)) os ms
-        (tracks-next number-bytes limits (length from) (length old) (length (answers-of (b .given))) (s .at) (s .at + n) r (origins job work (s .rows)) (marks-in job answers (s .answers)) E list (b .tracks) (omega arith) f))
+        let ls : feed (number-length job) list r ≡ listed job work′ (t .rows) = sym (turned .listed-is ∙ ap (λ (x : ℕ). passed x (feed (number-length job) list r) list) e) in
+        subst (λ (l : Plain). Tracks (s .at + n) (origins job work′ (t .rows)) (marks-in job answers′ (t .answers)) (recall (number-length job) E list r) l) ls
+        (subst₂ (λ (o : List ℕ) (m : List Mark). Tracks (s .at + n) o m (recall (number-length job) E list r) (feed (number-length job) list r)) os ms
+        (tracks-next (s .records) (number-length job) limits (length from) (length old) (length (answers-of (b .given))) (s .at) (s .at + n) r (origins job work (s .rows)) (marks-in job answers (s .answers)) E list (b .tracks) (omega arith) f))
 
     -- the repeats that it adds
-    counted-repeats : t .code ≡ 0 → t .repeats ≡ repeat-of number-bytes list r
-    counted-repeats e = turned .repeats-is ∙ ap (λ (x : ℕ). passed x (repeat-of number-bytes list r) 0) e
+    counted-repeats : t .code ≡ 0 → t .repeats ≡ repeat-of (number-length job) list r
+    counted-repeats e = turned .repeats-is ∙ ap (λ (x : ℕ). passed x (repeat-of (number-length job) list r) 0) e
 
     took : t .code ≡ 0 → Between limits job from old work′ answers′ (state (s .at + n) 0 (s .records + 1) (t .answers) (t .rows) (s .repeats + t .repeats))
     took e =
@@ -466,31 +463,31 @@ module _ {limits : Limits} {job from old work answers : Bytes} {s : State} (b : 
         let o = h .fewer in
         let y = h .rarer in
         let x = counted-repeats e in
-        let z = one-repeat list r in
+        let z = one-repeat (number-length job) list r in
         let k = count 0 e in
         let u = few-new 0 e in
         let d : drop n (drop (s .at) job) ≡ drop (s .at + n) job = drop-drop n (s .at) job in
         let next-left : drop (s .records) (records-of job) ≡ r ∷ left = b .left ∙ records-whole (drop (s .at) job) w in
         let len : length r ≡ n = length-take-le n (drop (s .at) job) (let m = length-drop (s .at) job in omega arith) in
         record {
-          given = b .given ++ at-record (s .at) (answers-to number-bytes E list r);
+          given = b .given ++ at-record (s .at) (answers-to (number-length job) E list r);
           tracks = subst (λ (x : Earlier). Tracks (s .at + n) (origins job work′ (t .rows)) (marks-in job answers′ (t .answers)) x (listed job work′ (t .rows))) (tracked e .is) (tracked e);
           holding = held 0 e (s .at + n) (s .records + 1) (s .repeats + t .repeats) 0 (omega arith) (omega arith) (omega arith) (omega arith);
-          done = done-more (b .done) (h .store .count) next-left len (turned .listed-is ∙ ap (λ (x : ℕ). passed x (feed number-bytes list r) list) e)
+          done = done-more (b .done) (h .store .count) next-left len (turned .listed-is ∙ ap (λ (x : ℕ). passed x (feed (number-length job) list r) list) e)
               (turned .memory-is ∙ ap (λ (x : ℕ). passed x (memory-at job work (s .rows) (s .at)) work) e);
           left = left-more (b .done) (h .store .count) next-left ∙ ap records-of d;
           before = b .before ∙ ap (λ (rs : List Bytes). s .at + total-length rs) (records-whole (drop (s .at) job) w)
               ∙ ap (λ (m : ℕ). s .at + (m + total-length left)) len ∙ ap (λ (bs : Bytes). s .at + (n + total-length (records-of bs))) d ∙ omega arith;
-          leads = here ∙ run-record limits (length from) (length old) (ending job) (s .records) (s .repeats) E list (answers-of (b .given)) r left (test ∙ e)
-              ∙ ap₂ (λ (x : Earlier) (l : Plain). run-from number-bytes limits (length from) (length old) (ending job) (suc (s .records)) (s .repeats + repeat-of number-bytes list r) x l (answers-of (b .given) ++ answers-to number-bytes E list r) left)
-              (tracked e .is) (sym (turned .listed-is ∙ ap (λ (x : ℕ). passed x (feed number-bytes list r) list) e))
-              ∙ ap (λ (xs : List Answer). run-from number-bytes limits (length from) (length old) (ending job) (suc (s .records)) (s .repeats + repeat-of number-bytes list r) (earlier-in job work′ answers′ (t .rows) (t .answers)) (listed job work′ (t .rows)) xs left)
-              (sym (answers-more (b .given) (s .at) (answers-to number-bytes E list r)))
-              ∙ ap₂ (λ (m : ℕ) (bs : Bytes). run-from number-bytes limits (length from) (length old) (ending job) m (s .repeats + repeat-of number-bytes list r) (earlier-in job work′ answers′ (t .rows) (t .answers)) (listed job work′ (t .rows))
-              (answers-of (b .given ++ at-record (s .at) (answers-to number-bytes E list r))) (records-of bs))
+          leads = here ∙ run-record (number-length job) limits (length from) (length old) (ending job) (s .records) (s .repeats) E list (answers-of (b .given)) r left (test ∙ e)
+              ∙ ap₂ (λ (x : Earlier) (l : Plain). run-from (number-length job) limits (length from) (length old) (ending job) (suc (s .records)) (s .repeats + repeat-of (number-length job) list r) x l (answers-of (b .given) ++ answers-to (number-length job) E list r) left)
+              (tracked e .is) (sym (turned .listed-is ∙ ap (λ (x : ℕ). passed x (feed (number-length job) list r) list) e))
+              ∙ ap (λ (xs : List Answer). run-from (number-length job) limits (length from) (length old) (ending job) (suc (s .records)) (s .repeats + repeat-of (number-length job) list r) (earlier-in job work′ answers′ (t .rows) (t .answers)) (listed job work′ (t .rows)) xs left)
+              (sym (answers-more (b .given) (s .at) (answers-to (number-length job) E list r)))
+              ∙ ap₂ (λ (m : ℕ) (bs : Bytes). run-from (number-length job) limits (length from) (length old) (ending job) m (s .repeats + repeat-of (number-length job) list r) (earlier-in job work′ answers′ (t .rows) (t .answers)) (listed job work′ (t .rows))
+              (answers-of (b .given ++ at-record (s .at) (answers-to (number-length job) E list r))) (records-of bs))
               (sym (add-one (s .records))) d
-              ∙ ap (λ (i : ℕ). run-from number-bytes limits (length from) (length old) (ending job) (s .records + 1) (s .repeats + i) (earlier-in job work′ answers′ (t .rows) (t .answers)) (listed job work′ (t .rows))
-              (answers-of (b .given ++ at-record (s .at) (answers-to number-bytes E list r))) (records-of (drop (s .at + n) job)))
+              ∙ ap (λ (i : ℕ). run-from (number-length job) limits (length from) (length old) (ending job) (s .records + 1) (s .repeats + i) (earlier-in job work′ answers′ (t .rows) (t .answers)) (listed job work′ (t .rows))
+              (answers-of (b .given ++ at-record (s .at) (answers-to (number-length job) E list r))) (records-of (drop (s .at + n) job)))
               (sym (counted-repeats e));
         }
 
@@ -505,11 +502,11 @@ module _ {limits : Limits} {job from old work answers : Bytes} {s : State} (b : 
           holding = held (suc c) e (s .at) (s .records) (s .repeats) (suc c) (h .within) (h .few) (omega arith) (h .rarer);
           done = record {
             at-is = b .done .at-is;
-            listed-is = turned .listed-is ∙ ap (λ (x : ℕ). passed x (feed number-bytes list r) list) e ∙ b .done .listed-is;
+            listed-is = turned .listed-is ∙ ap (λ (x : ℕ). passed x (feed (number-length job) list r) list) e ∙ b .done .listed-is;
             memory-is = turned .memory-is ∙ ap (λ (x : ℕ). passed x (memory-at job work (s .rows) (s .at)) work) e ∙ b .done .memory-is;
           };
-          ended = here ∙ run-record limits (length from) (length old) (ending job) (s .records) (s .repeats) E list (answers-of (b .given)) r left (test ∙ e)
-              ∙ ap₂ (outcome (suc c) (s .records) (s .repeats)) (ap answers-of (sym (append-nil (b .given)))) (sym (turned .listed-is ∙ ap (λ (x : ℕ). passed x (feed number-bytes list r) list) e));
+          ended = here ∙ run-record (number-length job) limits (length from) (length old) (ending job) (s .records) (s .repeats) E list (answers-of (b .given)) r left (test ∙ e)
+              ∙ ap₂ (outcome (suc c) (s .records) (s .repeats)) (ap answers-of (sym (append-nil (b .given)))) (sym (turned .listed-is ∙ ap (λ (x : ℕ). passed x (feed (number-length job) list r) list) e));
         }
 
   -- the next state: it has no code and stands further on, between two records, or it has one and the run ends there

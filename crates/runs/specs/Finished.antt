@@ -1,13 +1,14 @@
 -- A job at its end: what the host is to be told, both memories, and the final store.
 use mathlib.Core.Path.{_≡_}
-use Prim.Native.Nat.{_+_, _≤_}
+use Prim.Native.Nat.{_+_, _<_, _≤_}
 use lib.ListN.{length}
-use Rattle.theory.specs.Limit.{Limits, first-terms, max-terms, max-job}
+use Rattle.theory.specs.Limit.{Limits, first-terms, max-job}
 use Rattle.theory.specs.Record.{Bytes, number-length}
 use Rattle.theory.specs.Plain.{plain-after}
 use Rattle.theory.specs.Job.{returned, run, answers-after}
 use Rattle.store.specs.Store.{listed}
 use Rattle.store.specs.Shelf.{Shelf}
+use Rattle.rows.specs.Layout.{place-end}
 use Rattle.runs.specs.declared.walk.State.{State}
 use Rattle.runs.specs.Walking.{reached, memory-left}
 
@@ -15,7 +16,7 @@ use Rattle.runs.specs.Walking.{reached, memory-left}
 pub record Small (s : State) : Type 0 where
   pub few-records : s .records ≤ max-job
   pub few-answers : s .answers ≤ max-job
-  pub few-terms : s .rows + first-terms ≤ max-terms
+  pub few-terms : s .rows + first-terms < place-end
   pub few-repeats : s .repeats ≤ max-job
 
 -- what the host is to be told, and both memories; where the job does not stop early, the rows are the terms after the last record

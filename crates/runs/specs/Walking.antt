@@ -4,7 +4,7 @@ use mathlib.Core.Bool.{true, false, cond}
 use Prim.Native.Nat.{ℕ, zero, suc, _+_, _-_, _*_, _≤_, _<_}
 use lib.Dec.{leb}
 use lib.ListN.{length, take, drop}
-use Rattle.theory.specs.Limit.{Limits, first-terms, max-terms, max-job, answer-bytes}
+use Rattle.theory.specs.Limit.{Limits, first-terms, max-job, answer-bytes}
 use Rattle.theory.specs.Record.{Bytes, extent, whole, records-of, total-length, number-length}
 use Rattle.theory.specs.Plain.{plain-after}
 use Rattle.theory.specs.Job.{Returned, returned, run, answers-after}
@@ -14,6 +14,7 @@ use Rattle.steps.specs.Answering.{sealed}
 use Rattle.chains.specs.Premises.{Noted}
 use Rattle.table.specs.Promise.{cleared}
 use Rattle.store.specs.Store.{Store, listed}
+use Rattle.rows.specs.Layout.{place-end}
 use Rattle.runs.specs.declared.Outcome.{Outcome}
 use Rattle.records.specs.declared.Turn.{Turn}
 use Rattle.runs.specs.declared.walk.State.{State}
@@ -48,7 +49,7 @@ moved size s t =
 pub data Next (limits : Limits) (job work answers : Bytes) (s : State) (work′ answers′ : Bytes) (s′ : State) : Type 0 where
   broken : whole (drop (s .at) job) ≡ false → work′ ≡ work → answers′ ≡ answers → s′ ≡ state (s .at) (frame-code Broken) (s .records) (s .answers) (s .rows) (s .repeats)
       → Next limits job work answers s work′ answers′ s′
-  taken : whole (drop (s .at) job) ≡ true → (t : Turn) → Turned limits job work answers (s .rows) (s .answers) (s .at) work′ answers′ t
+  taken : whole (drop (s .at) job) ≡ true → (t : Turn) → Turned limits (s .records) job work answers (s .rows) (s .answers) (s .at) work′ answers′ t
       → s′ ≡ moved (extent (drop (s .at) job)) s t → Next limits job work answers s work′ answers′ s′
 
 -- so many bytes of work memory are used of a job: all, or four for each byte of the job, which is more than its records can fill
@@ -76,10 +77,10 @@ pub record Walked (limits : Limits) (job lent old work answers : Bytes) (s : Sta
   pub at-is : s .at ≡ total-length (take (s .records) (records-of job))
   pub memory-is : work ≡ memory-run job (cleared lent) (s .records)
   pub roomy : answer-bytes (number-length job) * s .answers ≤ length answers
-  pub answers-are : sealed (s .answers) answers ≡ answers-after (number-length job) (run limits job (length lent) (length old) .answers) old
+  pub answers-are : sealed (number-length job) (s .answers) answers ≡ answers-after (number-length job) (run limits job (length lent) (length old) .answers) old
   pub few-records : s .records ≤ max-job
   pub few-answers : s .answers ≤ max-job
-  pub few-terms : s .rows + first-terms ≤ max-terms
+  pub few-terms : s .rows + first-terms < place-end
   pub few-repeats : s .repeats ≤ max-job
   pub store : Store job work (s .rows)
   pub list-is : listed job work (s .rows) ≡ plain-after (s .records) job

@@ -30,7 +30,7 @@ pub fn run_within(job: &[u8], work: &mut [u8], answers: &mut [u8], limits: Limit
         };
     }
     let s = walk(job, work, answers, limits);
-    seal(answers, s.answers);
+    seal(answers, Term::number_length(job), s.answers);
     s
 }
 
@@ -41,7 +41,7 @@ pub fn run_job(job: &[u8], work: &mut [u8], answers: &mut [u8]) -> State
 {
     let rack = Limits {
         width: Term::MAX_WIDTH,
-        terms: Term::MAX_TERMS as u32,
+        terms: Term::LONG_MAX_TERMS as u32,
     };
     run_within(job, work, answers, rack)
 }

@@ -37,7 +37,7 @@ fn next(job: &[u8], work: &mut [u8], answers: &mut [u8], limits: Limits, s: Stat
             repeats: s.repeats,
         };
     };
-    let t = take_record(job, work, answers, limits, s.rows, s.answers, at);
+    let t = take_record(job, work, answers, limits, s.rows, s.answers, s.records, at);
     if t.code != 0 {
         return State {
             at: at,

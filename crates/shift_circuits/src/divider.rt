@@ -18,14 +18,13 @@ ghost use Prim.Native.Nat.{_≤_};
 ghost use lib.ListN.{take, drop, getD};
 ghost use Rattle.theory.specs.Limit.{max-width};
 ghost use Rattle.theory.specs.Circuit.{drop-top, next-carry, all-false, next-remainder, no-carry, reduced, divide-step, bitblast-udiv-urem-rec, is-zero, udiv, urem};
-ghost use Rattle.rows.specs.Rows.{kept};
 ghost use Rattle.table.specs.Buckets.{Table};
-ghost use Rattle.store.specs.Numbers.{numbers, false-number, is-false-number};
+ghost use Rattle.store.specs.Numbers.{numbers, false-number, is-false-number, numbers-in};
 
 // Whether every bit of x is literally `false`, where bitblast_udiv_urem_rec stops. No gate is read.
 fn all_false(x: [u32; MAX_BITS], w: usize) -> bool
     requires { ⌜ w ≤ max-width ⌝ }
-    ensures { λ r. ⌜ r ≡ all-false (numbers []) is-false-number (take w x) ⌝ }
+    ensures { λ r. ⌜ r ≡ all-false (numbers 0 []) is-false-number (take w x) ⌝ }
 {
     let mut i = 0;
     while i < w {
@@ -77,7 +76,7 @@ fn next_remainder(
 ) -> [u32; MAX_BITS]
     requires { ⌜ Table (now job) (now work) n ⌝ }
     requires { ⌜ (1 ≤ w) × (w ≤ max-width) ⌝ }
-    ensures { λ s. ⌜ take w s ≡ next-remainder (numbers (kept (now (job .entry)) (now (work .entry)) n)) low (take w r) ⌝ }
+    ensures { λ s. ⌜ take w s ≡ next-remainder (numbers-in (now (job .entry)) (now (work .entry)) n) low (take w r) ⌝ }
 {
     let one_if_odd = ite3(job, work, n, eq2(job, work, n, low, TRUE), TRUE, FALSE);
     let shifted = shift_left(r, w, FALSE);
@@ -89,7 +88,7 @@ fn next_remainder(
 // The last carry, as Rust takes it, or by the standard the carry out of the bits x and y that it goes into.
 fn used_carry(job: &[u8], work: &[u8], n: usize, x: u32, y: u32, last: u32, standard: bool) -> u32
     requires { ⌜ Table (now job) (now work) n ⌝ }
-    ensures { λ r. ⌜ r ≡ cond standard (next-carry (numbers (kept (now (job .entry)) (now (work .entry)) n)) x y last) last ⌝ }
+    ensures { λ r. ⌜ r ≡ cond standard (next-carry (numbers-in (now (job .entry)) (now (work .entry)) n) x y last) last ⌝ }
 {
     if standard {
         carry_bit(job, work, n, x, y, last)
@@ -111,7 +110,7 @@ fn no_carry(
 ) -> u32
     requires { ⌜ Table (now job) (now work) n ⌝ }
     requires { ⌜ (1 ≤ w) × (w ≤ max-width) ⌝ }
-    ensures { λ r. ⌜ r ≡ no-carry (numbers (kept (now (job .entry)) (now (work .entry)) n)) standard (take w x) (take w y) ⌝ }
+    ensures { λ r. ⌜ r ≡ no-carry (numbers-in (now (job .entry)) (now (work .entry)) n) standard (take w x) (take w y) ⌝ }
 {
     let not_y = nots(job, work, n, y, w);
     let sum = ripple_carry_adder(job, work, n, x, not_y, w, TRUE);
@@ -131,7 +130,7 @@ fn reduced(
 ) -> [u32; MAX_BITS]
     requires { ⌜ Table (now job) (now work) n ⌝ }
     requires { ⌜ (1 ≤ w) × (w ≤ max-width) ⌝ }
-    ensures { λ s. ⌜ take w s ≡ reduced (numbers (kept (now (job .entry)) (now (work .entry)) n)) standard (take w r) (take w y) ⌝ }
+    ensures { λ s. ⌜ take w s ≡ reduced (numbers-in (now (job .entry)) (now (work .entry)) n) standard (take w r) (take w y) ⌝ }
 {
     if standard {
         let not_y = nots(job, work, n, y, w);
@@ -161,7 +160,7 @@ fn divide_step(
 ) -> Division
     requires { ⌜ Table (now job) (now work) n ⌝ }
     requires { ⌜ (1 ≤ w) × (w ≤ max-width) ⌝ }
-    ensures { λ d. ⌜ (take w (d .quot), take w (d .rem)) ≡ divide-step (numbers (kept (now (job .entry)) (now (work .entry)) n)) standard (getD x 0 0) (drop 1 (take w x)) (take w y) (take w q, take w r) ⌝ }
+    ensures { λ d. ⌜ (take w (d .quot), take w (d .rem)) ≡ divide-step (numbers-in (now (job .entry)) (now (work .entry)) n) standard (getD x 0 0) (drop 1 (take w x)) (take w y) (take w q, take w r) ⌝ }
 {
     let r1 = next_remainder(job, work, n, x[0], r, w);
     let sign = no_carry(job, work, n, r1, y, w, standard);
@@ -189,7 +188,7 @@ pub fn bitblast_udiv_urem_rec(
 ) -> Division
     requires { ⌜ Table (now job) (now work) n ⌝ }
     requires { ⌜ (1 ≤ w) × (w ≤ max-width) ⌝ }
-    ensures { λ d. ⌜ (take w (d .quot), take w (d .rem)) ≡ bitblast-udiv-urem-rec (numbers (kept (now (job .entry)) (now (work .entry)) n)) standard is-false-number left (take w x) (take w y) ⌝ }
+    ensures { λ d. ⌜ (take w (d .quot), take w (d .rem)) ≡ bitblast-udiv-urem-rec (numbers-in (now (job .entry)) (now (work .entry)) n) standard is-false-number left (take w x) (take w y) ⌝ }
 {
     if left == 0 {
         let zero = [FALSE; MAX_BITS];
@@ -216,7 +215,7 @@ pub fn bitblast_udiv_urem_rec(
 fn is_zero(job: &[u8], work: &[u8], n: usize, y: [u32; MAX_BITS], w: usize) -> u32
     requires { ⌜ Table (now job) (now work) n ⌝ }
     requires { ⌜ (1 ≤ w) × (w ≤ max-width) ⌝ }
-    ensures { λ r. ⌜ r ≡ is-zero (numbers (kept (now (job .entry)) (now (work .entry)) n)) (take w y) ⌝ }
+    ensures { λ r. ⌜ r ≡ is-zero (numbers-in (now (job .entry)) (now (work .entry)) n) (take w y) ⌝ }
 {
     let falses = [FALSE; MAX_BITS];
     let bits = eqs(job, work, n, y, falses, w);
@@ -235,7 +234,7 @@ pub fn udiv(
 ) -> [u32; MAX_BITS]
     requires { ⌜ Table (now job) (now work) n ⌝ }
     requires { ⌜ (1 ≤ w) × (w ≤ max-width) ⌝ }
-    ensures { λ r. ⌜ take w r ≡ udiv (numbers (kept (now (job .entry)) (now (work .entry)) n)) standard is-false-number (take w x) (take w y) ⌝ }
+    ensures { λ r. ⌜ take w r ≡ udiv (numbers-in (now (job .entry)) (now (work .entry)) n) standard is-false-number (take w x) (take w y) ⌝ }
 {
     let d = bitblast_udiv_urem_rec(job, work, n, x, y, w, w, standard);
     let zero = is_zero(job, work, n, y, w);
@@ -256,7 +255,7 @@ pub fn urem(
 ) -> [u32; MAX_BITS]
     requires { ⌜ Table (now job) (now work) n ⌝ }
     requires { ⌜ (1 ≤ w) × (w ≤ max-width) ⌝ }
-    ensures { λ r. ⌜ take w r ≡ urem (numbers (kept (now (job .entry)) (now (work .entry)) n)) standard is-false-number (take w x) (take w y) ⌝ }
+    ensures { λ r. ⌜ take w r ≡ urem (numbers-in (now (job .entry)) (now (work .entry)) n) standard is-false-number (take w x) (take w y) ⌝ }
 {
     let d = bitblast_udiv_urem_rec(job, work, n, x, y, w, w, standard);
     let zero = is_zero(job, work, n, y, w);

@@ -11,9 +11,8 @@ ghost use Prim.Native.Nat.{_≤_};
 ghost use lib.ListN.{take};
 ghost use Rattle.theory.specs.Limit.{max-width};
 ghost use Rattle.theory.specs.Circuit.{shl-stage, shl-stages, shr-stage, shr-stages, clog2, bounded, shl, lshr, ashr};
-ghost use Rattle.rows.specs.Rows.{kept};
 ghost use Rattle.table.specs.Buckets.{Table};
-ghost use Rattle.store.specs.Numbers.{numbers};
+ghost use Rattle.store.specs.Numbers.{numbers-in};
 
 // bitblast_shift_op, stage s to the left: where y is true, bit i is bit i - 2^s of p, and `false` where there is none.
 fn shl_stage(
@@ -27,7 +26,7 @@ fn shl_stage(
 ) -> [u32; MAX_BITS]
     requires { ⌜ Table (now job) (now work) n ⌝ }
     requires { ⌜ (s ≤ 63) × (w ≤ max-width) ⌝ }
-    ensures { λ r. ⌜ take w r ≡ shl-stage (numbers (kept (now (job .entry)) (now (work .entry)) n)) s y (take w p) ⌝ }
+    ensures { λ r. ⌜ take w r ≡ shl-stage (numbers-in (now (job .entry)) (now (work .entry)) n) s y (take w p) ⌝ }
 {
     let thresh = 1usize << s;
     let mut out = [0u32; MAX_BITS];
@@ -53,7 +52,7 @@ fn shr_stage(
 ) -> [u32; MAX_BITS]
     requires { ⌜ Table (now job) (now work) n ⌝ }
     requires { ⌜ (s ≤ 63) × (w ≤ max-width) ⌝ }
-    ensures { λ r. ⌜ take w r ≡ shr-stage (numbers (kept (now (job .entry)) (now (work .entry)) n)) fill s y (take w p) ⌝ }
+    ensures { λ r. ⌜ take w r ≡ shr-stage (numbers-in (now (job .entry)) (now (work .entry)) n) fill s y (take w p) ⌝ }
 {
     let thresh = 1usize << s;
     let stays = not1(job, work, n, y);
@@ -82,7 +81,7 @@ fn shl_stages(
 ) -> [u32; MAX_BITS]
     requires { ⌜ Table (now job) (now work) n ⌝ }
     requires { ⌜ (1 ≤ w) × (w ≤ max-width) ⌝ }
-    ensures { λ r. ⌜ take w r ≡ shl-stages (numbers (kept (now (job .entry)) (now (work .entry)) n)) 0 (take (clog2 w) (take w y)) (take w x) ⌝ }
+    ensures { λ r. ⌜ take w r ≡ shl-stages (numbers-in (now (job .entry)) (now (work .entry)) n) 0 (take (clog2 w) (take w y)) (take w x) ⌝ }
 {
     let stages = shift_stages(w as u64);
     let mut res = x;
@@ -107,7 +106,7 @@ fn shr_stages(
 ) -> [u32; MAX_BITS]
     requires { ⌜ Table (now job) (now work) n ⌝ }
     requires { ⌜ (1 ≤ w) × (w ≤ max-width) ⌝ }
-    ensures { λ r. ⌜ take w r ≡ shr-stages (numbers (kept (now (job .entry)) (now (work .entry)) n)) fill 0 (take (clog2 w) (take w y)) (take w x) ⌝ }
+    ensures { λ r. ⌜ take w r ≡ shr-stages (numbers-in (now (job .entry)) (now (work .entry)) n) fill 0 (take (clog2 w) (take w y)) (take w x) ⌝ }
 {
     let stages = shift_stages(w as u64);
     let mut res = x;
@@ -133,7 +132,7 @@ fn bounded(
 ) -> [u32; MAX_BITS]
     requires { ⌜ Table (now job) (now work) n ⌝ }
     requires { ⌜ (1 ≤ w) × (w ≤ max-width) ⌝ }
-    ensures { λ r. ⌜ take w r ≡ bounded (numbers (kept (now (job .entry)) (now (work .entry)) n)) beyond (take w size) (take w y) (take w p) ⌝ }
+    ensures { λ r. ⌜ take w r ≡ bounded (numbers-in (now (job .entry)) (now (work .entry)) n) beyond (take w size) (take w y) (take w p) ⌝ }
 {
     let below = bitblast_ult(job, work, n, y, size, w);
     let others = [beyond; MAX_BITS];
@@ -152,7 +151,7 @@ pub fn shl(
 ) -> [u32; MAX_BITS]
     requires { ⌜ Table (now job) (now work) n ⌝ }
     requires { ⌜ (1 ≤ w) × (w ≤ max-width) ⌝ }
-    ensures { λ r. ⌜ take w r ≡ shl (numbers (kept (now (job .entry)) (now (work .entry)) n)) (take w size) (take w x) (take w y) ⌝ }
+    ensures { λ r. ⌜ take w r ≡ shl (numbers-in (now (job .entry)) (now (work .entry)) n) (take w size) (take w x) (take w y) ⌝ }
 {
     let shifted = shl_stages(job, work, n, x, y, w);
     bounded(job, work, n, FALSE, size, y, shifted, w)
@@ -170,7 +169,7 @@ pub fn lshr(
 ) -> [u32; MAX_BITS]
     requires { ⌜ Table (now job) (now work) n ⌝ }
     requires { ⌜ (1 ≤ w) × (w ≤ max-width) ⌝ }
-    ensures { λ r. ⌜ take w r ≡ lshr (numbers (kept (now (job .entry)) (now (work .entry)) n)) (take w size) (take w x) (take w y) ⌝ }
+    ensures { λ r. ⌜ take w r ≡ lshr (numbers-in (now (job .entry)) (now (work .entry)) n) (take w size) (take w x) (take w y) ⌝ }
 {
     let shifted = shr_stages(job, work, n, FALSE, x, y, w);
     bounded(job, work, n, FALSE, size, y, shifted, w)
@@ -190,7 +189,7 @@ pub fn ashr(
 ) -> [u32; MAX_BITS]
     requires { ⌜ Table (now job) (now work) n ⌝ }
     requires { ⌜ (1 ≤ w) × (w ≤ max-width) ⌝ }
-    ensures { λ r. ⌜ take w r ≡ ashr (numbers (kept (now (job .entry)) (now (work .entry)) n)) standard (take w size) (take w x) (take w y) ⌝ }
+    ensures { λ r. ⌜ take w r ≡ ashr (numbers-in (now (job .entry)) (now (work .entry)) n) standard (take w size) (take w x) (take w y) ⌝ }
 {
     let sign = x[w - 1];
     let shifted = shr_stages(job, work, n, sign, x, y, w);

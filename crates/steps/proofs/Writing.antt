@@ -1,12 +1,12 @@
 -- The answers' memory while a job runs: nothing written, one answer stored, answers after answers; and when it has ended.
 use mathlib.Core.Path.{_≡_, refl, sym, ap, ap₂, _∙_}
-use mathlib.Core.List.{List, [], _∷_, _++_, map, append-assoc}
+use mathlib.Core.List.{List, [], _∷_, _++_, map, append-assoc, append-nil}
 use mathlib.Core.Option.{Option, none, some}
 use Prim.Native.Nat.{ℕ, zero, suc, _+_, _-_, _*_, _≤_}
 use native.Mathlib.Omega.{arith}
-use native.Mathlib.Numerals.{towards-suc, add-one}
+use native.Mathlib.Numerals.{add-one}
 use lib.ListN.{length, take, drop, set, length-append, length-drop, take-append-drop}
-use lib.Seq.{sets, sets-eq, length-take-le, drop-drop}
+use lib.Seq.{sets, sets-eq, length-take-le, drop-drop, take-at, drop-at}
 use Rattle.theory.specs.Limit.{answer-bytes, number-bytes}
 use Rattle.theory.specs.Term.{Term}
 use Rattle.theory.specs.RuleTable.{Rule, rule-at, ChainRule, chain-rule-at}
@@ -15,30 +15,40 @@ use Rattle.theory.specs.Plain.{Plain, at-place, at-places}
 use Rattle.theory.specs.Answer.{Answer, encode-answer, encode-answers}
 use Rattle.theory.specs.Chain.{Earlier, premises-at}
 use Rattle.theory.specs.Job.{reply, chain-reply, item-answers, answers-to}
-use Rattle.steps.specs.Answering.{note, notes, with-notes, encode-head, sealed}
+use Rattle.rows.proofs.RowLaws.{sets-append, length-bytes}
+use Rattle.steps.specs.Answering.{head-bytes, tail-of, note, notes, with-notes, encode-head, sealed}
 
 -- ---- the memory
 -- no answer changes nothing
-pub none-written : (old : Bytes) (k place : ℕ) → with-notes old k place [] ≡ old
+pub none-written : (b : ℕ) (old : Bytes) (k place : ℕ) → with-notes b old k place [] ≡ old
 unfolding with-notes
-none-written old k place = let e : answer-bytes number-bytes * (k + 0) ≡ answer-bytes number-bytes * k = omega arith in ap (λ (n : ℕ). take (answer-bytes number-bytes * k) old ++ drop n old) e ∙ take-append-drop (answer-bytes number-bytes * k) old
+none-written b old k place =
+    let e : answer-bytes b * (k + 0) ≡ answer-bytes b * k = omega arith in
+    ap (λ (n : ℕ). take (answer-bytes b * k) old ++ drop n old) e ∙ take-append-drop (answer-bytes b * k) old
 
-notes-length : (place : ℕ) (new : List Answer) → length (notes place new) ≡ answer-bytes number-bytes * length new
-notes-length place [] = refl
-notes-length place (a ∷ rest) = omega (arith, notes-length place rest)
+tail-length : (b : ℕ) (a : Answer) → length (tail-of b a) ≡ 4 + b
+tail-length b a = omega (arith, length-bytes b (a .depth))
+
+pub note-length : (b place : ℕ) (a : Answer) → length (note b place a) ≡ answer-bytes b
+note-length b place a = omega (arith, length-bytes b (a .depth))
+
+notes-length : (b place : ℕ) (new : List Answer) → length (notes b place new) ≡ answer-bytes b * length new
+notes-length b place [] = omega arith
+notes-length b place (a ∷ rest) =
+    length-append (note b place a) (notes b place rest) ∙ (let e = note-length b place a in let f = notes-length b place rest in omega arith)
 
 -- the memory has room for them, if it keeps its length
-pub written-fits : (old : Bytes) (k place : ℕ) (new : List Answer) → answer-bytes number-bytes * k ≤ length old → length (with-notes old k place new) ≡ length old
-    → answer-bytes number-bytes * (k + length new) ≤ length old
+pub written-fits : (b : ℕ) (old : Bytes) (k place : ℕ) (new : List Answer) → answer-bytes b * k ≤ length old → length (with-notes b old k place new) ≡ length old
+    → answer-bytes b * (k + length new) ≤ length old
 unfolding with-notes
-written-fits old k place new h e =
-    let front = take (answer-bytes number-bytes * k) old in
-    let rest = drop (answer-bytes number-bytes * (k + length new)) old in
-    let a : length front ≡ answer-bytes number-bytes * k = length-take-le (answer-bytes number-bytes * k) old h in
-    let b : length rest ≡ length old - answer-bytes number-bytes * (k + length new) = length-drop (answer-bytes number-bytes * (k + length new)) old in
-    let c : length (notes place new) ≡ answer-bytes number-bytes * length new = notes-length place new in
-    let d : length (front ++ (notes place new ++ rest)) ≡ length front + (length (notes place new) + length rest)
-    = length-append front (notes place new ++ rest) ∙ ap (λ (m : ℕ). length front + m) (length-append (notes place new) rest) in
+written-fits b old k place new h e =
+    let front = take (answer-bytes b * k) old in
+    let rest = drop (answer-bytes b * (k + length new)) old in
+    let x : length front ≡ answer-bytes b * k = length-take-le (answer-bytes b * k) old h in
+    let y : length rest ≡ length old - answer-bytes b * (k + length new) = length-drop (answer-bytes b * (k + length new)) old in
+    let c : length (notes b place new) ≡ answer-bytes b * length new = notes-length b place new in
+    let d : length (front ++ (notes b place new ++ rest)) ≡ length front + (length (notes b place new) + length rest)
+    = length-append front (notes b place new ++ rest) ∙ ap (λ (m : ℕ). length front + m) (length-append (notes b place new) rest) in
     omega arith
 
 -- an item has one answer or none
@@ -64,24 +74,34 @@ one-item earlier list i = go i
     go misfit = omega arith
 
 -- so has a record
-pub one-answer : (earlier : Earlier) (list : Plain) (r : Bytes) → length (answers-to number-bytes earlier list r) ≤ 1
+pub one-answer : (b : ℕ) (earlier : Earlier) (list : Plain) (r : Bytes) → length (answers-to b earlier list r) ≤ 1
 unfolding answers-to
-one-answer earlier list r = one-item earlier list (read number-bytes r)
+one-answer b earlier list r = one-item earlier list (read b r)
 
 -- four numbers stored one after the other are an answer, as it stands while the job runs
-pub four : (d d₁ d₂ d₃ d₄ : Bytes) (k place : ℕ) (a : Answer) → answer-bytes number-bytes * suc k ≤ length d
-    → d₁ ≡ sets d (answer-bytes number-bytes * k) (bytes-of 4 place)
-    → d₂ ≡ sets d₁ (answer-bytes number-bytes * k + 4) (word-bytes (a .rule))
-    → d₃ ≡ sets d₂ (answer-bytes number-bytes * k + 6) (word-bytes (a .code))
-    → d₄ ≡ sets d₃ (answer-bytes number-bytes * k + 8) (word-bytes (a .depth))
-    → d₄ ≡ with-notes d k place (a ∷ [])
+pub four : (b : ℕ) (d d₁ d₂ d₃ d₄ : Bytes) (k place : ℕ) (a : Answer) → answer-bytes b * suc k ≤ length d
+    → d₁ ≡ sets d (answer-bytes b * k) (bytes-of 4 place)
+    → d₂ ≡ sets d₁ (answer-bytes b * k + 4) (word-bytes (a .rule))
+    → d₃ ≡ sets d₂ (answer-bytes b * k + 6) (word-bytes (a .code))
+    → d₄ ≡ sets d₃ (answer-bytes b * k + 8) (bytes-of b (a .depth))
+    → d₄ ≡ with-notes b d k place (a ∷ [])
 unfolding with-notes
-four d d₁ d₂ d₃ d₄ k place a h e₁ e₂ e₃ e₄ =
-    let p = answer-bytes number-bytes * k in
-    let q : p + 10 ≡ answer-bytes number-bytes * (k + 1) = omega arith in
-    let stored : d₄ ≡ sets d p (note place a) = rw (e₄, e₃, e₂, e₁) (simp towards-suc) in
-    stored ∙ sets-eq (note place a) d p (omega arith) ∙ append-assoc (take p d) (note place a) (drop (p + 10) d)
-    ∙ ap (λ (n : ℕ). take p d ++ (note place a ++ drop n d)) q
+four b d d₁ d₂ d₃ d₄ k place a h e₁ e₂ e₃ e₄ =
+    let p = answer-bytes b * k in
+    let deep = bytes-of b (a .depth) in
+    let six : p + 4 + 2 ≡ p + 6 = omega arith in
+    let eight : p + 6 + 2 ≡ p + 8 = omega arith in
+    let l = note-length b place a in
+    let q : p + length (note b place a) ≡ answer-bytes b * (k + 1) = omega arith in
+    let stored : d₄ ≡ sets d p (note b place a)
+    = e₄ ∙ sym (sets-append d p (bytes-of 4 place) (tail-of b a)
+    ∙ ap (λ (x : Bytes). sets x (p + 4) (tail-of b a)) (sym e₁)
+    ∙ sets-append d₁ (p + 4) (word-bytes (a .rule)) (word-bytes (a .code) ++ deep)
+    ∙ ap₂ (λ (x : Bytes) (j : ℕ). sets x j (word-bytes (a .code) ++ deep)) (sym e₂) six
+    ∙ sets-append d₂ (p + 6) (word-bytes (a .code)) deep
+    ∙ ap₂ (λ (x : Bytes) (j : ℕ). sets x j deep) (sym e₃) eight) in
+    stored ∙ sets-eq (note b place a) d p (omega arith) ∙ append-assoc (take p d) (note b place a) (drop (p + length (note b place a)) d)
+    ∙ ap₂ (λ (n : ℕ) (zs : Bytes). take p d ++ (zs ++ drop n d)) q (sym (append-nil (note b place a)))
 
 -- ---- length and kind, when the job has ended
 sets-skip : (x : ℕ) (xs : Bytes) (i : ℕ) (vs : Bytes) → sets (x ∷ xs) (suc i) vs ≡ x ∷ sets xs i vs
@@ -94,51 +114,72 @@ sets-after (x ∷ xs) ys i vs =
     let e : suc (length xs) + i ≡ suc (length xs + i) = omega arith in
     ap (λ (j : ℕ). sets (x ∷ (xs ++ ys)) j vs) e ∙ sets-skip x (xs ++ ys) (length xs + i) vs ∙ ap (λ (zs : Bytes). x ∷ zs) (sets-after xs ys i vs)
 
--- the first answer, and those after it
-sealed-first : (d : Bytes) → 10 ≤ length d → sealed 1 d ≡ sets d 0 encode-head
-unfolding sealed
-sealed-first d h =
-    let e : 4 + 6 ≡ 10 = omega arith in
-    sym (sets-eq encode-head d 0 (omega arith)
-    ∙ ap (λ (zs : Bytes). encode-head ++ zs) (sym (take-append-drop 6 (drop 4 d)) ∙ ap (λ (zs : Bytes). take 6 (drop 4 d) ++ zs) (drop-drop 6 4 d ∙ ap (λ (j : ℕ). drop j d) e)))
+module _ (b : ℕ) where
+  -- the bytes of an answer after its length and kind
+  abbrev rest-bytes : ℕ
+  rest-bytes = answer-bytes b - head-bytes
 
-sealed-next : (k : ℕ) (d : Bytes) → answer-bytes number-bytes * suc k ≤ length d → sealed (suc k) d ≡ sets (sealed k d) (answer-bytes number-bytes * k) encode-head
-unfolding sealed
-sealed-next zero d h = sealed-first d (omega arith)
-sealed-next (suc k) d h =
-    let mid = take 6 (drop 4 d) in
-    let front = encode-head ++ mid in
-    let m : length mid ≡ 6 = length-take-le 6 (drop 4 d) (let q = length-drop 4 d in omega arith) in
-    let l : length front ≡ 10 = length-append encode-head mid ∙ omega arith in
-    let e : length front + answer-bytes number-bytes * k ≡ answer-bytes number-bytes * suc k = omega arith in
-    let ih = sealed-next k (drop 10 d) (let q = length-drop 10 d in omega arith) in
-    ap (λ (zs : Bytes). encode-head ++ (mid ++ zs)) ih
-    ∙ sym (append-assoc encode-head mid (sets (sealed k (drop 10 d)) (answer-bytes number-bytes * k) encode-head))
-    ∙ sym (sets-after front (sealed k (drop 10 d)) (answer-bytes number-bytes * k) encode-head)
-    ∙ ap₂ (λ (zs : Bytes) (j : ℕ). sets zs j encode-head) (append-assoc encode-head mid (sealed k (drop 10 d))) e
+  -- the first answer, and those after it
+  sealed-first : (d : Bytes) → answer-bytes b ≤ length d → sealed b 1 d ≡ sets d 0 (encode-head b)
+  unfolding sealed
+  sealed-first d h =
+      let e : 4 + rest-bytes ≡ answer-bytes b = omega arith in
+      sym (sets-eq (encode-head b) d 0 (omega arith)
+      ∙ ap (λ (zs : Bytes). encode-head b ++ zs)
+      (sym (take-append-drop rest-bytes (drop 4 d)) ∙ ap (λ (zs : Bytes). take rest-bytes (drop 4 d) ++ zs) (drop-drop rest-bytes 4 d ∙ ap (λ (j : ℕ). drop j d) e)))
 
-pub sealed-start : (d : Bytes) → d ≡ sealed 0 d
-unfolding sealed
-sealed-start d = refl
+  sealed-next : (k : ℕ) (d : Bytes) → answer-bytes b * suc k ≤ length d → sealed b (suc k) d ≡ sets (sealed b k d) (answer-bytes b * k) (encode-head b)
+  unfolding sealed
+  sealed-next zero d h =
+      sealed-first d (omega arith) ∙ (let e : 0 ≡ answer-bytes b * 0 = omega arith in ap (λ (j : ℕ). sets d j (encode-head b)) e)
+  sealed-next (suc k) d h =
+      let head = encode-head b in
+      let mid = take rest-bytes (drop 4 d) in
+      let after = drop (answer-bytes b) d in
+      let front = head ++ mid in
+      let m : length mid ≡ rest-bytes = length-take-le rest-bytes (drop 4 d) (let q = length-drop 4 d in omega arith) in
+      let l : length front ≡ answer-bytes b = length-append head mid ∙ omega arith in
+      let e : length front + answer-bytes b * k ≡ answer-bytes b * suc k = omega arith in
+      let ih = sealed-next k after (let q = length-drop (answer-bytes b) d in omega arith) in
+      ap (λ (zs : Bytes). head ++ (mid ++ zs)) ih
+      ∙ sym (append-assoc head mid (sets (sealed b k after) (answer-bytes b * k) head))
+      ∙ sym (sets-after front (sealed b k after) (answer-bytes b * k) head)
+      ∙ ap₂ (λ (zs : Bytes) (j : ℕ). sets zs j head) (append-assoc head mid (sealed b k after)) e
 
--- two numbers stored
-pub sealed-more : (d d₀ d₁ d₂ : Bytes) (k : ℕ) → answer-bytes number-bytes * suc k ≤ length d → d₀ ≡ sealed k d → d₁ ≡ sets d₀ (answer-bytes number-bytes * k) (word-bytes 8)
-    → d₂ ≡ sets d₁ (answer-bytes number-bytes * k + 2) (word-bytes 200) → d₂ ≡ sealed (k + 1) d
-sealed-more d d₀ d₁ d₂ k h e₀ e₁ e₂ =
-    let p = answer-bytes number-bytes * k in
-    let stored : d₂ ≡ sets (sealed k d) p encode-head = rw (e₂, e₁, e₀) (simp towards-suc) in
-    stored ∙ sym (sealed-next k d h) ∙ ap (λ (j : ℕ). sealed j d) (sym (add-one k))
+  pub sealed-start : (d : Bytes) → d ≡ sealed b 0 d
+  unfolding sealed
+  sealed-start d = refl
+
+  -- two numbers stored
+  pub sealed-more : (d d₀ d₁ d₂ : Bytes) (k : ℕ) → answer-bytes b * suc k ≤ length d → d₀ ≡ sealed b k d
+      → d₁ ≡ sets d₀ (answer-bytes b * k) (word-bytes (answer-bytes b - number-bytes))
+      → d₂ ≡ sets d₁ (answer-bytes b * k + 2) (word-bytes 200) → d₂ ≡ sealed b (k + 1) d
+  sealed-more d d₀ d₁ d₂ k h e₀ e₁ e₂ =
+      let p = answer-bytes b * k in
+      let stored : d₂ ≡ sets (sealed b k d) p (encode-head b) = rw (e₂, e₁, e₀) (sym (sets-append (sealed b k d) p (word-bytes (answer-bytes b - number-bytes)) (word-bytes 200))) in
+      stored ∙ sym (sealed-next k d h) ∙ ap (λ (j : ℕ). sealed b j d) (sym (add-one k))
 
 -- answers as they stood while the job ran, each with the place of its step's record
 abbrev pub Note : Type 0
 Note = ℕ × Answer
 
-abbrev pub all-notes : List Note → Bytes
-all-notes [] = []
-all-notes (m ∷ ms) = note (m .0) (m .1) ++ all-notes ms
+abbrev pub all-notes : ℕ → List Note → Bytes
+all-notes b [] = []
+all-notes b (m ∷ ms) = note b (m .0) (m .1) ++ all-notes b ms
 
 -- they are the answers then
-pub sealed-all : (ms : List Note) (rest : Bytes) → sealed (length ms) (all-notes ms ++ rest) ≡ encode-answers number-bytes (map (λ (m : Note). m .1) ms) ++ rest
+pub sealed-all : (b : ℕ) (ms : List Note) (rest : Bytes)
+    → sealed b (length ms) (all-notes b ms ++ rest) ≡ encode-answers b (map (λ (m : Note). m .1) ms) ++ rest
 unfolding sealed
-sealed-all [] rest = refl
-sealed-all (m ∷ ms) rest = ap (λ (zs : Bytes). encode-answer number-bytes (m .1) ++ zs) (sealed-all ms rest)
+sealed-all b [] rest = refl
+sealed-all b (m ∷ ms) rest =
+    let n = note b (m .0) (m .1) in
+    let tail = tail-of b (m .1) in
+    let more = all-notes b ms ++ rest in
+    let answers = encode-answers b (map (λ (x : Note). x .1) ms) in
+    let e : length tail ≡ answer-bytes b - head-bytes = tail-length b (m .1) ∙ omega arith in
+    ap (λ (zs : Bytes). sealed b (suc (length ms)) zs) (append-assoc n (all-notes b ms) rest)
+    ∙ ap₂ (λ (xs ys : Bytes). encode-head b ++ (xs ++ sealed b (length ms) ys)) (take-at tail more (answer-bytes b - head-bytes) e)
+    (drop-at n more (answer-bytes b) (note-length b (m .0) (m .1)))
+    ∙ ap (λ (zs : Bytes). encode-head b ++ (tail ++ zs)) (sealed-all b ms rest)
+    ∙ sym (append-assoc (encode-answer b (m .1)) answers rest)

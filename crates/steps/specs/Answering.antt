@@ -27,44 +27,45 @@ equation-depth t = either 0 (λ p. depth (p .1)) (sides t)
 abbrev pub given : ℕ → Reply → Answer
 given rule r = record { rule = rule; code = r .code; depth = r .depth }
 
--- ---- the answers' memory while the job runs
+-- ---- the answers' memory while the job runs; a depth has b bytes, as many as a term's number
 -- the bytes of an answer before its rule
 abbrev pub head-bytes : ℕ
 head-bytes = number-bytes + number-bytes
 
 -- the bytes of an answer after them
-abbrev pub tail-of : Answer → Bytes
-tail-of a = word-bytes (a .rule) ++ (word-bytes (a .code) ++ word-bytes (a .depth))
+abbrev pub tail-of : ℕ → Answer → Bytes
+tail-of b a = word-bytes (a .rule) ++ (word-bytes (a .code) ++ bytes-of b (a .depth))
 
 -- an answer as it stands there: the place of its step's record, then rule, code and depth
-abbrev pub note : ℕ → Answer → Bytes
-note place a = bytes-of head-bytes place ++ tail-of a
+abbrev pub note : ℕ → ℕ → Answer → Bytes
+note b place a = bytes-of head-bytes place ++ tail-of b a
 
 -- answers to the record at that place, one after the other; there is one or none
-abbrev pub notes : ℕ → List Answer → Bytes
-notes place [] = []
-notes place (a ∷ rest) = note place a ++ notes place rest
+abbrev pub notes : ℕ → ℕ → List Answer → Bytes
+notes b place [] = []
+notes b place (a ∷ rest) = note b place a ++ notes b place rest
 
 -- the memory with these in it, after the first k
-unfoldable pub with-notes : Bytes → ℕ → ℕ → List Answer → Bytes
-with-notes old k place new = take (answer-bytes number-bytes * k) old ++ (notes place new ++ drop (answer-bytes number-bytes * (k + length new)) old)
+unfoldable pub with-notes : ℕ → Bytes → ℕ → ℕ → List Answer → Bytes
+with-notes b old k place new = take (answer-bytes b * k) old ++ (notes b place new ++ drop (answer-bytes b * (k + length new)) old)
 
 -- the place of the record of answer k's step
-abbrev pub step-place : Bytes → ℕ → ℕ
-step-place memory k = number-at memory (answer-bytes number-bytes * k) offset-bytes
+abbrev pub step-place : ℕ → Bytes → ℕ → ℕ
+step-place b memory k = number-at memory (answer-bytes b * k) offset-bytes
 
 -- the code of answer k
-abbrev pub step-code : Bytes → ℕ → ℕ
-step-code memory k = number-at memory (answer-bytes number-bytes * k + (head-bytes + number-bytes)) number-bytes
+abbrev pub step-code : ℕ → Bytes → ℕ → ℕ
+step-code b memory k = number-at memory (answer-bytes b * k + (head-bytes + number-bytes)) number-bytes
 
 -- an answer's length and kind
-abbrev pub encode-head : Bytes
-encode-head = word-bytes (answer-bytes number-bytes - number-bytes) ++ word-bytes answer-kind
+abbrev pub encode-head : ℕ → Bytes
+encode-head b = word-bytes (answer-bytes b - number-bytes) ++ word-bytes answer-kind
 
 -- length and kind are written into the first n answers
-unfoldable pub sealed : ℕ → Bytes → Bytes
-sealed zero memory = memory
-sealed (suc n) memory = encode-head ++ (take (answer-bytes number-bytes - head-bytes) (drop head-bytes memory) ++ sealed n (drop (answer-bytes number-bytes) memory))
+unfoldable pub sealed : ℕ → ℕ → Bytes → Bytes
+sealed b zero memory = memory
+sealed b (suc n) memory =
+    encode-head b ++ (take (answer-bytes b - head-bytes) (drop head-bytes memory) ++ sealed b n (drop (answer-bytes b) memory))
 
 -- the literals of a clause lie in the job, and each is kept
 pub record Literals (job work : Bytes) (n : ℕ) (literals : Args) : Type 0 where

@@ -9,10 +9,10 @@ use lib.Dec.{T}
 use lib.ListN.{length, take, drop, getD, getElem?, length-take, length-drop}
 use lib.Seq.{getD-drop}
 use borrow.Author.Tests.{le-leb}
-use Rattle.theory.specs.Limit.{first-terms, number-bytes}
+use Rattle.theory.specs.Limit.{first-terms}
 use Rattle.theory.specs.Kind.{Op, True, False}
 use Rattle.theory.specs.Term.{Term, node, nil}
-use Rattle.theory.specs.Record.{Bytes, word, extent, whole, term, read, shape-of}
+use Rattle.theory.specs.Record.{Bytes, word, extent, whole, term, read, shape-of, number-length}
 use Rattle.theory.specs.Plain.{Entry, entry, Plain}
 use Rattle.theory.specs.Codes.{all-below}
 use Rattle.theory.proofs.Bytes.{Sound, says-term}
@@ -20,6 +20,7 @@ use Rattle.theory.specs.Places.{entry-at, tree-at, tree-of}
 use Rattle.theory.proofs.Distinct.{Entered, tree-0, tree-1}
 use Rattle.theory.proofs.Distinct as T
 use Rattle.terms.specs.Framing.{record-at}
+use Rattle.terms.proofs.Numbers.{length-of}
 use Rattle.rows.specs.Layout.{link-size, offset-at, row-size}
 use Rattle.rows.proofs.RowLaws.{row-room}
 use Rattle.table.proofs.Face.{kept-at}
@@ -56,7 +57,7 @@ stands-whole job at h s =
 
 module _ {job work : Bytes} {n : ℕ} (s : Shelf job work n) where
   -- the entry of row k
-  pub row-kept : (k : ℕ) → k < n → Entered number-bytes (listed job work n) (first-terms + k) (entry-at (listed job work n) (first-terms + k))
+  pub row-kept : (k : ℕ) → k < n → Entered (number-length job) (listed job work n) (first-terms + k) (entry-at (listed job work n) (first-terms + k))
   row-kept k h = T.kept-at (listed job work n) (s .well) (first-terms + k) (omega arith) (omega (arith, s .count))
 
   -- a row lies in the work memory
@@ -73,18 +74,18 @@ module _ {job work : Bytes} {n : ℕ} (s : Shelf job work n) where
   pub row-whole : (k : ℕ) → k < n → {at : ℕ} → at ≡ offset-at (link-size job) work k → whole (drop at job) ≡ true
   row-whole k h e = rw e (stands-whole job (offset-at (link-size job) work k) (s .rows .inside k h) (row-sound k h))
 
-  pub row-says : (k : ℕ) (h : k < n) → let e = row-kept k h in read number-bytes (record-at job (offset-at (link-size job) work k)) ≡ term (e .op) (e .args)
-  row-says k h = ap (read number-bytes) (sym (row-bytes k h)) ∙ row-kept k h .says
+  pub row-says : (k : ℕ) (h : k < n) → let e = row-kept k h in read (number-length job) (record-at job (offset-at (link-size job) work k)) ≡ term (e .op) (e .args)
+  row-says k h = ap (read (number-length job)) (sym (row-bytes k h)) ∙ row-kept k h .says
 
   -- what was read at a row's record
   module _ (p : ℕ) (l : first-terms ≤ p) (h : p < first-terms + n) {at : ℕ} (e : at ≡ offset-at (link-size job) work (p - first-terms)) where
     row-place : first-terms + (p - first-terms) ≡ p
     row-place = omega arith
 
-    row-item : (i : Item) → item-of job i ≡ read number-bytes (record-at job at) → let q = row-kept (p - first-terms) (omega arith) in item-of job i ≡ term (q .op) (q .args)
-    row-item i f = f ∙ ap (λ (k : ℕ). read number-bytes (record-at job k)) e ∙ row-says (p - first-terms) (omega arith)
+    row-item : (i : Item) → item-of job i ≡ read (number-length job) (record-at job at) → let q = row-kept (p - first-terms) (omega arith) in item-of job i ≡ term (q .op) (q .args)
+    row-item i f = f ∙ ap (λ (k : ℕ). read (number-length job) (record-at job k)) e ∙ row-says (p - first-terms) (omega arith)
 
-    pub row-term : {t : Decoded} → item-of job (I.Term t) ≡ read number-bytes (record-at job at) → OperandsPlaced job (operands-of t) → TermOn job work n p t
+    pub row-term : {t : Decoded} → item-of job (I.Term t) ≡ read (number-length job) (record-at job at) → OperandsPlaced job (operands-of t) → TermOn job work n p t
     unfolding args-at
     row-term {t} f o =
         let q = row-kept (p - first-terms) (omega arith) in
@@ -96,46 +97,46 @@ module _ {job work : Bytes} {n : ℕ} (s : Shelf job work n) where
             made = ap (tree-at (listed job work n)) (sym row-place) ∙ q .made ∙ ap₂ (tree-of (listed job work n)) a b;
             placed = o;
             below = T-true _ (subst (λ (k : ℕ). T (all-below k (arguments-of job t))) row-place (subst (λ (ks : List ℕ). T (all-below (first-terms + (p - first-terms)) ks)) b (q .below)));
-            number = T-true _ (says-count _ (op-of t) (arguments-of job t) (says-term number-bytes _ (op-of t) (arguments-of job t) (q .says ∙ ap₂ term a b)));
+            number = T-true _ (says-count (length-of job) _ (op-of t) (arguments-of job t) (says-term (number-length job) _ (op-of t) (arguments-of job t) (q .says ∙ ap₂ term a b)));
           };
-          args-are = sym b ∙ sym (ap item-args (q .says)) ∙ ap (args-at (listed job work n)) row-place;
+          args-are = sym b ∙ sym (ap item-args (q .says)) ∙ ap (args-at (number-length job) (listed job work n)) row-place;
         }
 
     -- once it is known which item it is
-    pub read-term-at : (i : Item) {t : Decoded} → i ≡ I.Term t → item-of job i ≡ read number-bytes (record-at job at) → Placed job i → TermOn job work n p t
+    pub read-term-at : (i : Item) {t : Decoded} → i ≡ I.Term t → item-of job i ≡ read (number-length job) (record-at job at) → Placed job i → TermOn job work n p t
     read-term-at i {t} d f o = row-term {t = t} (ap (item-of job) (sym d) ∙ f) (subst (Placed job) d o)
 
     -- a row's record says nothing else
-    pub read-no-term : (i j : Item) → i ≡ j → item-of job i ≡ read number-bytes (record-at job at) → ((o : Op) (ks : List ℕ) → item-of job j ≡ term o ks → ⊥) → {t : Decoded} → TermOn job work n p t
+    pub read-no-term : (i j : Item) → i ≡ j → item-of job i ≡ read (number-length job) (record-at job at) → ((o : Op) (ks : List ℕ) → item-of job j ≡ term o ks → ⊥) → {t : Decoded} → TermOn job work n p t
     read-no-term i j d f g =
         let q = row-kept (p - first-terms) (omega arith) in
         absurd (g (q .op) (q .args) (ap (item-of job) (sym d) ∙ row-item i f))
 
 -- `true` and `false` have no record, and so no arguments
-no-args : (list : Plain) (k : ℕ) → entry-at list k .bytes ≡ [] → args-at list k ≡ []
+no-args : (b : ℕ) (list : Plain) (k : ℕ) → entry-at list k .bytes ≡ [] → args-at b list k ≡ []
 unfolding args-at read shape-of
-no-args list k e = ap (λ (r : Bytes). item-args (read number-bytes r)) e
+no-args b list k e = ap (λ (r : Bytes). item-args (read b r)) e
 
 first-bytes : (list : Plain) (k : ℕ) (t : Term) → getElem? list k ≡ some (entry t []) → entry-at list k .bytes ≡ []
 first-bytes list k t e =
     ap (λ (x : Entry). x .bytes) (some-inj _ _ (sym (getElem-of list k _ (getElem-lt list k _ e)) ∙ e))
 
 -- the first two terms have no arguments
-pub first-args : (list : Plain) → T.WellKept number-bytes list → (k : ℕ) → k < first-terms → args-at list k ≡ []
-first-args list w zero h = no-args list 0 (first-bytes list 0 (node True nil) (w .is-true))
-first-args list w (suc zero) h = no-args list 1 (first-bytes list 1 (node False nil) (w .is-false))
+pub first-args : {b : ℕ} (list : Plain) → T.WellKept b list → (k : ℕ) → k < first-terms → args-at b list k ≡ []
+first-args {b} list w zero h = no-args b list 0 (first-bytes list 0 (node True nil) (w .is-true))
+first-args {b} list w (suc zero) h = no-args b list 1 (first-bytes list 1 (node False nil) (w .is-false))
 first-args list w (suc (suc k)) h = absurd (omega arith)
 
 pub true-at : {job work : Bytes} {n : ℕ} → Shelf job work n → (p : ℕ) → p ≡ 0 → TermOn job work n p D.True
 true-at {job} {work} {n} s p e = rw e (record {
   term-at = record { made = tree-0 (listed job work n) (s .well); placed = tt; below = refl; number = refl };
-  args-are = sym (no-args (listed job work n) 0 (first-bytes (listed job work n) 0 (node True nil) (s .well .is-true)));
+  args-are = sym (no-args (number-length job) (listed job work n) 0 (first-bytes (listed job work n) 0 (node True nil) (s .well .is-true)));
 })
 
 pub false-at : {job work : Bytes} {n : ℕ} → Shelf job work n → (p : ℕ) → p ≡ 1 → TermOn job work n p D.False
 false-at {job} {work} {n} s p e = rw e (record {
   term-at = record { made = tree-1 (listed job work n) (s .well); placed = tt; below = refl; number = refl };
-  args-are = sym (no-args (listed job work n) 1 (first-bytes (listed job work n) 1 (node False nil) (s .well .is-false)));
+  args-are = sym (no-args (number-length job) (listed job work n) 1 (first-bytes (listed job work n) 1 (node False nil) (s .well .is-false)));
 })
 
 -- a store is a shelf

@@ -8,7 +8,6 @@ use native.Mathlib.Omega.{arith}
 use lib.Dec.{T, eqb, eqb→eq, leb}
 use lib.ListN.{length, length-drop}
 use borrow.Author.Tests.{eq-eqb, ne-eqb}
-use Rattle.theory.specs.Limit.{number-bytes}
 use Rattle.theory.specs.Kind.{Op, True, False, Not, And, Or, Xor, Equals, Ite, BvBbTerm, kind}
 use Rattle.theory.specs.Term.{Term, Terms, node, nil, cons, fold, folds, from-list}
 use Rattle.theory.specs.Sort.{Sort, bool, bv, guard, good, first, same-sort, sort-op, sort-of, sort-width, sorts-of}
@@ -75,30 +74,30 @@ depth-is o ts = go (has-depth (kind o)) refl
     go false e = rw e (sym (depth-none o ts e))
 
 -- ---- widths by rows
-bb-count : (r : Bytes) (o : Op) (ks : List ℕ) → read number-bytes r ≡ term o ks → Sound r → T (eqb (kind o) 31) → (word r - 2) / number-bytes ≡ length ks
+bb-count : (b : ℕ) (r : Bytes) (o : Op) (ks : List ℕ) → read b r ≡ term o ks → Sound r → T (eqb (kind o) 31) → (word r - 2) / b ≡ length ks
 unfolding shape-of
-bb-count r o ks e sound h =
-    let s = says-term number-bytes r o ks e in
-    let k : kind-of r ≡ 31 = term-kind number-bytes r o ks e ∙ eqb→eq (kind o) 31 h in
+bb-count b r o ks e sound h =
+    let s = says-term b r o ks e in
+    let k : kind-of r ≡ 31 = term-kind b r o ks e ∙ eqb→eq (kind o) 31 h in
     let shape-is : s .shape ≡ plain BvBbTerm = some-inj (s .shape) (plain BvBbTerm) (sym (s .is-shape) ∙ ap shape-of k) in
     let l : length (body-of r) ≡ word r - 2 = length-drop 4 r ∙ (let z = sound .size in omega arith) in
     sym
-    (sym (ap length (s .args)) ∙ words-length number-bytes ((length (body-of r) - front (s .shape)) / number-bytes) _
-    ∙ ap (λ (sh : Shape). (length (body-of r) - front sh) / number-bytes) shape-is
-    ∙ ap (λ (m : ℕ). m / number-bytes) (let z : length (body-of r) - 0 ≡ word r - 2 = omega arith in z))
+    (sym (ap length (s .args)) ∙ words-length b ((length (body-of r) - front (s .shape)) / b) _
+    ∙ ap (λ (sh : Shape). (length (body-of r) - front sh) / b) shape-is
+    ∙ ap (λ (m : ℕ). m / b) (let z : length (body-of r) - 0 ≡ word r - 2 = omega arith in z))
 
-module _ (r : Bytes) (o : Op) (ks : List ℕ) (f : ℕ → Term) (says : read number-bytes r ≡ term o ks) (sound : Sound r) (fine : T (good (sort-of (node o (from-list (map f ks)))))) where
+module _ (b : ℕ) (r : Bytes) (o : Op) (ks : List ℕ) (f : ℕ → Term) (says : read b r ≡ term o ks) (sound : Sound r) (fine : T (good (sort-of (node o (from-list (map f ks)))))) where
   abbrev ts : Terms
   ts = from-list (map f ks)
 
   width-by : (g c : Bool) → is-gate (kind o) ≡ g → eqb (kind o) 31 ≡ c
-      → cond g 0 (cond c ((word r - 2) / number-bytes) (cond (g || c) (depth (node o ts)) (sort-width (sort-of (node o ts))))) ≡ sort-width (sort-of (node o ts))
+      → cond g 0 (cond c ((word r - 2) / b) (cond (g || c) (depth (node o ts)) (sort-width (sort-of (node o ts))))) ≡ sort-width (sort-of (node o ts))
   width-by true c x y = sym (gate-width o ts (subst T (sym x) tt))
-  width-by false true x y = bb-count r o ks says sound (subst T (sym y) tt) ∙ sym (bb-width o ts (subst T (sym y) tt) fine ∙ sorts-length f ks)
+  width-by false true x y = bb-count b r o ks says sound (subst T (sym y) tt) ∙ sym (bb-width o ts (subst T (sym y) tt) fine ∙ sorts-length f ks)
   width-by false false x y = refl
 
   -- the width that a row says
-  pub width-is : width-in number-bytes (kind o) (word r) (measure (node o (from-list (map f ks)))) ≡ sort-width (sort-of (node o (from-list (map f ks))))
+  pub width-is : width-in b (kind o) (word r) (measure (node o (from-list (map f ks)))) ≡ sort-width (sort-of (node o (from-list (map f ks))))
   unfolding width-in measure
   width-is = width-by (is-gate (kind o)) (eqb (kind o) 31) refl refl
 

@@ -8,7 +8,7 @@ use lib.Dec.{T, leb, leb→le}
 use lib.Ieee.Fits.{and-l, and-r}
 use lib.ListN.{drop, length, take}
 use lib.Seq.{drop-drop, getD-take}
-use Rattle.theory.specs.Limit.{first-terms, number-bytes}
+use Rattle.theory.specs.Limit.{first-terms}
 use Rattle.rows.proofs.RowLaws.{length-record, number-same}
 use Rattle.theory.specs.Kind.{kind}
 use Rattle.theory.specs.Term.{Term, fold, from-list}
@@ -72,14 +72,14 @@ module _ {job work : Bytes} {n : ℕ} (s : Shelf job work n) where
     row-tree : tree-at (listed job work n) (first-terms + k) ≡ tree-of (listed job work n) (row-kept s k h .op) (row-kept s k h .args)
     row-tree = row-kept s k h .made
 
-    row-read : read number-bytes (record-at job at) ≡ term (row-kept s k h .op) (row-kept s k h .args)
-    row-read = ap (λ (o : ℕ). read number-bytes (record-at job o)) e ∙ row-says s k h
+    row-read : read (number-length job) (record-at job at) ≡ term (row-kept s k h .op) (row-kept s k h .args)
+    row-read = ap (λ (o : ℕ). read (number-length job) (record-at job o)) e ∙ row-says s k h
 
     row-sound-at : Sound (record-at job at)
     row-sound-at = subst (λ (o : ℕ). Sound (record-at job o)) (sym e) (row-sound s k h)
 
     kind-is : {c : ℕ} → c ≡ number-at job (at + 2) 2 → c ≡ kind (row-kept s k h .op)
-    kind-is f = f ∙ sym (record-number 2 (omega arith)) ∙ term-kind number-bytes (record-at job at) (row-kept s k h .op) (row-kept s k h .args) row-read
+    kind-is f = f ∙ sym (record-number 2 (omega arith)) ∙ term-kind (number-length job) (record-at job at) (row-kept s k h .op) (row-kept s k h .args) row-read
 
     size-is : {z : ℕ} → z ≡ number-at job at 2 → z ≡ word (record-at job at)
     size-is f = f ∙ ap (λ (i : ℕ). number-at job i 2) (sym (add-zero at)) ∙ sym (record-number 0 (omega arith))
@@ -91,7 +91,7 @@ module _ {job work : Bytes} {n : ℕ} (s : Shelf job work n) where
         let list = listed job work n in
         let fine = subst (λ (t : Term). T (good (sort-of t))) row-tree (good-at list (first-terms + k) (s .sorted) (omega (arith, s .count))) in
         rw (be, kind-is ce, size-is ze, me ∙ s .measures-are k h ∙ ap measure row-tree, row-tree)
-        (width-is (record-at job at) (q .op) (q .args) (tree-at list) row-read row-sound-at fine)
+        (width-is (number-length job) (record-at job at) (q .op) (q .args) (tree-at list) row-read row-sound-at fine)
 
     pub row-width : {w b c z m : ℕ} → w ≡ width-in b c z m → b ≡ number-length job → c ≡ number-at job (at + 2) 2 → z ≡ number-at job at 2
         → m ≡ measure-at (link-size job) work k → Bounded w (sort-width (sort-of (tree-at (listed job work n) (first-terms + k)))) 256

@@ -6,9 +6,10 @@ use Prim.Native.Nat.{ℕ}
 use lib.Dec.{eqb}
 use Rattle.theory.specs.Kind.{Not, And, Or, Xor, Equals, Ite, BvBitOf, BvBbTerm, Const, kind}
 use Rattle.theory.specs.Gates.{Gates}
-use Rattle.theory.specs.Record.{Bytes}
+use Rattle.theory.specs.Record.{Bytes, number-length}
 use Rattle.rows.specs.Layout.{missing}
-use Rattle.table.specs.Keys.{place-list, place-constant}
+use Rattle.rows.specs.Rows.{kept}
+use Rattle.table.specs.Keys.{place-list, place-indexed, place-constant}
 
 -- `true` is term 0, `false` is term 1
 abbrev pub true-number : ℕ
@@ -22,27 +23,31 @@ abbrev pub number : Option ℕ → ℕ
 number none = missing
 number (some k) = k
 
--- the gates, `rows` being the kept records
-abbrev pub numbers : List Bytes → Gates ℕ
-numbers rows = record {
+-- the gates, `rows` being the kept records, in which numbers of terms have b bytes
+abbrev pub numbers : ℕ → List Bytes → Gates ℕ
+numbers b rows = record {
   true-gate = true-number;
   false-gate = false-number;
-  not-gate = λ x. place-list (kind Not) (x ∷ []) rows;
-  and-gate = λ x y. place-list (kind And) (x ∷ y ∷ []) rows;
-  or-gate = λ x y. place-list (kind Or) (x ∷ y ∷ []) rows;
-  xor-gate = λ x y. place-list (kind Xor) (x ∷ y ∷ []) rows;
-  eq-gate = λ x y. place-list (kind Equals) (x ∷ y ∷ []) rows;
-  ite-gate = λ c x y. place-list (kind Ite) (c ∷ x ∷ y ∷ []) rows;
-  all-gate = λ xs. place-list (kind And) xs rows;
+  not-gate = λ x. place-list b (kind Not) (x ∷ []) rows;
+  and-gate = λ x y. place-list b (kind And) (x ∷ y ∷ []) rows;
+  or-gate = λ x y. place-list b (kind Or) (x ∷ y ∷ []) rows;
+  xor-gate = λ x y. place-list b (kind Xor) (x ∷ y ∷ []) rows;
+  eq-gate = λ x y. place-list b (kind Equals) (x ∷ y ∷ []) rows;
+  ite-gate = λ c x y. place-list b (kind Ite) (c ∷ x ∷ y ∷ []) rows;
+  all-gate = λ xs. place-list b (kind And) xs rows;
 }
 
+-- the gates of the first n rows of a job, in its own number length
+abbrev pub numbers-in : Bytes → Bytes → ℕ → Gates ℕ
+numbers-in job work n = numbers (number-length job) (kept job work n)
+
 -- bit i of term x
-abbrev pub bit-number : List Bytes → ℕ → ℕ → ℕ
-bit-number rows i x = place-list (kind (BvBitOf i)) (i ∷ x ∷ []) rows
+abbrev pub bit-number : ℕ → List Bytes → ℕ → ℕ → ℕ
+bit-number b rows i x = place-indexed b (kind (BvBitOf i)) i x rows
 
 -- the BvBbTerm of these bits
-abbrev pub bb-number : List Bytes → List ℕ → ℕ
-bb-number rows xs = place-list (kind BvBbTerm) xs rows
+abbrev pub bb-number : ℕ → List Bytes → List ℕ → ℕ
+bb-number b rows xs = place-list b (kind BvBbTerm) xs rows
 
 -- the constant of this width and value
 abbrev pub constant-number : List Bytes → ℕ → ℕ → ℕ

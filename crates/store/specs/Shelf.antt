@@ -3,8 +3,8 @@ use mathlib.Core.Path.{_≡_}
 use mathlib.Core.List.{List, []}
 use Prim.Native.Nat.{ℕ, _+_, _<_}
 use lib.ListN.{length}
-use Rattle.theory.specs.Limit.{first-terms, number-bytes}
-use Rattle.theory.specs.Record.{Bytes, Item, term, step, chain, back, unknown, misfit, read}
+use Rattle.theory.specs.Limit.{first-terms}
+use Rattle.theory.specs.Record.{Bytes, Item, term, step, chain, back, unknown, misfit, read, number-length}
 use Rattle.theory.specs.Plain.{Plain}
 use Rattle.theory.specs.Places.{entry-at, tree-at}
 use Rattle.theory.specs.Listed.{AllGood, WellKept}
@@ -19,7 +19,7 @@ use Rattle.store.specs.Terms.{TermAt}
 -- each row builds a term of its own, and has that term's measure
 pub record Shelf (job work : Bytes) (n : ℕ) : Type 0 where
   pub rows : Rows (link-size job) job work n
-  pub well : WellKept number-bytes (listed job work n)
+  pub well : WellKept (number-length job) (listed job work n)
   pub sorted : AllGood (listed job work n)
   pub count : length (listed job work n) ≡ first-terms + n
   pub records-are : records (listed job work n) ≡ kept job work n
@@ -34,11 +34,11 @@ item-args (back k) = []
 item-args unknown = []
 item-args misfit = []
 
--- the places of the arguments of the term at a place, by its record
-unfoldable pub args-at : Plain → ℕ → List ℕ
-args-at list k = item-args (read number-bytes (entry-at list k .bytes))
+-- the places of the arguments of the term at a place, by its record, where the numbers of terms have b bytes
+unfoldable pub args-at : ℕ → Plain → ℕ → List ℕ
+args-at b list k = item-args (read b (entry-at list k .bytes))
 
 -- t is the term at a place, and has the arguments that its record says
 pub record TermOn (job work : Bytes) (n place : ℕ) (t : Term) : Type 0 where
   pub term-at : TermAt job work n place t
-  pub args-are : arguments-of job t ≡ args-at (listed job work n) place
+  pub args-are : arguments-of job t ≡ args-at (number-length job) (listed job work n) place

@@ -6,7 +6,7 @@ ghost use Rattle.theory.specs.Limit.{first-terms};
 ghost use Rattle.theory.specs.Sort.{sort-width, sort-of};
 ghost use Rattle.theory.specs.Places.{tree-at};
 ghost use Rattle.theory.specs.Depth.{depth};
-ghost use Rattle.rows.specs.Layout.{Bounded, number-end};
+ghost use Rattle.rows.specs.Layout.{Bounded, place-end};
 ghost use Rattle.store.specs.Store.{listed};
 ghost use Rattle.store.specs.Shelf.{Shelf, TermOn};
 use super::gates::FALSE;
@@ -56,7 +56,7 @@ pub fn row_width(job: &[u8], work: &[u8], n: usize, k: usize) -> usize
 // The depth of row k's term.
 pub fn row_depth(job: &[u8], work: &[u8], n: usize, k: usize) -> usize
     requires { ⌜ Shelf (now job) (now work) n × (k < n) ⌝ }
-    ensures { λ r. ⌜ Bounded r (depth (tree-at (listed (now (job .entry)) (now (work .entry)) n) (first-terms + k))) number-end ⌝ }
+    ensures { λ r. ⌜ Bounded r (depth (tree-at (listed (now (job .entry)) (now (work .entry)) n) (first-terms + k))) place-end ⌝ }
 {
     let at = rows::offset_at(job, work, k);
     let kind = number(job, at + Term::NUMBER_BYTES, Term::NUMBER_BYTES);

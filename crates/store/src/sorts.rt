@@ -5,7 +5,7 @@ ghost use Rattle.theory.specs.Limit.{first-terms};
 ghost use Rattle.theory.specs.Sort.{sort-width, sort-of};
 ghost use Rattle.theory.specs.Depth.{depth};
 ghost use Rattle.theory.specs.Places.{tree-at};
-ghost use Rattle.rows.specs.Layout.{Bounded, number-end};
+ghost use Rattle.rows.specs.Layout.{Bounded, place-end};
 ghost use Rattle.store.specs.Store.{Store, listed};
 ghost use Rattle.store.specs.Sorts.{sort-read};
 use super::shelf::row_depth;
@@ -48,7 +48,7 @@ pub fn sort_at(job: &[u8], work: &[u8], n: usize, place: u32) -> Sort
 // The depth of the term at a place: `true` and `false` have depth 0, and a row has its term's.
 pub fn depth_at(job: &[u8], work: &[u8], n: usize, place: u32) -> usize
     requires { ⌜ Store (now job) (now work) n × (place < first-terms + n) ⌝ }
-    ensures { λ r. ⌜ Bounded r (depth (tree-at (listed (now (job .entry)) (now (work .entry)) n) place)) number-end ⌝ }
+    ensures { λ r. ⌜ Bounded r (depth (tree-at (listed (now (job .entry)) (now (work .entry)) n) place)) place-end ⌝ }
 {
     let k = place as usize;
     if k < rows::FIRST_PLACE {

@@ -12,7 +12,7 @@ use Rattle.theory.specs.Depth.{depth}
 use Rattle.theory.specs.Circuit.{zip-with, last, clog2, ripple-carry-adder, last-carry, ult-from, bitblast-ult, slt-from, slt}
 use Rattle.theory.specs.Bits.{select, get-term-bits, fold-terms, add-bits, concat-bits}
 use Rattle.theory.specs.Rule.{args-of, literal-bits, slices-verdict, on-sides, verdict}
-use Rattle.theory.specs.Record.{Bytes, cut, shape-of, read}
+use Rattle.theory.specs.Record.{Bytes, cut, shape-of, read, number-length}
 use Rattle.theory.specs.Plain.{feed}
 use Rattle.theory.specs.Codes.{fault}
 use Rattle.theory.specs.Job.{answers-to, run-from, run}
@@ -156,5 +156,5 @@ Computed =
     × known-case (job ((11 ∷ 17 ∷ 0 ∷ []) ∷ [])) 4000 100 24 2 (1 ∷ 0 ∷ 1 ∷ 0 ∷ 1 ∷ 0 ∷ 1 ∷ 0 ∷ 1 ∷ 0 ∷ 1 ∷ 0 ∷ 1 ∷ 0 ∷ 1 ∷ 0 ∷ 2 ∷ []) 17 0 (1 ∷ 0 ∷ 1 ∷ 0 ∷ 1 ∷ 0 ∷ 1 ∷ 0 ∷ 1 ∷ 0 ∷ 1 ∷ 0 ∷ 1 ∷ 0 ∷ 1 ∷ 0 ∷ 2 ∷ [])
 
 pub computed : Computed
-unfolding fold same-op same-term guard not-n neg-n and-n or-n xor-n xnor-n add-n mul-n shl-n lshr-n top-copies ashr-n udiv-n urem-n signed rotate-left-n rotate-right-n meaning depth zip-with last clog2 ripple-carry-adder last-carry ult-from bitblast-ult slt-from slt select get-term-bits fold-terms add-bits concat-bits args-of literal-bits slices-verdict on-sides verdict cut shape-of read feed fault answers-to run-from run stands assignment sweep count and-known or-known known-op bit-level known-bits
+unfolding fold same-op same-term guard not-n neg-n and-n or-n xor-n xnor-n add-n mul-n shl-n lshr-n top-copies ashr-n udiv-n urem-n signed rotate-left-n rotate-right-n meaning depth zip-with last clog2 ripple-carry-adder last-carry ult-from bitblast-ult slt-from slt select get-term-bits fold-terms add-bits concat-bits args-of literal-bits slices-verdict on-sides verdict cut shape-of read number-length feed fault answers-to run-from run stands assignment sweep count and-known or-known known-op bit-level known-bits
 computed = (refl, refl, refl, refl, refl, refl, refl, refl, refl, refl, refl, refl, refl, refl, refl, refl, refl, refl, refl, refl, refl, refl, refl, refl, refl, refl, refl, refl, refl, refl, refl, refl, refl, refl, refl, refl, refl, refl, refl, refl, refl, refl, refl, refl, refl, refl, refl, refl, refl)

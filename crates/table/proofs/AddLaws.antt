@@ -16,6 +16,7 @@ use Rattle.rows.specs.Rows.{kept-as, measures, offsets, place-of}
 use Rattle.table.specs.Buckets.{TableAs, TableOf, added-row, bucket-count, bucket-of, first-in, head-count, heads-start, newest, row-bucket}
 use Rattle.table.specs.Promise.{TermLimit, Grown, added-code, added-for, count-after, in-bucket, is-kept, list-after, memory-after, room-for, with-row}
 use Rattle.rows.proofs.RowLaws.{and-first, and-second, getD-kept, length-kept, rows-small}
+use Rattle.theory.proofs.Lengths.{either-length}
 use Rattle.table.proofs.BucketLaws.{first-newest}
 use Rattle.table.proofs.MemoryLaws.{kept-added, length-added, measures-added, offsets-added, start-room, table-added}
 use Rattle.table.proofs.Face.{place-absent}
@@ -30,29 +31,35 @@ part-record job at len e =
 -- a job's links count the rack's terms
 pub term-limit : (job : Bytes) → TermLimit (number-length job)
 unfolding link-bytes
-term-limit job = record { held = omega arith }
+term-limit = either-length TermLimit (record { held = omega arith }) (record { held = omega arith })
+
+-- the same number length by another name
+pub grown-as : {b c : ℕ} {job work after : Bytes} {n limit at measure : ℕ} {answer : Added} → b ≡ c
+    → Grown b job work after n limit at measure answer → Grown c job work after n limit at measure answer
+grown-as {job = job} {work = work} {after = after} {n = n} {limit = limit} {at = at} {measure = measure} {answer = answer} e =
+    subst (λ (x : ℕ). Grown x job work after n limit at measure answer) e
 
 -- ---- room for a row
 
 module _ (b limit n len : ℕ) where
   -- the test of the memory, where there is a number
-  pub room-memory : {r : Bool} {m : ℕ} → r ≡ leb m len → m ≡ term-bytes b * suc n → first-terms + n < min limit max-terms → r ≡ room-for b limit n len
+  pub room-memory : {r : Bool} {m : ℕ} → r ≡ leb m len → m ≡ term-bytes b * suc n → first-terms + n < min limit (max-terms b) → r ≡ room-for b limit n len
   unfolding room-for
   room-memory e same h =
       e ∙ ap (λ (m : ℕ). leb m len) same
-      ∙ sym (ap (λ (q : Bool). leb (term-bytes b * suc n) len && q) (lt-ltb (2 + n) (min limit max-terms) h) ∙ and-true (leb (term-bytes b * suc n) len))
+      ∙ sym (ap (λ (q : Bool). leb (term-bytes b * suc n) len && q) (lt-ltb (2 + n) (min limit (max-terms b)) h) ∙ and-true (leb (term-bytes b * suc n) len))
 
   -- too many terms already
-  pub room-numbers : min limit max-terms ≤ first-terms + n → false ≡ room-for b limit n len
+  pub room-numbers : min limit (max-terms b) ≤ first-terms + n → false ≡ room-for b limit n len
   unfolding room-for
   room-numbers h =
-      sym (ap (λ (q : Bool). leb (term-bytes b * suc n) len && q) (le-ltb (2 + n) (min limit max-terms) h) ∙ and-false (leb (term-bytes b * suc n) len))
+      sym (ap (λ (q : Bool). leb (term-bytes b * suc n) len && q) (le-ltb (2 + n) (min limit (max-terms b)) h) ∙ and-false (leb (term-bytes b * suc n) len))
 
-  pub room-true : room-for b limit n len ≡ true → (first-terms + n < max-terms) × (n * term-bytes b + term-bytes b ≤ len)
+  pub room-true : room-for b limit n len ≡ true → (first-terms + n < max-terms b) × (n * term-bytes b + term-bytes b ≤ len)
   unfolding room-for
   room-true e =
-      let p : 2 + n < min limit max-terms = ltb-true (2 + n) (min limit max-terms) (and-second (leb (term-bytes b * suc n) len) (ltb (2 + n) (min limit max-terms)) e) in
-      let q : term-bytes b * suc n ≤ len = leb-true (term-bytes b * suc n) len (and-first (leb (term-bytes b * suc n) len) (ltb (2 + n) (min limit max-terms)) e) in
+      let p : 2 + n < min limit (max-terms b) = ltb-true (2 + n) (min limit (max-terms b)) (and-second (leb (term-bytes b * suc n) len) (ltb (2 + n) (min limit (max-terms b))) e) in
+      let q : term-bytes b * suc n ≤ len = leb-true (term-bytes b * suc n) len (and-first (leb (term-bytes b * suc n) len) (ltb (2 + n) (min limit (max-terms b))) e) in
       (omega arith, omega arith)
 
 -- ---- the code of an answer

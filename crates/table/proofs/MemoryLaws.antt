@@ -287,6 +287,11 @@ start-within b len =
 pub start-is : (b len l : ℕ) → l ≡ link-bytes b → (len / (4 + 2 * b) * (3 + 2 * l) ≡ heads-start b len) × (len / (4 + 2 * b) * (3 + 2 * l) ≤ len)
 start-is b len l e = (start-form b len l e, omega (arith, start-form b len l e, start-within b len))
 
+-- the same of short numbers
+pub short-start : (len : ℕ) → (len / 8 * 7 ≡ heads-start 2 len) × (len / 8 * 7 ≤ len)
+unfolding link-bytes
+short-start len = start-is 2 len 2 refl
+
 -- where there is memory for one term more than n, there is room for its row
 pub start-room : (b n len : ℕ) → n * term-bytes b + term-bytes b ≤ len → n * row-size (link-bytes b) + row-size (link-bytes b) ≤ heads-start b len
 unfolding heads-start

@@ -17,13 +17,13 @@ use Rattle.table.specs.declared.kept.Added.{Added}
 use Rattle.table.specs.declared.kept.Added.the-variants.{Found, New, Spent}
 
 -- ---- adding a record
--- links can count the rack's terms
+-- links can count the rack's terms, by their numbers' length
 pub record TermLimit (b : ℕ) : Type 0 where
-  pub held : max-terms < 256 ^ link-bytes b
+  pub held : max-terms b < 256 ^ link-bytes b
 
 -- there is memory and a place for one row more than n; the terms may be as many as the limit says, and no more than the rack's
 unfoldable pub room-for : ℕ → ℕ → ℕ → ℕ → Bool
-room-for b limit n len = leb (term-bytes b * suc n) len && ltb (first-terms + n) (min limit max-terms)
+room-for b limit n len = leb (term-bytes b * suc n) len && ltb (first-terms + n) (min limit (max-terms b))
 
 -- a record that equals x is kept
 unfoldable pub is-kept : Bytes → List Bytes → Bool

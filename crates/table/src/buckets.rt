@@ -1,7 +1,7 @@
 // Separate chaining over the rows. A record's hash leads to a bucket; the bucket's head names its newest row, and each row's link the one before it. Heads
 // stand after the rows, and the seed of the hash in the last bytes of the work memory.
 ghost use mathlib.Core.Path.{_≡_};
-ghost use Prim.Native.Nat.{_+_, _*_, _-_, _≤_, _<_};
+ghost use Prim.Native.Nat.{_+_, _*_, _-_, _/_, _≤_, _<_};
 ghost use lib.ListN.{length};
 ghost use Rattle.rows.specs.Layout.{Bounded, link-bytes, row-size};
 ghost use Rattle.rows.specs.Rows.{kept-as, place-of};
@@ -34,7 +34,23 @@ pub fn heads_start(len: usize, bytes: usize, link: usize) -> usize
     requires { ⌜ Length bytes × (link ≡ link-bytes bytes) ⌝ }
     ensures { λ r. ⌜ (r ≡ heads-start bytes len) × (r ≤ len) ⌝ }
 {
+    // By a constant where numbers are short: a division by one that is not known takes several times as long.
+    if bytes == Term::NUMBER_BYTES {
+        return len / (FIXED_BYTES + 2 * Term::NUMBER_BYTES)
+            * (OFFSET_BYTES + 2 * Term::NUMBER_BYTES);
+    }
     len / (FIXED_BYTES + 2 * bytes) * (OFFSET_BYTES + 2 * link)
+}
+
+// How many links fit into so many bytes; again by a constant where they are short.
+fn links_in(left: usize, link: usize) -> usize
+    requires { ⌜ Length link ⌝ }
+    ensures { λ r. ⌜ r ≡ left / link ⌝ }
+{
+    if link == Term::NUMBER_BYTES {
+        return left / Term::NUMBER_BYTES;
+    }
+    left / link
 }
 
 // How many heads there are.
@@ -46,7 +62,7 @@ pub fn head_count(len: usize, start: usize, link: usize) -> usize
     if left < SEED_BYTES {
         return 0;
     }
-    let heads = (left - SEED_BYTES) / link;
+    let heads = links_in(left - SEED_BYTES, link);
     if heads < MOST_HEADS {
         heads
     } else {

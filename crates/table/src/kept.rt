@@ -25,8 +25,8 @@ use rows::offset_as;
 use rows::put_row;
 use terms::Term;
 
-// The place of the record `wanted` among n kept ones, or MISSING.
-fn find_record_as(job: &[u8], work: &[u8], bytes: usize, n: usize, wanted: &[u8]) -> u32
+// The place of the record `wanted` among n kept ones, or MISSING, where terms' numbers have so many bytes.
+pub fn find_record(job: &[u8], work: &[u8], bytes: usize, n: usize, wanted: &[u8]) -> u32
     requires { ⌜ TableAs bytes (now job) (now work) n ⌝ }
     ensures { λ r. ⌜ r ≡ place-of (now (wanted .entry)) (kept-as (link-bytes bytes) (now (job .entry)) (now (work .entry)) n) ⌝ }
 {
@@ -36,15 +36,6 @@ fn find_record_as(job: &[u8], work: &[u8], bytes: usize, n: usize, wanted: &[u8]
     let j = bucket(work, c, wanted);
     let first = first_in(work, link, n, start, c, j);
     walk(job, work, link, n, first, wanted)
-}
-
-// The same in the job's own number length.
-pub fn find_record(job: &[u8], work: &[u8], n: usize, wanted: &[u8]) -> u32
-    requires { ⌜ Table (now job) (now work) n ⌝ }
-    ensures { λ r. ⌜ r ≡ place-of (now (wanted .entry)) (kept (now (job .entry)) (now (work .entry)) n) ⌝ }
-{
-    let bytes = Term::number_length(job);
-    find_record_as(job, work, bytes, n, wanted)
 }
 
 // What adding a record answers: the place of the kept record that equals it, the place of the new row, or that there is no room for one.
@@ -59,7 +50,7 @@ fn has_room(bytes: usize, n: usize, limit: usize, len: usize) -> bool
     requires { ⌜ Length bytes × (first-terms + n < 4294967296) ⌝ }
     ensures { λ r. ⌜ r ≡ room-for bytes limit n len ⌝ }
 {
-    if Term::MAX_TERMS <= n + FIRST_PLACE {
+    if Term::max_terms(bytes) <= n + FIRST_PLACE {
         return false;
     }
     if limit <= n + FIRST_PLACE {
@@ -71,7 +62,7 @@ fn has_room(bytes: usize, n: usize, limit: usize, len: usize) -> bool
 
 // Adds the record that stands at `at` in the job to n kept ones, with its measure, unless one of them equals it. There may be `limit` terms; above
 // the rack's limit it is the rack's.
-fn add_as(
+pub fn add_as(
     job: &[u8],
     work: &mut [u8],
     bytes: usize,
@@ -101,14 +92,16 @@ fn add_as(
     Added::New((n + FIRST_PLACE) as u32)
 }
 
-// The same in the job's own number length.
+// The same in the job's own number length. A call for each of the two: each is then compiled for its length.
 pub fn add(job: &[u8], work: &mut [u8], n: usize, limit: usize, at: usize, measure: usize) -> Added
     requires { ⌜ Table (now job) (now work) n × (at + extent (drop at (now job)) ≤ length (now job))
         × (measure < 256 ^ link-bytes (number-length (now job))) ⌝ }
     ensures { λ r. ⌜ Grown (number-length (now (job .entry))) (now (job .entry)) (now (work .entry)) (now (work .exit)) n limit at measure r ⌝ }
 {
-    let bytes = Term::number_length(job);
-    add_as(job, work, bytes, n, limit, at, measure)
+    if Term::number_length(job) == Term::NUMBER_BYTES {
+        return add_as(job, work, Term::NUMBER_BYTES, n, limit, at, measure);
+    }
+    add_as(job, work, Term::LONG_BYTES, n, limit, at, measure)
 }
 
 // Stores row n before the row `first` of bucket j.

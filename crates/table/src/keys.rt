@@ -4,9 +4,12 @@ ghost use mathlib.Core.List.{[], _∷_};
 ghost use Prim.Native.Nat.{_≤_};
 ghost use lib.ListN.{length, take};
 ghost use Rattle.theory.specs.Limit.{max-arguments};
-ghost use Rattle.rows.specs.Rows.{kept, place-of};
-ghost use Rattle.table.specs.Buckets.{Table};
-ghost use Rattle.table.specs.Keys.{key-bytes, place-list, place-constant};
+ghost use Rattle.theory.specs.Record.{number-length};
+ghost use Rattle.terms.specs.Bodies.{Length};
+ghost use Rattle.rows.specs.Layout.{link-bytes};
+ghost use Rattle.rows.specs.Rows.{kept-as, kept, place-of};
+ghost use Rattle.table.specs.Buckets.{TableAs, Table};
+ghost use Rattle.table.specs.Keys.{few-arguments, key-bytes, Roomy, last-number, place-list, place-indexed, place-constant};
 use super::kept::find_record;
 use rows::bytes::put_number;
 use rows::layout::MISSING;
@@ -18,71 +21,174 @@ const KIND_AT: usize = Term::NUMBER_BYTES;
 // .. then its body.
 const BODY_AT: usize = KIND_AT + Term::NUMBER_BYTES;
 
-// An array that is long enough for a record's length, its kind, an index and the most arguments.
-const KEY_BYTES: usize = Term::NUMBER_BYTES * (3 + Term::MAX_ARGUMENTS);
+// So few arguments fit into a short array ..
+const FEW_ARGUMENTS: usize = 3;
+
+// .. which is long enough for a number and a value too, or an index and an argument.
+const KEY_BYTES: usize = BODY_AT + Term::LONG_BYTES * FEW_ARGUMENTS;
+
+// An array that is long enough for the most arguments.
+const LIST_BYTES: usize = BODY_AT + Term::LONG_BYTES * Term::MAX_ARGUMENTS;
 
 // The place of the record that is the first `len` bytes of the array, among n kept ones, or MISSING.
-fn find_key(job: &[u8], work: &[u8], n: usize, key: [u8; KEY_BYTES], len: usize) -> u32
-    requires { ⌜ Table (now job) (now work) n × (len ≤ key-bytes) ⌝ }
-    ensures { λ r. ⌜ r ≡ place-of (take len key) (kept (now (job .entry)) (now (work .entry)) n) ⌝ }
+fn find_key(
+    job: &[u8],
+    work: &[u8],
+    bytes: usize,
+    n: usize,
+    key: [u8; KEY_BYTES],
+    len: usize,
+) -> u32
+    requires { ⌜ TableAs bytes (now job) (now work) n × (len ≤ key-bytes) ⌝ }
+    ensures { λ r. ⌜ r ≡ place-of (take len key) (kept-as (link-bytes bytes) (now (job .entry)) (now (work .entry)) n) ⌝ }
 {
-    find_record(job, work, n, &key[..len])
+    find_record(job, work, bytes, n, &key[..len])
 }
 
-// The place of the record of a kind with 0 to 64 numbers, or MISSING; MISSING too where a number is 65,535 or more, which is no place.
-pub fn find_list(job: &[u8], work: &[u8], n: usize, kind: u32, args: &[u32]) -> u32
-    requires { ⌜ Table (now job) (now work) n × (length (now args) ≤ max-arguments) ⌝ }
-    ensures { λ r. ⌜ r ≡ place-list kind (now (args .entry)) (kept (now (job .entry)) (now (work .entry)) n) ⌝ }
+// The last number that so many bytes hold.
+fn last_number(bytes: usize) -> usize
+    requires { ⌜ Length bytes ⌝ }
+    ensures { λ r. ⌜ r ≡ last-number bytes ⌝ }
 {
-    let mut key = [0u8; KEY_BYTES];
-    let len = Term::NUMBER_BYTES + args.len() * Term::NUMBER_BYTES;
-    put_number(&mut key, 0, Term::NUMBER_BYTES, len);
-    put_number(&mut key, KIND_AT, Term::NUMBER_BYTES, kind as usize);
+    if bytes == 1 {
+        return 255;
+    }
+    if bytes == 2 {
+        return 65535;
+    }
+    if bytes == 3 {
+        return 16777215;
+    }
+    4294967295
+}
+
+// The place of the record of a kind with arguments of so many bytes, which is built in the array lent, or MISSING; MISSING too where a number is
+// none that these bytes hold, or the last of them, which is no place.
+fn find_built(
+    job: &[u8],
+    work: &[u8],
+    bytes: usize,
+    n: usize,
+    kind: u32,
+    args: &[u32],
+    key: &mut [u8],
+) -> u32
+    requires { ⌜ TableAs bytes (now job) (now work) n × Roomy bytes (length (now args)) (length (now key)) ⌝ }
+    ensures { λ r. ⌜ r ≡ place-list bytes kind (now (args .entry)) (kept-as (link-bytes bytes) (now (job .entry)) (now (work .entry)) n) ⌝ }
+{
+    let limit = last_number(bytes);
+    let len = Term::NUMBER_BYTES + args.len() * bytes;
+    put_number(key, 0, Term::NUMBER_BYTES, len);
+    put_number(key, KIND_AT, Term::NUMBER_BYTES, kind as usize);
     let mut at = BODY_AT;
     let mut i: usize = 0;
     while i < args.len() {
         let x = args[i] as usize;
-        if Term::MAX_TERMS <= x {
+        if limit <= x {
             return MISSING;
         }
-        put_number(&mut key, at, Term::NUMBER_BYTES, x);
-        at += Term::NUMBER_BYTES;
+        put_number(key, at, bytes, x);
+        at += bytes;
         i += 1;
     }
-    find_key(job, work, n, key, at)
+    find_record(job, work, bytes, n, &key[..at])
 }
 
-// The place of the record of a kind with one number.
+// The place of the record of a kind with 0 to 64 arguments, of the job's own number length.
+pub fn find_list(job: &[u8], work: &[u8], n: usize, kind: u32, args: &[u32]) -> u32
+    requires { ⌜ Table (now job) (now work) n × (length (now args) ≤ max-arguments) ⌝ }
+    ensures { λ r. ⌜ r ≡ place-list (number-length (now (job .entry))) kind (now (args .entry)) (kept (now (job .entry)) (now (work .entry)) n) ⌝ }
+{
+    let mut key = [0u8; LIST_BYTES];
+    find_built(job, work, Term::number_length(job), n, kind, args, &mut key)
+}
+
+// The same of up to three, in a shorter array.
+fn find_few(job: &[u8], work: &[u8], n: usize, kind: u32, args: &[u32]) -> u32
+    requires { ⌜ Table (now job) (now work) n × (length (now args) ≤ few-arguments) ⌝ }
+    ensures { λ r. ⌜ r ≡ place-list (number-length (now (job .entry))) kind (now (args .entry)) (kept (now (job .entry)) (now (work .entry)) n) ⌝ }
+{
+    let mut key = [0u8; KEY_BYTES];
+    find_built(job, work, Term::number_length(job), n, kind, args, &mut key)
+}
+
+// The place of the record of a kind with one argument.
 pub fn find_one(job: &[u8], work: &[u8], n: usize, kind: u32, a: u32) -> u32
     requires { ⌜ Table (now job) (now work) n ⌝ }
-    ensures { λ r. ⌜ r ≡ place-list kind (a ∷ []) (kept (now (job .entry)) (now (work .entry)) n) ⌝ }
+    ensures { λ r. ⌜ r ≡ place-list (number-length (now (job .entry))) kind (a ∷ []) (kept (now (job .entry)) (now (work .entry)) n) ⌝ }
 {
     let args = [a];
-    find_list(job, work, n, kind, &args)
+    find_few(job, work, n, kind, &args)
 }
 
-// The place of the record of a kind with two numbers: two arguments, or an index and an argument.
+// The place of the record of a kind with two arguments.
 pub fn find_two(job: &[u8], work: &[u8], n: usize, kind: u32, a: u32, b: u32) -> u32
     requires { ⌜ Table (now job) (now work) n ⌝ }
-    ensures { λ r. ⌜ r ≡ place-list kind (a ∷ b ∷ []) (kept (now (job .entry)) (now (work .entry)) n) ⌝ }
+    ensures { λ r. ⌜ r ≡ place-list (number-length (now (job .entry))) kind (a ∷ b ∷ []) (kept (now (job .entry)) (now (work .entry)) n) ⌝ }
 {
     let args = [a, b];
-    find_list(job, work, n, kind, &args)
+    find_few(job, work, n, kind, &args)
 }
 
-// The place of the record of a kind with three numbers.
+// The place of the record of a kind with three arguments.
 pub fn find_three(job: &[u8], work: &[u8], n: usize, kind: u32, a: u32, b: u32, c: u32) -> u32
     requires { ⌜ Table (now job) (now work) n ⌝ }
-    ensures { λ r. ⌜ r ≡ place-list kind (a ∷ b ∷ c ∷ []) (kept (now (job .entry)) (now (work .entry)) n) ⌝ }
+    ensures { λ r. ⌜ r ≡ place-list (number-length (now (job .entry))) kind (a ∷ b ∷ c ∷ []) (kept (now (job .entry)) (now (work .entry)) n) ⌝ }
 {
     let args = [a, b, c];
-    find_list(job, work, n, kind, &args)
+    find_few(job, work, n, kind, &args)
+}
+
+// The place of the record of a kind with an index and one argument.
+fn find_indexed_as(
+    job: &[u8],
+    work: &[u8],
+    bytes: usize,
+    n: usize,
+    kind: u32,
+    index: u32,
+    a: u32,
+) -> u32
+    requires { ⌜ TableAs bytes (now job) (now work) n ⌝ }
+    ensures { λ r. ⌜ r ≡ place-indexed bytes kind index a (kept-as (link-bytes bytes) (now (job .entry)) (now (work .entry)) n) ⌝ }
+{
+    let x = a as usize;
+    if last_number(bytes) <= x {
+        return MISSING;
+    }
+    let mut key = [0u8; KEY_BYTES];
+    let at = BODY_AT + Term::NUMBER_BYTES;
+    let end = at + bytes;
+    put_number(&mut key, 0, Term::NUMBER_BYTES, end - Term::NUMBER_BYTES);
+    put_number(&mut key, KIND_AT, Term::NUMBER_BYTES, kind as usize);
+    put_number(&mut key, BODY_AT, Term::NUMBER_BYTES, index as usize);
+    put_number(&mut key, at, bytes, x);
+    find_key(job, work, bytes, n, key, end)
+}
+
+// The same in the job's own number length. A call for each of the two: each is then compiled for its length.
+pub fn find_indexed(job: &[u8], work: &[u8], n: usize, kind: u32, index: u32, a: u32) -> u32
+    requires { ⌜ Table (now job) (now work) n ⌝ }
+    ensures { λ r. ⌜ r ≡ place-indexed (number-length (now (job .entry))) kind index a (kept (now (job .entry)) (now (work .entry)) n) ⌝ }
+{
+    if Term::number_length(job) == Term::NUMBER_BYTES {
+        return find_indexed_as(job, work, Term::NUMBER_BYTES, n, kind, index, a);
+    }
+    find_indexed_as(job, work, Term::LONG_BYTES, n, kind, index, a)
 }
 
 // The place of the record of a kind with a number and a value of eight bytes: a constant, by its width and value.
-pub fn find_constant(job: &[u8], work: &[u8], n: usize, kind: u32, width: u32, value: u64) -> u32
-    requires { ⌜ Table (now job) (now work) n ⌝ }
-    ensures { λ r. ⌜ r ≡ place-constant kind width value (kept (now (job .entry)) (now (work .entry)) n) ⌝ }
+fn find_constant_as(
+    job: &[u8],
+    work: &[u8],
+    bytes: usize,
+    n: usize,
+    kind: u32,
+    width: u32,
+    value: u64,
+) -> u32
+    requires { ⌜ TableAs bytes (now job) (now work) n ⌝ }
+    ensures { λ r. ⌜ r ≡ place-constant kind width value (kept-as (link-bytes bytes) (now (job .entry)) (now (work .entry)) n) ⌝ }
 {
     let mut key = [0u8; KEY_BYTES];
     let at = BODY_AT + Term::NUMBER_BYTES;
@@ -91,5 +197,16 @@ pub fn find_constant(job: &[u8], work: &[u8], n: usize, kind: u32, width: u32, v
     put_number(&mut key, KIND_AT, Term::NUMBER_BYTES, kind as usize);
     put_number(&mut key, BODY_AT, Term::NUMBER_BYTES, width as usize);
     put_number(&mut key, at, Term::VALUE_BYTES, value as usize);
-    find_key(job, work, n, key, end)
+    find_key(job, work, bytes, n, key, end)
+}
+
+// The same in the job's own number length. A call for each of the two: each is then compiled for its length.
+pub fn find_constant(job: &[u8], work: &[u8], n: usize, kind: u32, width: u32, value: u64) -> u32
+    requires { ⌜ Table (now job) (now work) n ⌝ }
+    ensures { λ r. ⌜ r ≡ place-constant kind width value (kept (now (job .entry)) (now (work .entry)) n) ⌝ }
+{
+    if Term::number_length(job) == Term::NUMBER_BYTES {
+        return find_constant_as(job, work, Term::NUMBER_BYTES, n, kind, width, value);
+    }
+    find_constant_as(job, work, Term::LONG_BYTES, n, kind, width, value)
 }

@@ -10,9 +10,11 @@ mod memory;
 
 pub use kept::Added;
 pub use kept::add;
+pub use kept::add_as;
 pub use kept::drop_rows;
 pub use kept::find_record;
 pub use keys::find_constant;
+pub use keys::find_indexed;
 pub use keys::find_list;
 pub use keys::find_one;
 pub use keys::find_three;

@@ -82,6 +82,13 @@ module _ {c : ℕ} {job : Bytes} {kind body size before : ℕ} (h : Body c job k
       let t : c * ((size - 0) / c) ≡ c * (size / c) = ap (λ (m : ℕ). c * m) i in
       (said (plain o) (size / c) g z i, record { end = omega arith; few = subst (λ (m : ℕ). m / c ≤ max-arguments) none-before q; sized = h .length-b })
 
+  -- the same by a count of them
+  pub many-counted : {count : ℕ} → count ≡ size / c → (k : ℕ) (o : Op) → find-shape k shapes ≡ some (plain o) → arity o ≡ many → kind ≡ k
+      → (term o (words c count (drop body job)) ≡ made c (shape-of kind) (part job body size)) × Inside job (record { at = body; count = count; bytes = c })
+  many-counted {count} n k o f a e =
+      subst (λ (m : ℕ). (term o (words c m (drop body job)) ≡ made c (shape-of kind) (part job body size)) × Inside job (record { at = body; count = m; bytes = c })) (sym n)
+      (many-there k o f a e)
+
   -- an unknown kind
   pub nothing : shape-of kind ≡ none → unknown ≡ made c (shape-of kind) (part job body size)
   nothing e = sym (ap (λ (o : Option Shape). made c o (part job body size)) e)

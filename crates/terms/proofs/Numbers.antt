@@ -1,15 +1,20 @@
 -- Bytes, and numbers in bytes: the loop that sums the bytes of a number from the highest down.
 use mathlib.Core.Path.{_≡_, refl, sym, ap, ap₂, _∙_}
+use mathlib.Core.Bool.{Bool, true, false, cond}
 use mathlib.Core.List.{[], _∷_}
 use Prim.Native.Nat.{ℕ, suc, _+_, _-_, _*_, _^_, _<_, _≤_}
 use native.Mathlib.Nat.{add-zero, pow-succ', pow-le-pow-right}
 use native.Mathlib.Omega.{arith}
 use mir.Syntax.{w8}
 use mir.Val.{Fits}
-use lib.ListN.{length, take, drop, getD, length-drop, List·getD-eq-default}
-use lib.Seq.{take-nil, getD-drop, drop-drop}
+use lib.Dec.{T}
+use lib.ListN.{length, take, drop, getD, length-take, length-drop, List·getD-eq-default}
+use lib.Seq.{take-nil, getD-take, getD-drop, drop-drop}
 use Rattle.theory.specs.Limit.{long-bytes}
-use Rattle.theory.specs.Record.{Bytes, AllBytes, little-endian, number-length}
+use Rattle.theory.specs.Term.{same-numbers}
+use Rattle.theory.specs.Record.{Bytes, AllBytes, little-endian, long-record, number-length}
+use Rattle.theory.proofs.Same.{same-numbers-eq}
+use Rattle.theory.proofs.Lengths.{either-length}
 use Rattle.terms.specs.Bodies.{Length}
 
 -- ---- bytes
@@ -70,9 +75,32 @@ module _ {bs : Bytes} {n : ℕ} where
       (s .sum ∙ rw (e, z), rw e at (s .bound))
 
 -- ---- the number length of a job
+-- where a byte of the first record is another, it is two
+pub not-long : (job : Bytes) (i : ℕ) → i < 4 → (i < length job → getD job i 0 ≡ getD long-record i 0 → ⊥) → 2 ≡ number-length job
+unfolding number-length
+not-long job i h f = go (same-numbers (take 4 job) long-record) (same-numbers-eq (take 4 job) long-record)
+  where
+    go : (t : Bool) → (T t → take 4 job ≡ long-record) → _≡_ {A = ℕ} 2 (cond t 4 2)
+    go true e =
+        let l : length (take 4 job) ≡ 4 = ap length (e tt) in
+        let m = length-take 4 job in
+        absurd (f (omega arith) (sym (getD-take 4 job i 0 h) ∙ ap (λ (bs : Bytes). getD bs i 0) (e tt)))
+    go false e = refl
+
+pub is-long : (job : Bytes) → 4 ≤ length job → getD job 0 0 ≡ 2 → getD job 1 0 ≡ 0 → getD job 2 0 ≡ 103 → getD job 3 0 ≡ 0 → 4 ≡ number-length job
+unfolding number-length
+is-long [] h p q r s = absurd (omega arith)
+is-long (a ∷ []) h p q r s = absurd (omega arith)
+is-long (a ∷ b ∷ []) h p q r s = absurd (omega arith)
+is-long (a ∷ b ∷ c ∷ []) h p q r s = absurd (omega arith)
+is-long (a ∷ b ∷ c ∷ d ∷ rest) h p q r s = first a b c d p q r s
+  where
+    first : (a b c d : ℕ) → a ≡ 2 → b ≡ 0 → c ≡ 103 → d ≡ 0 → 4 ≡ number-length (a ∷ b ∷ c ∷ d ∷ rest)
+    first a b c d p q r s = rw (p, q, r, s)
+
 -- it is one of those that reading is proved for
 pub length-of : (job : Bytes) → Length (number-length job)
-length-of job = record { some-bytes = omega arith; few-bytes = omega arith }
+length-of = either-length Length (record { some-bytes = omega arith; few-bytes = omega arith }) (record { some-bytes = omega arith; few-bytes = omega arith })
 
 -- a number of so many bytes fits into 32 bits
 pub place-small : (b x : ℕ) → b ≤ long-bytes → x < 256 ^ b → x < 4294967296

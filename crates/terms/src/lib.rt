@@ -1,9 +1,9 @@
 // A job's bytes as decoded records: the numbers in them, where a record ends, and what it says.
 ghost use mathlib.Core.Path.{_≡_};
 ghost use mathlib.Core.Bool.{true};
-ghost use Prim.Native.Nat.{_+_, _*_, _^_, _<_, _≤_};
+ghost use Prim.Native.Nat.{_+_, _*_, _/_, _%_, _^_, _<_, _≤_};
 ghost use lib.ListN.{length, take, drop, getD};
-ghost use Rattle.theory.specs.Limit.{number-bytes, long-bytes, value-bytes};
+ghost use Rattle.theory.specs.Limit.{number-bytes, long-bytes, value-bytes, max-terms};
 ghost use Rattle.theory.specs.Record.{little-endian, word, whole, shape-of, read, read-term, read-step, read-chain, read-back, number-length};
 ghost use Rattle.theory.specs.Codes.{all-below};
 ghost use Rattle.terms.specs.Framing.{part, record-at, frame-of};
@@ -130,12 +130,16 @@ impl Term {
     pub const MAX_WIDTH: u32 = 64;
     // the greatest number of arguments of a term, and of literals of a step
     pub const MAX_ARGUMENTS: usize = 64;
-    // the greatest number of terms, `True` and `False` counted
+    // the greatest number of terms, `True` and `False` counted, and where their numbers are long
     pub const MAX_TERMS: usize = 65535;
+
+    pub const LONG_MAX_TERMS: usize = 1000000;
     // bytes of a number in a record, but for the numbers of terms
     pub const NUMBER_BYTES: usize = 2;
-    // the most bytes that a term's number may have
+    // the most bytes that a term's number may have, in a job that asks for long ones
     pub const LONG_BYTES: usize = 4;
+    // the kind of the record that asks for them
+    pub const LONG_KIND: u8 = 103;
     // bytes of a constant's value
     pub const VALUE_BYTES: usize = 8;
 
@@ -179,14 +183,43 @@ impl Term {
         requires { ⌜ bytes ≤ long-bytes ⌝ }
         ensures { λ r. ⌜ r ≡ little-endian (take bytes (drop at (now (s .entry)))) ⌝ }
     {
+        if bytes == Term::NUMBER_BYTES {
+            return Term::number(s, at);
+        }
         Term::bytes(s, at, bytes) as u32
     }
 
-    // The bytes of a term's number in a job: two, in every job.
+    // The bytes of a term's number in a job: four where it begins with 02 00 67 00, the record of kind 103 with no body, else two.
     pub fn number_length(job: &[u8]) -> usize
         ensures { λ r. ⌜ r ≡ number-length (now (job .entry)) ⌝ }
     {
-        Term::NUMBER_BYTES
+        if job.len() < 2 * Term::NUMBER_BYTES {
+            return Term::NUMBER_BYTES;
+        }
+        if job[0] != 2 {
+            return Term::NUMBER_BYTES;
+        }
+        if job[1] != 0 {
+            return Term::NUMBER_BYTES;
+        }
+        if job[2] != Term::LONG_KIND {
+            return Term::NUMBER_BYTES;
+        }
+        if job[3] != 0 {
+            return Term::NUMBER_BYTES;
+        }
+        Term::LONG_BYTES
+    }
+
+    // The greatest number of terms, `True` and `False` counted, by the bytes of a term's number.
+    pub fn max_terms(bytes: usize) -> usize
+        ensures { λ r. ⌜ r ≡ max-terms bytes ⌝ }
+    {
+        if bytes == Term::LONG_BYTES {
+            Term::LONG_MAX_TERMS
+        } else {
+            Term::MAX_TERMS
+        }
     }
 
     // A constant's value at `at`.
@@ -245,6 +278,29 @@ impl Term {
         }
     }
 
+    // How many numbers of so many bytes fit into a size: by a constant where they are short, since a division by one that is not known takes several
+    // times as long.
+    fn count_in(size: usize, bytes: usize) -> usize
+        requires { ⌜ Length bytes ⌝ }
+        ensures { λ r. ⌜ r ≡ size / bytes ⌝ }
+    {
+        if bytes == Term::NUMBER_BYTES {
+            return size / Term::NUMBER_BYTES;
+        }
+        size / bytes
+    }
+
+    // How many bytes are left after these numbers.
+    fn left_in(size: usize, bytes: usize) -> usize
+        requires { ⌜ Length bytes ⌝ }
+        ensures { λ r. ⌜ r ≡ size % bytes ⌝ }
+    {
+        if bytes == Term::NUMBER_BYTES {
+            return size % Term::NUMBER_BYTES;
+        }
+        size % bytes
+    }
+
     // Is a body of `size` bytes `front` bytes and then from `least` to `most` arguments of so many bytes?
     fn fits(size: usize, front: usize, least: usize, most: usize, bytes: usize) -> bool
         requires { ⌜ Length bytes ⌝ }
@@ -254,10 +310,10 @@ impl Term {
             return false;
         }
         let rest = size - front;
-        if rest % bytes != 0 {
+        if Term::left_in(rest, bytes) != 0 {
             return false;
         }
-        let count = rest / bytes;
+        let count = Term::count_in(rest, bytes);
         if count < least {
             return false;
         }
@@ -281,7 +337,7 @@ impl Term {
         let y = Term::place(job, first + bytes, bytes);
         let list = Args {
             at: body,
-            count: size / bytes,
+            count: Term::count_in(size, bytes),
             bytes: bytes,
         };
         match kind {
@@ -316,7 +372,7 @@ impl Term {
         let y = Term::place(job, first + bytes, bytes);
         let list = Args {
             at: body,
-            count: size / bytes,
+            count: Term::count_in(size, bytes),
             bytes: bytes,
         };
         match kind {

@@ -16,7 +16,7 @@ use Rattle.theory.specs.Kind.{Op, True, False, Not, And, Or, Xor, Equals, Ite, 
 use Rattle.theory.specs.Term.{Term, node, from-list, fold, folds}
 use Rattle.theory.specs.Sort.{Sort, bad, bool, bv, guard, good, sort-op, sort-of, sort-width, all-are, same-sort}
 use Rattle.theory.specs.Value.{bit-at}
-use Rattle.theory.specs.Record.{Bytes}
+use Rattle.theory.specs.Record.{Bytes, number-length}
 use Rattle.theory.specs.Plain.{Plain}
 use Rattle.theory.specs.Claim.{element}
 use Rattle.theory.specs.Codes.{all-below}
@@ -200,11 +200,11 @@ getD-of f (x ∷ l) zero d h = refl
 getD-of f (x ∷ l) (suc i) d h = getD-of f l i d (omega arith)
 
 -- ---- the arguments of the marked term at a place
-module _ {job work : Bytes} {n place : ℕ} {t : Decoded} (c : Closed job work n) (low : place < first-terms + n) (m : T (mark-of work place)) (h : TermOn job work n place t) (u : Decoded) (e : t ≡ u) where
+module _ {job work : Bytes} {n place : ℕ} {t : Decoded} (c : Closed job work n) (low : place < first-terms + n) (m : T (mark-of job work place)) (h : TermOn job work n place t) (u : Decoded) (e : t ≡ u) where
   made : tree-at (listed job work n) place ≡ tree-of (listed job work n) (op-of u) (arguments-of job u)
   made = h .term-at .made ∙ ap (λ (z : Decoded). tree-of (listed job work n) (op-of z) (arguments-of job z)) e
 
-  args : arguments-of job u ≡ args-at (listed job work n) place
+  args : arguments-of job u ≡ args-at (number-length job) (listed job work n) place
   args = ap (arguments-of job) (sym e) ∙ h .args-are
 
   abbrev pub sorts : List Sort
@@ -223,14 +223,14 @@ module _ {job work : Bytes} {n place : ℕ} {t : Decoded} (c : Closed job work n
   kind-made = subst (λ (z : Term). T (bit-kind-in z)) made (c .kinds place low m)
 
   -- an argument is marked, and stands below
-  pub arg-marked : (i : ℕ) → i < length (arguments-of job u) → T (mark-of work (getD (arguments-of job u) i 0))
+  pub arg-marked : (i : ℕ) → i < length (arguments-of job u) → T (mark-of job work (getD (arguments-of job u) i 0))
   arg-marked i l = c .closed place low m (getD (arguments-of job u) i 0) (subst (λ (ks : List ℕ). T (element (getD (arguments-of job u) i 0) ks)) args (element-at (arguments-of job u) i l))
 
   pub arg-low : (i : ℕ) → i < length (arguments-of job u) → getD (arguments-of job u) i 0 < place
   arg-low i l = below-at place (arguments-of job u) i (subst (λ (z : Decoded). T (all-below place (arguments-of job z))) e (true-T _ (h .term-at .below))) l
 
   -- a Bool argument's cell holds its bit
-  pub arg-bit : T (all-are bool sorts) → {inputs values : Bytes} (input : Term → List Known) → Sound input (listed job work n) work inputs values place → (i : ℕ) → i < length (arguments-of job u)
+  pub arg-bit : T (all-are bool sorts) → {inputs values : Bytes} (input : Term → List Known) → Sound input (listed job work n) job work inputs values place → (i : ℕ) → i < length (arguments-of job u)
       → cell-at values (getD (arguments-of job u) i 0) ≡ known-byte (lead (known input (tree-at (listed job work n) (getD (arguments-of job u) i 0))))
   arg-bit a input sound i l =
       sound (getD (arguments-of job u) i 0) (arg-low i l) (arg-marked i l) .bool-is
@@ -247,7 +247,7 @@ module _ {job work : Bytes} {n x i : ℕ} (s : BitAsked job work n x i) where
   place-good = good-at list x (s .closed .shelf .sorted) place-low
 
   -- a Bool
-  pub bit-bool : {inputs values : Bytes} {w r : ℕ} → w ≡ sort-width (sort-of (tree-at list x)) → w ≡ 0 → r ≡ cell-at values x → BitOn list work inputs values x i r
+  pub bit-bool : {inputs values : Bytes} {w r : ℕ} → w ≡ sort-width (sort-of (tree-at list x)) → w ≡ 0 → r ≡ cell-at values x → BitOn list job work inputs values x i r
   bit-bool e z f input sound =
       let o = one-bit-of (sort-of (tree-at list x)) (sym e ∙ z) in
       let b = s .bit-low in
@@ -257,7 +257,7 @@ module _ {job work : Bytes} {n x i : ℕ} (s : BitAsked job work n x i) where
 
   -- a bit-vector variable
   pub bit-variable : {inputs values : Bytes} {w r y c : ℕ} → w ≡ sort-width (sort-of (tree-at list x)) → (w ≡ 0 → ⊥) → T (is-variable (tree-at list x)) → c ≡ cell-at values x
-      → y ≡ getD (drop c inputs) i 2 → r ≡ known-byte (of-byte y) → BitOn list work inputs values x i r
+      → y ≡ getD (drop c inputs) i 2 → r ≡ known-byte (of-byte y) → BitOn list job work inputs values x i r
   bit-variable {inputs} {values} e z v d f g input sound =
       let o = sound x (omega arith) (s .marked) .variable-is (λ q. z (e ∙ q)) v in
       g ∙ ap (λ (j : ℕ). known-byte (of-byte j)) (f ∙ ap (λ (j : ℕ). getD (drop j inputs) i 2) d) ∙ ap known-byte (offset-bit o i (s .bit-low))
@@ -273,7 +273,7 @@ module _ {job work : Bytes} {n x i : ℕ} (s : BitAsked job work n x i) where
 
   module _ {t : Decoded} (h : TermOn job work n x t) where
     -- a constant
-    pub bit-const : (m v : ℕ) → t ≡ D.Const m v → {inputs values : Bytes} {b : Bool} {r : ℕ} → b ≡ bit-at i v → r ≡ known-byte (of-bool b) → BitOn list work inputs values x i r
+    pub bit-const : (m v : ℕ) → t ≡ D.Const m v → {inputs values : Bytes} {b : Bool} {r : ℕ} → b ≡ bit-at i v → r ≡ known-byte (of-bool b) → BitOn list job work inputs values x i r
     unfolding known-op
     bit-const m v e f g input sound =
         let d = D.Const m v in
@@ -292,7 +292,7 @@ module _ {job work : Bytes} {n x i : ℕ} (s : BitAsked job work n x i) where
       row-low = let b = s .bit-low in let q = row-bits in let k = count-is job a in omega arith
 
       -- a row of Bools
-      pub bit-row : {inputs values : Bytes} {j r : ℕ} → j ≡ getD (words-in job a) i 0 → r ≡ cell-at values j → BitOn list work inputs values x i r
+      pub bit-row : {inputs values : Bytes} {j r : ℕ} → j ≡ getD (words-in job a) i 0 → r ≡ cell-at values j → BitOn list job work inputs values x i r
       unfolding known-op
       bit-row {inputs} {values} f g input sound =
           let u = D.BvBbTerm a in

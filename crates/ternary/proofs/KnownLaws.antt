@@ -55,13 +55,13 @@ module _ {job work : Bytes} {n place : ℕ} (s : KnownAsked job work n place) {t
   module _ (u : Decoded) (e : t ≡ u) where
     -- the bit from what the arguments' bits come to
     pub known-out : {inputs values : Bytes} {r : ℕ}
-        → ((input : Term → List Known) → Sound input list work inputs values place → (T (is-variable (tree-at list place)) → Offset input list inputs values place)
+        → ((input : Term → List Known) → Sound input list job work inputs values place → (T (is-variable (tree-at list place)) → Offset input list inputs values place)
         → r ≡ known-byte (lead (known-op input (op-of u) (map (λ (k : ℕ). known input (tree-at list k)) (arguments-of job u)))))
-        → KnownOn list work inputs values place r
+        → KnownOn list job work inputs values place r
     known-out f input sound own = f input sound own ∙ ap (λ (bs : List Known). known-byte (lead bs)) (sym (known-made (s .closed) (s .low) (s .marked) h u e input))
 
     -- a Bool argument's bit
-    pub cell-is : Args-bool u → {inputs values : Bytes} (input : Term → List Known) → Sound input list work inputs values place → (i : ℕ) → i < length (arguments-of job u)
+    pub cell-is : Args-bool u → {inputs values : Bytes} (input : Term → List Known) → Sound input list job work inputs values place → (i : ℕ) → i < length (arguments-of job u)
         → cell-bit values (getD (arguments-of job u) i 0) ≡ lead (known input (tree-at list (getD (arguments-of job u) i 0)))
     cell-is a input sound i l = ap of-byte (arg-bit (s .closed) (s .low) (s .marked) h u e a input sound i l) ∙ byte-back _
 
@@ -76,26 +76,26 @@ module _ {job work : Bytes} {n place : ℕ} (s : KnownAsked job work n place) {t
     not-wide b m q =
         bv-bool m (sym (good-bv b m (subst (λ (z : Sort). T (good z)) q good-here)) ∙ sym q ∙ sym (sort-made (s .closed) (s .low) (s .marked) h u e) ∙ bool-is)
 
-  pub known-true : t ≡ D.True → {inputs values : Bytes} → KnownOn list work inputs values place 1
+  pub known-true : t ≡ D.True → {inputs values : Bytes} → KnownOn list job work inputs values place 1
   unfolding known-op
   known-true e = known-out D.True e (λ input sound own. refl)
 
-  pub known-false : t ≡ D.False → {inputs values : Bytes} → KnownOn list work inputs values place 0
+  pub known-false : t ≡ D.False → {inputs values : Bytes} → KnownOn list job work inputs values place 0
   unfolding known-op
   known-false e = known-out D.False e (λ input sound own. refl)
 
-  pub known-variable : (x : ℕ) → t ≡ D.BoolVar x → {inputs values : Bytes} {c y r : ℕ} → c ≡ cell-at values place → y ≡ getD (drop c inputs) 0 2 → r ≡ known-byte (of-byte y) → KnownOn list work inputs values place r
+  pub known-variable : (x : ℕ) → t ≡ D.BoolVar x → {inputs values : Bytes} {c y r : ℕ} → c ≡ cell-at values place → y ≡ getD (drop c inputs) 0 2 → r ≡ known-byte (of-byte y) → KnownOn list job work inputs values place r
   known-variable x e {inputs} {values} d f g input sound own =
       let v : T (is-variable (tree-at list place)) = subst (λ (z : Term). T (is-variable z)) (sym (h .term-at .made ∙ ap (λ (z : Decoded). tree-of list (op-of z) (arguments-of job z)) e)) tt in
       let b : bits-in (tree-at list place) ≡ 1 = ap sort-bits bool-is in
       g ∙ ap (λ (j : ℕ). known-byte (of-byte j)) (f ∙ ap (λ (j : ℕ). getD (drop j inputs) 0 2) d) ∙ ap known-byte (offset-bit (own v) 0 (omega arith) ∙ first-bit (known input (tree-at list place)))
 
-  pub known-not : (x : ℕ) → t ≡ D.Not x → {inputs values : Bytes} {c r : ℕ} → c ≡ cell-at values x → r ≡ known-byte (not-known (of-byte c)) → KnownOn list work inputs values place r
+  pub known-not : (x : ℕ) → t ≡ D.Not x → {inputs values : Bytes} {c r : ℕ} → c ≡ cell-at values x → r ≡ known-byte (not-known (of-byte c)) → KnownOn list job work inputs values place r
   unfolding known-op
   known-not x e {inputs} {values} d g =
       known-out (D.Not x) e (λ input sound own. g ∙ ap (λ (j : ℕ). known-byte (not-known (of-byte j))) d ∙ ap (λ (b : Known). known-byte (not-known b)) (cell-is (D.Not x) e (fitted-here (D.Not x) e) input sound 0 (omega arith)))
 
-  pub known-xor : (x y : ℕ) → t ≡ D.Xor x y → {inputs values : Bytes} {c d r : ℕ} → c ≡ cell-at values x → d ≡ cell-at values y → r ≡ known-byte (xor-known (of-byte c) (of-byte d)) → KnownOn list work inputs values place r
+  pub known-xor : (x y : ℕ) → t ≡ D.Xor x y → {inputs values : Bytes} {c d r : ℕ} → c ≡ cell-at values x → d ≡ cell-at values y → r ≡ known-byte (xor-known (of-byte c) (of-byte d)) → KnownOn list job work inputs values place r
   unfolding known-op
   known-xor x y e a b g =
       known-out (D.Xor x y) e (λ input sound own. g ∙ ap₂ (λ (j k : ℕ). known-byte (xor-known (of-byte j) (of-byte k))) a b
@@ -113,13 +113,13 @@ module _ {job work : Bytes} {n place : ℕ} (s : KnownAsked job work n place) {t
       only true q = tt
       only false q = q
 
-  pub known-equals : (x y : ℕ) → t ≡ D.Equals x y → {inputs values : Bytes} {c d r : ℕ} → c ≡ cell-at values x → d ≡ cell-at values y → r ≡ known-byte (equal-known (of-byte c) (of-byte d)) → KnownOn list work inputs values place r
+  pub known-equals : (x y : ℕ) → t ≡ D.Equals x y → {inputs values : Bytes} {c d r : ℕ} → c ≡ cell-at values x → d ≡ cell-at values y → r ≡ known-byte (equal-known (of-byte c) (of-byte d)) → KnownOn list job work inputs values place r
   unfolding known-op
   known-equals x y e a b g =
       known-out (D.Equals x y) e (λ input sound own. g ∙ ap₂ (λ (j k : ℕ). known-byte (equal-known (of-byte j) (of-byte k))) a b
       ∙ ap₂ (λ (j k : Known). known-byte (equal-known j k)) (cell-is (D.Equals x y) e (equal-bools x y e) input sound 0 (omega arith)) (cell-is (D.Equals x y) e (equal-bools x y e) input sound 1 (omega arith)))
 
-  pub known-ite : (z x y : ℕ) → t ≡ D.Ite z x y → {inputs values : Bytes} {b c d r : ℕ} → b ≡ cell-at values z → c ≡ cell-at values x → d ≡ cell-at values y → r ≡ known-byte (ite-known (of-byte b) (of-byte c) (of-byte d)) → KnownOn list work inputs values place r
+  pub known-ite : (z x y : ℕ) → t ≡ D.Ite z x y → {inputs values : Bytes} {b c d r : ℕ} → b ≡ cell-at values z → c ≡ cell-at values x → d ≡ cell-at values y → r ≡ known-byte (ite-known (of-byte b) (of-byte c) (of-byte d)) → KnownOn list job work inputs values place r
   unfolding known-op
   known-ite z x y e f a b g =
       known-out (D.Ite z x y) e (λ input sound own.
@@ -128,16 +128,16 @@ module _ {job work : Bytes} {n place : ℕ} (s : KnownAsked job work n place) {t
       ∙ (λ i. known-byte (ite-known (cell-is (D.Ite z x y) e q input sound 0 (omega arith) i) (cell-is (D.Ite z x y) e q input sound 1 (omega arith) i) (cell-is (D.Ite z x y) e q input sound 2 (omega arith) i))))
 
   -- a row
-  leads-are : (u : Decoded) (e : t ≡ u) → Args-bool u → {inputs values : Bytes} (input : Term → List Known) → Sound input list work inputs values place
+  leads-are : (u : Decoded) (e : t ≡ u) → Args-bool u → {inputs values : Bytes} (input : Term → List Known) → Sound input list job work inputs values place
       → map (cell-bit values) (arguments-of job u) ≡ map lead (map (λ (k : ℕ). known input (tree-at list k)) (arguments-of job u))
   leads-are u e a {inputs} {values} input sound =
       row-same (cell-bit values) (λ (k : ℕ). lead (known input (tree-at list k))) (arguments-of job u) (cell-is u e a input sound) ∙ map-map (λ (k : ℕ). known input (tree-at list k)) (arguments-of job u)
 
-  pub known-and : (a : Args) → t ≡ D.And a → {inputs values : Bytes} {r : ℕ} → r ≡ known-byte (row-known false (map (cell-bit values) (words-in job a))) → KnownOn list work inputs values place r
+  pub known-and : (a : Args) → t ≡ D.And a → {inputs values : Bytes} {r : ℕ} → r ≡ known-byte (row-known false (map (cell-bit values) (words-in job a))) → KnownOn list job work inputs values place r
   unfolding known-op
   known-and a e g = known-out (D.And a) e (λ input sound own. g ∙ ap (λ (bs : List Known). known-byte (and-known bs)) (leads-are (D.And a) e (fitted-here (D.And a) e) input sound))
 
-  pub known-or : (a : Args) → t ≡ D.Or a → {inputs values : Bytes} {r : ℕ} → r ≡ known-byte (row-known true (map (cell-bit values) (words-in job a))) → KnownOn list work inputs values place r
+  pub known-or : (a : Args) → t ≡ D.Or a → {inputs values : Bytes} {r : ℕ} → r ≡ known-byte (row-known true (map (cell-bit values) (words-in job a))) → KnownOn list job work inputs values place r
   unfolding known-op
   known-or a e g = known-out (D.Or a) e (λ input sound own. g ∙ ap (λ (bs : List Known). known-byte (or-known bs)) (leads-are (D.Or a) e (fitted-here (D.Or a) e) input sound))
 
@@ -165,7 +165,7 @@ module _ {job work : Bytes} {n place : ℕ} (s : KnownAsked job work n place) {t
           bit-low = subst (λ (z : ℕ). i < z) (bv-bits (sort-of (tree-at list x)) v) l;
         }
 
-    pub known-bit : {inputs values : Bytes} {r : ℕ} → BitOn list work inputs values x i r → KnownOn list work inputs values place r
+    pub known-bit : {inputs values : Bytes} {r : ℕ} → BitOn list job work inputs values x i r → KnownOn list job work inputs values place r
     unfolding known-op
     known-bit b = known-out (D.BvBitOf i x) e (λ input sound own. b input (λ j l m. sound j (omega (arith, below)) m))
 

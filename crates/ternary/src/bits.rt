@@ -69,7 +69,7 @@ pub fn bit_on(
 ) -> u64
     requires { ⌜ BitAsked (now job) (now work) n x i ⌝ }
     ensures { λ r. let list = listed (now (job .entry)) (now (work .entry)) n in
-        ⌜ BitOn list (now (work .entry)) (now (inputs .entry)) (now (values .entry)) x i r ⌝ }
+        ⌜ BitOn list (now (job .entry)) (now (work .entry)) (now (inputs .entry)) (now (values .entry)) x i r ⌝ }
 {
     if width_on(job, work, n, x) == 0 {
         return cell(values, x);

@@ -17,7 +17,7 @@ use terms::Term;
 pub fn known_of(job: &[u8], work: &[u8], n: usize, values: &[u8], inputs: &[u8], place: u32) -> u64
     requires { ⌜ KnownAsked (now job) (now work) n place ⌝ }
     ensures { λ r. let list = listed (now (job .entry)) (now (work .entry)) n in
-        ⌜ KnownOn list (now (work .entry)) (now (inputs .entry)) (now (values .entry)) place r ⌝ }
+        ⌜ KnownOn list (now (job .entry)) (now (work .entry)) (now (inputs .entry)) (now (values .entry)) place r ⌝ }
 {
     let t = term_on(job, work, n, place);
     match t {

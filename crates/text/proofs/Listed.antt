@@ -12,7 +12,7 @@ use lib.ListN.{length, drop, getElem?, length-append, length-drop, length-map}
 use Rattle.theory.specs.Limit.{first-terms, value-bytes, number-bytes}
 use Rattle.theory.specs.Kind.{Op, True, False, kind, indices}
 use Rattle.theory.specs.Term.{Term, node, nil, same-numbers}
-use Rattle.theory.specs.Record.{Bytes, AllBytes, word, bytes-of, word-bytes, records-of, kind-of, step-kind, Item, term, read, is-step, step-count}
+use Rattle.theory.specs.Record.{Bytes, AllBytes, word, bytes-of, word-bytes, records-of, kind-of, step-kind, long-kind, Item, term, unknown, read, shape-of, is-step, step-count, number-length}
 use Rattle.theory.specs.Plain.{Entry, entry, Plain, start, put, has, feed, feed-item}
 use Rattle.theory.specs.Codes.{all-below}
 use Rattle.theory.proofs.Basics.{none-some, some-inj, foldl-append, getElem-of, getElem-lt, T-true}
@@ -23,7 +23,7 @@ use Rattle.theory.proofs.Places.{term-of-is, tree-at-old, trees-old}
 use Rattle.theory.proofs.Distinct.{snoc-well}
 use Rattle.text.specs.Reading.{bind, number-end}
 use Rattle.text.specs.Writing.{Clean, Lone, kept, place-from, append, value-last, Placed, placed, keep, record-of, words-bytes, front-bytes}
-use Rattle.text.proofs.Records.{records-more, clean-more, kept-more}
+use Rattle.text.proofs.Records.{records-more, clean-more, kept-more, short-more}
 use Rattle.text.proofs.Encoding.{record-length, record-lone}
 
 -- ---- equal bytes
@@ -38,6 +38,7 @@ bytes-on es = map (λ e. e .bytes) es
 -- a job's list: the records fed, in order
 pub record Holds (job : Bytes) (list : Plain) : Type 0 where
   pub clean : Clean job
+  pub short : number-length job ≡ number-bytes
   pub list-is : foldl (feed number-bytes) start (records-of job) ≡ list
   pub well : WellKept number-bytes list
   pub same : kept job ≡ bytes-on (drop first-terms list)
@@ -167,6 +168,11 @@ pub record Stood (job : Bytes) (list : Plain) (p : Placed) (t : Term) : Type 0 w
   pub inside : p .number < length after
   pub tree : tree-at after (p .number) ≡ t
 
+-- the record that asks for long numbers says no term
+pub long-unknown : (r : Bytes) → kind-of r ≡ long-kind → read number-bytes r ≡ unknown
+unfolding read shape-of
+long-unknown r e = rw e
+
 some-bytes : (r : Bytes) → Sound r → r ≡ [] → ⊥
 some-bytes r s e = let l = s .long in let z : length r ≡ 0 = ap length e in omega arith
 
@@ -213,6 +219,7 @@ module _ {job : Bytes} {list : Plain} (h : Holds job list) {r : Bytes} {o : Op} 
         after = list′;
         holds = record {
           clean = clean-more job r (h .clean) (s .lone);
+          short = short-more job r (h .clean) (λ z. let q : term o ks ≡ unknown = sym (s .says) ∙ long-unknown r z in let y : _≡_ {A = ℕ} 0 1 = cc in omega arith) (h .short);
           list-is = ap (foldl (feed number-bytes) start) (records-more job r (h .clean) (s .lone)) ∙ foldl-append (feed number-bytes) start (records-of job) (r ∷ [])
               ∙ ap (λ (x : Plain). feed number-bytes x r) (h .list-is) ∙ fed-more e;
           well = snoc-well list r o ks (h .well) (s .sound) (s .says) (s .below) n;

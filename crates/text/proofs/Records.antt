@@ -1,14 +1,17 @@
 -- The records of a job that grows by a record.
 use mathlib.Core.Path.{_≡_, refl, sym, ap, ap₂, _∙_}
-use mathlib.Core.Bool.{Bool, true, false, _&&_}
+use mathlib.Core.Bool.{Bool, true, false, _&&_, cond}
 use mathlib.Core.List.{List, [], _∷_, _++_, append-nil}
 use Prim.Native.Nat.{ℕ, zero, suc, _+_, _-_, _≤_}
 use native.Mathlib.Omega.{arith}
-use lib.Dec.{leb, eqb}
+use lib.Dec.{T, leb, eqb}
 use lib.ListN.{length, take, drop, length-append, length-take, length-drop}
 use lib.Seq.{take-append-le, drop-append-le, take-all, drop-length}
 use borrow.Author.Tests.{le-leb, leb-true, eq-eqb, ne-eqb}
-use Rattle.theory.specs.Record.{Bytes, little-endian, word, extent, whole, cut, records-of, total-length, ending, kind-of, step-kind}
+use Rattle.theory.specs.Limit.{number-bytes, long-bytes}
+use Rattle.theory.specs.Term.{same-numbers}
+use Rattle.theory.specs.Record.{Bytes, little-endian, word, extent, whole, cut, records-of, total-length, ending, kind-of, step-kind, long-kind, long-record, number-length}
+use Rattle.theory.proofs.Same.{same-numbers-eq}
 use Rattle.theory.proofs.Positions.{records-whole, records-broken, ends-whole}
 use Rattle.text.specs.Writing.{Lone, Clean, terms-of, kept}
 
@@ -112,6 +115,37 @@ clean-more job r c l =
     let a : total-length (records-of (job ++ r)) ≡ total-length (records-of job) + (length r + 0) = ap total-length (records-more job r c l) ∙ total-append (records-of job) (r ∷ []) in
     let b : length (job ++ r) ≡ length job + length r = length-append job r in
     omega arith
+
+-- ---- the bytes of a term's number: two, where the job does not begin with the record that asks for four
+short-unless : (job : Bytes) → (take 4 job ≡ long-record → ⊥) → number-length job ≡ number-bytes
+unfolding number-length
+short-unless job f = go (same-numbers (take 4 job) long-record) (same-numbers-eq (take 4 job) long-record)
+  where
+    go : (t : Bool) → (T t → take 4 job ≡ long-record) → cond t long-bytes number-bytes ≡ number-bytes
+    go true g = absurd (f (g tt))
+    go false g = refl
+
+short-begins : (job : Bytes) → number-length job ≡ number-bytes → take 4 job ≡ long-record → ⊥
+unfolding number-length
+short-begins job e f = let z : number-length job ≡ 4 = ap (λ (bs : Bytes). cond (same-numbers bs long-record) long-bytes number-bytes) f in omega arith
+
+-- that record's kind
+begins-kind : (r : Bytes) → take 4 r ≡ long-record → kind-of r ≡ long-kind
+begins-kind [] e = absurd (let z = ap length e in omega arith)
+begins-kind (a ∷ []) e = absurd (let z = ap length e in omega arith)
+begins-kind (a ∷ b ∷ []) e = absurd (let z = ap length e in omega arith)
+begins-kind (a ∷ b ∷ c ∷ []) e = absurd (let z = ap length e in omega arith)
+begins-kind (a ∷ b ∷ c ∷ d ∷ r) e = let x : c ≡ 103 = cc in let y : d ≡ 0 = cc in omega arith
+
+-- one record more of another kind
+pub short-more : (job r : Bytes) → Clean job → (kind-of r ≡ long-kind → ⊥) → number-length job ≡ number-bytes → number-length (job ++ r) ≡ number-bytes
+unfolding Clean
+short-more [] r c f e = short-unless r (λ z. f (begins-kind r z))
+short-more (b ∷ bs) r c f e = short-unless ((b ∷ bs) ++ r) (λ z. short-begins (b ∷ bs) e (sym (take-append-le 4 (b ∷ bs) r (go (whole (b ∷ bs)) refl)) ∙ z))
+  where
+    go : (w : Bool) → whole (b ∷ bs) ≡ w → 4 ≤ length (b ∷ bs)
+    go false w = absurd (let z : total-length (records-of (b ∷ bs)) ≡ 0 = ap total-length (records-broken (b ∷ bs) w) in omega arith)
+    go true w = let s = stands (b ∷ bs) w in let x = s .least in let y = s .all in omega arith
 
 -- ---- the terms among them
 terms-append : (rs ss : List Bytes) → terms-of (rs ++ ss) ≡ terms-of rs ++ terms-of ss

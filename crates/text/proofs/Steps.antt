@@ -13,7 +13,7 @@ use Rattle.theory.specs.Limit.{number-bytes}
 use Rattle.theory.specs.Term.{Term, node, nil, same-numbers}
 use Rattle.theory.specs.Optional.{either, is-some}
 use Rattle.theory.specs.RuleTable.{Rule}
-use Rattle.theory.specs.Record.{Bytes, records-of, cut, kind-of, step-kind, Item, term, step, read, is-step, step-count}
+use Rattle.theory.specs.Record.{Bytes, records-of, cut, kind-of, step-kind, long-kind, Item, term, step, read, is-step, step-count, number-length}
 use Rattle.theory.specs.Plain.{Plain, start, feed, feed-item, at-place}
 use Rattle.theory.proofs.Basics.{none-some, some-inj, foldl-append, getElem-lt, getElem-old, getElem-seam, snoc-elim}
 use Rattle.theory.proofs.Places.{at-place-is}
@@ -25,7 +25,7 @@ use Rattle.text.specs.Writing.{Lone, Placed, words-bytes, step-record, k
 use Rattle.text.specs.Convert as convert
 use Rattle.text.specs.Convert.{lines, State, state, declare, take-step, take-line, Outcome, written, refused, convert-from}
 use Rattle.text.specs.Claim.{declared-by, step-by, a-step, steps-in, steps-of, StepWritten, StepsWritten, WorkFree}
-use Rattle.text.proofs.Records.{empty-clean, records-more, clean-more, kept-step, clean-ending}
+use Rattle.text.proofs.Records.{empty-clean, records-more, clean-more, short-more, kept-step, clean-ending}
 use Rattle.text.proofs.Encoding.{record-kind, record-lone, step-says}
 use Rattle.text.proofs.Listed.{Holds, Grows, count-append, Stood}
 use Rattle.text.proofs.Placed.{write-sound}
@@ -35,8 +35,8 @@ use Rattle.text.proofs.Readable.{bound, guarded, AllFit, variable-writa
 old-take : (m : ℕ) (xs ys : List Bytes) → m ≤ length xs → take m (xs ++ ys) ≡ take m xs
 old-take m xs ys h = take-append-le m xs ys h
 
-stays : {old new : Bytes} (more : List Bytes) → records-of new ≡ records-of old ++ more → (k : ℕ) (s : Step) → StepWritten old k s → StepWritten new k s
-stays {old} {new} more e k s w =
+stays : {old new : Bytes} (more : List Bytes) → records-of new ≡ records-of old ++ more → number-length new ≡ number-length old → (k : ℕ) (s : Step) → StepWritten old k s → StepWritten new k s
+stays {old} {new} more e same k s w =
     let l : w .m < length (records-of old) = getElem-lt (records-of old) (w .m) (w .bytes) (w .stands) in
     let t : take (w .m) (records-of new) ≡ take (w .m) (records-of old) = ap (take (w .m)) e ∙ old-take (w .m) (records-of old) more (omega arith) in
     record {
@@ -44,9 +44,9 @@ stays {old} {new} more e k s w =
       bytes = w .bytes;
       place = w .place;
       stands = ap (λ (rs : List Bytes). getElem? rs (w .m)) e ∙ getElem-old (records-of old) more (w .m) l ∙ w .stands;
-      kth = ap (step-count number-bytes) t ∙ w .kth;
-      says = w .says;
-      literal = ap (λ (rs : List Bytes). at-place (foldl (feed number-bytes) start rs) (w .place)) t ∙ w .literal;
+      kth = ap₂ step-count same t ∙ w .kth;
+      says = ap (λ (b : ℕ). read b (w .bytes)) same ∙ w .says;
+      literal = ap₂ (λ (b : ℕ) (rs : List Bytes). at-place (foldl (feed b) start rs) (w .place)) same t ∙ w .literal;
     }
 
 -- ---- between two lines
@@ -58,11 +58,15 @@ record Sofar (s : State) (steps : List Step) : Type 0 where
   counted : step-count number-bytes (records-of (s .job)) ≡ length steps
   each : (k : ℕ) (x : Step) → getElem? steps k ≡ some x → StepWritten (s .job) k x
 
+at-first : number-length [] ≡ number-bytes
+unfolding number-length
+at-first = refl
+
 at-start : Sofar convert.start []
 unfolding cut AllFit kept
 at-start = record {
   list = start;
-  holds = record { clean = empty-clean; list-is = refl; well = start-well; same = refl };
+  holds = record { clean = empty-clean; short = at-first; list-is = refl; well = start-well; same = refl };
   fits = tt;
   few = omega arith;
   counted = refl;
@@ -133,7 +137,7 @@ after-declare room {s} {steps} h d f t e =
       fits = fit-more (s .declared) d (h .fits) f;
       few = omega arith;
       counted = counted-on (w .grows) ∙ h .counted;
-      each = λ k x q. stays {old = s .job} {new = g .given .job} (w .grows .records) (w .grows .are) k x (h .each k x q);
+      each = λ k x q. stays {old = s .job} {new = g .given .job} (w .grows .records) (w .grows .are) (w .holds .short ∙ sym (h .holds .short)) k x (h .each k x q);
     } in
     (subst (λ (x : State). Sofar x steps) r now, sym (ap (λ (x : State). x .declared) r))
 
@@ -159,12 +163,12 @@ rule-fits bs n e =
 
 -- the step after its literal
 module _ {job : Bytes} {list : Plain} {p : Placed} {t : Term} (w : Stood job list p t) (rule : ℕ) (rl : rule < number-end) (room : ℕ) where
-  after-step : (steps : List Step) → step-count number-bytes (records-of job) ≡ length steps → ((k : ℕ) (x : Step) → getElem? steps k ≡ some x → StepWritten job k x)
+  after-step : number-length job ≡ number-bytes → (steps : List Step) → step-count number-bytes (records-of job) ≡ length steps → ((k : ℕ) (x : Step) → getElem? steps k ≡ some x → StepWritten job k x)
       → (j : Bytes) → put-step room rule p ≡ some j
       → Holds j (w .after) × (step-count number-bytes (records-of j) ≡ length (steps ++ (a-step t rule ∷ [])))
       × ((k : ℕ) (x : Step) → getElem? (steps ++ (a-step t rule ∷ [])) k ≡ some x → StepWritten j k x)
   unfolding put-step step-record feed
-  after-step steps c each j e =
+  after-step was steps c each j e =
       let g = guarded (ltb (p .number) number-end) _ j e in
       let a = guarded (leb _ room) _ j (g .1) in
       let r = step-record rule (p .number) in
@@ -182,18 +186,20 @@ module _ {job : Bytes} {list : Plain} {p : Placed} {t : Term} (w : Stood job lis
       let old : step-count number-bytes (records-of (p .job)) ≡ length steps = counted-on (w .grows) ∙ c in
       let one : step-count number-bytes (r ∷ []) ≡ 1 = ap (λ (i : Item). cond (is-step i) 1 0) says in
       let ls : length (steps ++ (a-step t rule ∷ [])) ≡ length steps + 1 = length-append steps (a-step t rule ∷ []) in
+      let short : number-length (p .job ++ r) ≡ number-bytes = short-more (p .job) r (h .clean) (λ z. let y : step-kind ≡ long-kind = sym kd ∙ z in omega arith) (h .short) in
       let new : StepWritten (p .job ++ r) (length steps) (a-step t rule) = record {
         m = m;
         bytes = r;
         place = p .number;
         stands = ap (λ (rs : List Bytes). getElem? rs m) more ∙ getElem-seam (records-of (p .job)) r [];
-        kth = ap (step-count number-bytes) before ∙ old;
-        says = says;
-        literal = ap (λ (rs : List Bytes). at-place (foldl (feed number-bytes) start rs) (p .number)) before ∙ ap (λ (x : Plain). at-place x (p .number)) (h .list-is)
+        kth = ap₂ step-count short before ∙ old;
+        says = ap (λ (b : ℕ). read b r) short ∙ says;
+        literal = ap₂ (λ (b : ℕ) (rs : List Bytes). at-place (foldl (feed b) start rs) (p .number)) short before ∙ ap (λ (x : Plain). at-place x (p .number)) (h .list-is)
             ∙ at-place-is (w .after) (p .number) (w .inside) ∙ ap some (w .tree);
       } in
       let ready : Holds (p .job ++ r) (w .after) = record {
         clean = clean-more (p .job) r (h .clean) lone;
+        short = short;
         list-is = ap (foldl (feed number-bytes) start) more ∙ foldl-append (feed number-bytes) start (records-of (p .job)) (r ∷ []) ∙ ap (λ (x : Plain). feed number-bytes x r) (h .list-is) ∙ fed;
         well = h .well;
         same = kept-step (p .job) r (h .clean) lone kd ∙ h .same;
@@ -201,7 +207,7 @@ module _ {job : Bytes} {list : Plain} {p : Placed} {t : Term} (w : Stood job lis
         subst (λ (x : Bytes). Holds x (w .after)) q ready,
         ap (λ (x : Bytes). step-count number-bytes (records-of x)) (sym q) ∙ ap (step-count number-bytes) more ∙ count-append (records-of (p .job)) (r ∷ []) ∙ omega arith,
         λ k x d. subst (λ (y : Bytes). StepWritten y k x) q (snoc-elim steps (a-step t rule) k x d
-            (λ o. stays {old = p .job} {new = p .job ++ r} (r ∷ []) more k x (stays {old = job} {new = p .job} (w .grows .records) (w .grows .are) k x (each k x o)))
+            (λ o. stays {old = p .job} {new = p .job ++ r} (r ∷ []) more (short ∙ sym (h .short)) k x (stays {old = job} {new = p .job} (w .grows .records) (w .grows .are) (h .short ∙ sym was) k x (each k x o)))
             (λ i z. subst (StepWritten (p .job ++ r) k) z (subst (λ (y : ℕ). StepWritten (p .job ++ r) y (a-step t rule)) (sym i) new))),
       )
 
@@ -216,7 +222,7 @@ after-take-step room {s} {steps} h bs t e =
     let d = bound (write (b .given .term) room (s .job)) _ t (c .gives) in
     let f = bound (put-step room (c .given) (d .given)) _ t (d .gives) in
     let w = write-sound (b .given .term) (read-fits (s .declared) (h .fits) (h .few) max-nesting (a .given) (b .given) (b .was)) (h .holds) room (d .given) (d .was) in
-    let z = after-step w (c .given) (rule-fits (b .given .rest) (c .given) (c .was)) room steps (h .counted) (h .each) (f .given) (f .was) in
+    let z = after-step w (c .given) (rule-fits (b .given .rest) (c .given) (c .was)) room (h .holds .short) steps (h .counted) (h .each) (f .given) (f .was) in
     let x = a-step (b .given .term) (c .given) in
     let r : state (s .declared) true (f .given) ≡ t = some-inj _ t (f .gives) in
     let now : Sofar (state (s .declared) true (f .given)) (steps ++ (x ∷ [])) = record {
@@ -304,7 +310,12 @@ unfolding convert-from steps-in
 all-lines room place [] {s} {steps} h job e =
     let q : s .job ≡ job = cc in
     let r : steps ≡ steps ++ [] = sym (append-nil steps) in
-    subst (StepsWritten job) r (subst (λ (x : Bytes). StepsWritten x steps) q (record { whole = clean-ending (s .job) (h .holds .clean); counted = h .counted; each = h .each }))
+    subst (StepsWritten job) r (subst (λ (x : Bytes). StepsWritten x steps) q (record {
+      short = h .holds .short;
+      whole = clean-ending (s .job) (h .holds .clean);
+      counted = ap (λ (b : ℕ). step-count b (records-of (s .job))) (h .holds .short) ∙ h .counted;
+      each = h .each;
+    }))
 all-lines room place (l ∷ ls) {s} {steps} h job e = go (take-line room s l) refl e (λ t steps k d. all-lines room (suc place) ls k job d)
   where
     go : (q : Option State) → take-line room s l ≡ q → elim q as (λ x. Outcome) [ none ↦ refused place | some t ↦ convert-from room (suc place) t ls ] ≡ written job

@@ -4,6 +4,7 @@ use mathlib.Core.List.{List, [], _∷_, _++_}
 use mathlib.Core.Option.{Option, none, some}
 use Prim.Native.Nat.{ℕ}
 use lib.ListN.{length, take, getElem?}
+use Rattle.theory.specs.Limit.{number-bytes}
 use Rattle.theory.specs.Term.{Term}
 use Rattle.theory.specs.Optional.{either}
 use Rattle.theory.specs.Record.{Bytes, records-of, ending, step, read, step-count, number-length}
@@ -51,8 +52,9 @@ pub record StepWritten (job : Bytes) (k : ℕ) (s : Step) : Type 0 where
   pub says : read (number-length job) bytes ≡ step (s .rule) (place ∷ [])
   pub literal : at-place (plain-after m job) place ≡ some (s .literal)
 
--- the job is whole records, and has these steps in order and no other
+-- the job has no record of kind 103, which would be its first; it is whole records, and has these steps in order and no other
 pub record StepsWritten (job : Bytes) (steps : List Step) : Type 0 where
+  pub short : number-length job ≡ number-bytes
   pub whole : ending job ≡ 0
   pub counted : step-count (number-length job) (records-of job) ≡ length steps
   pub each : (k : ℕ) (s : Step) → getElem? steps k ≡ some s → StepWritten job k s

@@ -28,18 +28,18 @@ use Rattle.theory.proofs.Distinct.{WellKept, tree-0, tree-1, kept-at, p
 pub record TermsFit (b : ℕ) (limits : Limits) (work : ℕ) (list : Plain) : Type 0 where
   pub first-there : first-terms ≤ length list
   pub terms-fit : term-bytes b * (length list - first-terms) ≤ work
-  pub numbers-fit : length list ≤ max first-terms (capped limits .terms)
+  pub numbers-fit : length list ≤ max first-terms (capped b limits .terms)
 
-feed-fits : (b : ℕ) (limits : Limits) (work space : ℕ) (list : Plain) (answered : ℕ) (r : Bytes) → fault b limits work space list answered r ≡ 0 → TermsFit b limits work list
+feed-fits : (place b : ℕ) (limits : Limits) (work space : ℕ) (list : Plain) (answered : ℕ) (r : Bytes) → fault place b limits work space list answered r ≡ 0 → TermsFit b limits work list
     → TermsFit b limits work (feed b list r)
-feed-fits b limits work space list answered r e f =
+feed-fits place b limits work space list answered r e f =
     let a = f .first-there in
     let c = f .numbers-fit in
-    fed (TermsFit b limits work) b limits work space list answered r e f
+    fed (TermsFit b limits work) place b limits work space list answered r e f
     (λ o ks d p n.
-    let t = or-not (has list r) (room b (capped limits) work list) (p .roomy) n in
+    let t = or-not (has list r) (room b (capped b limits) work list) (p .roomy) n in
     let u = leb→le (term-bytes b * (suc (length list) - first-terms)) work (and-l (leb (term-bytes b * (suc (length list) - first-terms)) work) _ t) in
-    let v = ltb→lt (length list) (capped limits .terms) (and-r (leb (term-bytes b * (suc (length list) - first-terms)) work) _ t) in
+    let v = ltb→lt (length list) (capped b limits .terms) (and-r (leb (term-bytes b * (suc (length list) - first-terms)) work) _ t) in
     let l : length (list ++ (entry (tree-of list o ks) r ∷ [])) ≡ suc (length list) = length-append list (entry (tree-of list o ks) r ∷ []) ∙ add-one (length list) in
     record { first-there = omega arith; terms-fit = subst (λ (k : ℕ). term-bytes b * (k - first-terms) ≤ work) (sym l) u; numbers-fit = omega arith })
     (λ n h k.
@@ -50,10 +50,10 @@ feed-fits b limits work space list answered r e f =
     fewer c m n work h l = le-trans (mul-le-mul-left c (omega arith)) l
 
 -- one more step has room for its answer
-step-fits : (b : ℕ) (limits : Limits) (work space : ℕ) (list : Plain) (answered : ℕ) (r : Bytes) → fault b limits work space list answered r ≡ 0 → answer-bytes b * answered ≤ space
+step-fits : (place b : ℕ) (limits : Limits) (work space : ℕ) (list : Plain) (answered : ℕ) (r : Bytes) → fault place b limits work space list answered r ≡ 0 → answer-bytes b * answered ≤ space
     → answer-bytes b * (answered + cond (is-step (read b r)) 1 0) ≤ space
 unfolding fault
-step-fits b limits work space list answered r e f = go (read b r) e
+step-fits place b limits work space list answered r e f = go (read b r) e
   where
     none-more : answer-bytes b * (answered + 0) ≤ space
     none-more = subst (λ (k : ℕ). answer-bytes b * k ≤ space) (sym (add-zero answered)) f
@@ -61,9 +61,9 @@ step-fits b limits work space list answered r e f = go (read b r) e
     one-more : answer-bytes b * suc answered ≤ space → answer-bytes b * (answered + 1) ≤ space
     one-more p = subst (λ (k : ℕ). answer-bytes b * k ≤ space) (sym (add-one answered)) p
 
-    go : (i : Item) → first-fault (tests b limits work space list answered r i) ≡ 0 → answer-bytes b * (answered + cond (is-step i) 1 0) ≤ space
-    go (step n ks) d = one-more (step-passed b limits work space list answered r n ks d .roomy)
-    go (chain n ps k) d = one-more (chain-passed b limits work space list answered r n ps k d .roomy)
+    go : (i : Item) → first-fault (tests place b limits work space list answered r i) ≡ 0 → answer-bytes b * (answered + cond (is-step i) 1 0) ≤ space
+    go (step n ks) d = one-more (step-passed place b limits work space list answered r n ks d .roomy)
+    go (chain n ps k) d = one-more (chain-passed place b limits work space list answered r n ps k d .roomy)
     go (term o ks) d = none-more
     go (back n) d = none-more
     go unknown d = none-more
@@ -77,12 +77,12 @@ module _ (limits : Limits) (job : Bytes) (work space : ℕ) where
   pub terms-fit : (m : ℕ) → m ≤ run limits job work space .records → TermsFit b limits work (plain-after m job)
   terms-fit =
       plain-ind limits job work space (λ m. TermsFit b limits work (plain-after m job)) (record { first-there = omega arith; terms-fit = omega arith; numbers-fit = omega arith })
-      (λ m r l e p f. subst (TermsFit b limits work) (sym (plain-next limits job work space m r e)) (feed-fits b limits work space (plain-after m job) (step-count b (take m (records-of job))) r p f))
+      (λ m r l e p f. subst (TermsFit b limits work) (sym (plain-next limits job work space m r e)) (feed-fits m b limits work space (plain-after m job) (step-count b (take m (records-of job))) r p f))
 
   answers-fit : (m : ℕ) → m ≤ run limits job work space .records → answer-bytes b * step-count b (take m (records-of job)) ≤ space
   answers-fit =
       plain-ind limits job work space (λ m. answer-bytes b * step-count b (take m (records-of job)) ≤ space) (omega arith)
-      (λ m r l e p f. subst (λ (k : ℕ). answer-bytes b * k ≤ space) (sym (count-next limits job work space m r e)) (step-fits b limits work space (plain-after m job) (step-count b (take m (records-of job))) r p f))
+      (λ m r l e p f. subst (λ (k : ℕ). answer-bytes b * k ≤ space) (sym (count-next limits job work space m r e)) (step-fits m b limits work space (plain-after m job) (step-count b (take m (records-of job))) r p f))
 
 pub run-fits : LentEnough
 run-fits limits job work space =

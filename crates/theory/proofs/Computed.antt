@@ -1,5 +1,5 @@
--- Document 01's own jobs, computed: each comes to what it says, which is what the original Rust answers; and some of document 02's chains, and jobs under
--- stated limits. Written by tools/listed_jobs.py.
+-- Document 01's own jobs, computed: each comes to what it says, which is what the original Rust answers; and some of document 02's chains, jobs under
+-- stated limits, and jobs whose numbers have four bytes. Written by tools/listed_jobs.py.
 use mathlib.Core.Path.{_≡_, refl}
 use mathlib.Core.List.{List, [], _∷_}
 use Prim.Native.Nat.{ℕ}
@@ -10,7 +10,7 @@ use Rattle.theory.specs.Depth.{depth}
 use Rattle.theory.specs.Circuit.{zip-with, last, clog2, ripple-carry-adder, last-carry, carry-out, ult-from, bitblast-ult, slt-from, slt, gather, add-rows, shift-add-multiplier, shl-bits, shl-stages, shr-bits, shr-stages, shl, lshr, ashr, divide-step, bitblast-udiv-urem-rec, udiv, urem}
 use Rattle.theory.specs.Bits.{select, get-term-bits, fold-terms, add-bits, concat-bits}
 use Rattle.theory.specs.Rule.{args-of, literal-bits, slices-verdict, on-sides, verdict}
-use Rattle.theory.specs.Record.{Bytes, cut, shape-of, read}
+use Rattle.theory.specs.Record.{Bytes, cut, shape-of, read, number-length}
 use Rattle.theory.specs.Plain.{feed, repeat-of}
 use Rattle.theory.specs.Codes.{fault}
 use Rattle.theory.specs.Answer.{Answer}
@@ -168,8 +168,68 @@ cases =
     ∷ case (stated 1 9) (6 ∷ 0 ∷ 11 ∷ 0 ∷ 1 ∷ 0 ∷ 0 ∷ 0 ∷ 6 ∷ 0 ∷ 11 ∷ 0 ∷ 1 ∷ 0 ∷ 1 ∷ 0 ∷ 6 ∷ 0 ∷ 30 ∷ 0 ∷ 0 ∷ 0 ∷ 2 ∷ 0 ∷ 6 ∷ 0 ∷ 30 ∷ 0 ∷ 0 ∷ 0 ∷ 3 ∷ 0 ∷ 4 ∷ 0 ∷ 20 ∷ 0 ∷ 5 ∷ 0 ∷ 6 ∷ 0 ∷ 21 ∷ 0 ∷ 4 ∷ 0 ∷ 6 ∷ 0 ∷ 6 ∷ 0 ∷ 50 ∷ 0 ∷ 2 ∷ 0 ∷ 3 ∷ 0 ∷ 6 ∷ 0 ∷ 24 ∷ 0 ∷ 8 ∷ 0 ∷ 7 ∷ 0 ∷ 6 ∷ 0 ∷ 100 ∷ 0 ∷ 9 ∷ 0 ∷ 9 ∷ 0 ∷ []) 64 64 8 7 ([]) 9 0
     -- document 02, P8: limits far above the rack's
     ∷ case (stated 4294967295 4294967295) (6 ∷ 0 ∷ 11 ∷ 0 ∷ 1 ∷ 0 ∷ 0 ∷ 0 ∷ 6 ∷ 0 ∷ 11 ∷ 0 ∷ 1 ∷ 0 ∷ 1 ∷ 0 ∷ 6 ∷ 0 ∷ 30 ∷ 0 ∷ 0 ∷ 0 ∷ 2 ∷ 0 ∷ 6 ∷ 0 ∷ 30 ∷ 0 ∷ 0 ∷ 0 ∷ 3 ∷ 0 ∷ 4 ∷ 0 ∷ 20 ∷ 0 ∷ 5 ∷ 0 ∷ 6 ∷ 0 ∷ 21 ∷ 0 ∷ 4 ∷ 0 ∷ 6 ∷ 0 ∷ 6 ∷ 0 ∷ 50 ∷ 0 ∷ 2 ∷ 0 ∷ 3 ∷ 0 ∷ 6 ∷ 0 ∷ 24 ∷ 0 ∷ 8 ∷ 0 ∷ 7 ∷ 0 ∷ 6 ∷ 0 ∷ 100 ∷ 0 ∷ 9 ∷ 0 ∷ 9 ∷ 0 ∷ []) 64 64 0 9 (answer 9 0 2 ∷ []) 10 0
+    -- document 02, P10: the first record alone
+    ∷ case rack (2 ∷ 0 ∷ 103 ∷ 0 ∷ []) 64 64 0 1 ([]) 2 0
+    -- document 02, P10: the first record a second time
+    ∷ case rack (2 ∷ 0 ∷ 103 ∷ 0 ∷ 2 ∷ 0 ∷ 103 ∷ 0 ∷ []) 64 64 4 1 ([]) 2 0
+    -- document 02, P10: kind 103 behind a term
+    ∷ case rack (4 ∷ 0 ∷ 10 ∷ 0 ∷ 0 ∷ 0 ∷ 2 ∷ 0 ∷ 103 ∷ 0 ∷ []) 64 64 4 1 ([]) 3 0
+    -- document 02, P10: the first record with a body
+    ∷ case rack (4 ∷ 0 ∷ 103 ∷ 0 ∷ 0 ∷ 0 ∷ []) 64 64 5 0 ([]) 2 0
+    -- document 02, P10: kind 103 with a body behind a term
+    ∷ case rack (4 ∷ 0 ∷ 10 ∷ 0 ∷ 0 ∷ 0 ∷ 4 ∷ 0 ∷ 103 ∷ 0 ∷ 0 ∷ 0 ∷ []) 64 64 4 1 ([]) 3 0
+    -- document 02, P10: three bytes of the first record
+    ∷ case rack (2 ∷ 0 ∷ 103 ∷ []) 64 64 3 0 ([]) 2 0
+    -- document 02, P10: an argument of two bytes
+    ∷ case rack (2 ∷ 0 ∷ 103 ∷ 0 ∷ 4 ∷ 0 ∷ 20 ∷ 0 ∷ 0 ∷ 0 ∷ []) 64 64 5 1 ([]) 2 0
+    -- document 02, P10: an argument of four bytes, and a repeat
+    ∷ case rack (2 ∷ 0 ∷ 103 ∷ 0 ∷ 6 ∷ 0 ∷ 20 ∷ 0 ∷ 0 ∷ 0 ∷ 0 ∷ 0 ∷ 6 ∷ 0 ∷ 20 ∷ 0 ∷ 0 ∷ 0 ∷ 0 ∷ 0 ∷ []) 64 64 0 3 ([]) 3 1
+    -- document 02, P10: an argument whose low bytes name a term
+    ∷ case rack (2 ∷ 0 ∷ 103 ∷ 0 ∷ 6 ∷ 0 ∷ 20 ∷ 0 ∷ 0 ∷ 0 ∷ 1 ∷ 0 ∷ []) 64 64 6 1 ([]) 2 0
+    -- document 02, P10: an argument whose high byte is not 0
+    ∷ case rack (2 ∷ 0 ∷ 103 ∷ 0 ∷ 6 ∷ 0 ∷ 20 ∷ 0 ∷ 0 ∷ 0 ∷ 0 ∷ 1 ∷ []) 64 64 6 1 ([]) 2 0
+    -- document 02, P10: a name has two bytes, not four
+    ∷ case rack (2 ∷ 0 ∷ 103 ∷ 0 ∷ 4 ∷ 0 ∷ 10 ∷ 0 ∷ 0 ∷ 0 ∷ 6 ∷ 0 ∷ 10 ∷ 0 ∷ 1 ∷ 0 ∷ 0 ∷ 0 ∷ []) 64 64 5 2 ([]) 3 0
+    -- document 02, P10: an index has two bytes, not four
+    ∷ case rack (2 ∷ 0 ∷ 103 ∷ 0 ∷ 6 ∷ 0 ∷ 11 ∷ 0 ∷ 1 ∷ 0 ∷ 0 ∷ 0 ∷ 8 ∷ 0 ∷ 30 ∷ 0 ∷ 0 ∷ 0 ∷ 2 ∷ 0 ∷ 0 ∷ 0 ∷ 10 ∷ 0 ∷ 30 ∷ 0 ∷ 0 ∷ 0 ∷ 0 ∷ 0 ∷ 2 ∷ 0 ∷ 0 ∷ 0 ∷ []) 64 64 5 3 ([]) 4 0
+    -- document 02, P10: a literal of two bytes
+    ∷ case rack (2 ∷ 0 ∷ 103 ∷ 0 ∷ 6 ∷ 0 ∷ 100 ∷ 0 ∷ 2 ∷ 0 ∷ 0 ∷ 0 ∷ []) 64 64 5 1 ([]) 2 0
+    -- document 02, P10: a literal whose low bytes name a term
+    ∷ case rack (2 ∷ 0 ∷ 103 ∷ 0 ∷ 8 ∷ 0 ∷ 100 ∷ 0 ∷ 2 ∷ 0 ∷ 0 ∷ 0 ∷ 1 ∷ 0 ∷ []) 64 64 6 1 ([]) 2 0
+    -- document 02, P10: a back of two bytes
+    ∷ case rack (2 ∷ 0 ∷ 103 ∷ 0 ∷ 4 ∷ 0 ∷ 101 ∷ 0 ∷ 2 ∷ 0 ∷ []) 64 64 5 1 ([]) 2 0
+    -- document 02, P10: a back, and the number is used again
+    ∷ case rack (2 ∷ 0 ∷ 103 ∷ 0 ∷ 4 ∷ 0 ∷ 10 ∷ 0 ∷ 0 ∷ 0 ∷ 6 ∷ 0 ∷ 101 ∷ 0 ∷ 2 ∷ 0 ∷ 0 ∷ 0 ∷ 4 ∷ 0 ∷ 10 ∷ 0 ∷ 1 ∷ 0 ∷ []) 64 64 0 4 ([]) 3 0
+    -- document 02, P10: a back whose low bytes are a count
+    ∷ case rack (2 ∷ 0 ∷ 103 ∷ 0 ∷ 4 ∷ 0 ∷ 10 ∷ 0 ∷ 0 ∷ 0 ∷ 6 ∷ 0 ∷ 101 ∷ 0 ∷ 2 ∷ 0 ∷ 1 ∷ 0 ∷ []) 64 64 18 2 ([]) 3 0
+    -- document 02, P10: 11 answer bytes
+    ∷ case rack (2 ∷ 0 ∷ 103 ∷ 0 ∷ 8 ∷ 0 ∷ 100 ∷ 0 ∷ 1 ∷ 0 ∷ 0 ∷ 0 ∷ 0 ∷ 0 ∷ []) 64 11 19 1 ([]) 2 0
+    -- document 02, P10: 23 answer bytes for two steps
+    ∷ case rack (2 ∷ 0 ∷ 103 ∷ 0 ∷ 8 ∷ 0 ∷ 100 ∷ 0 ∷ 1 ∷ 0 ∷ 0 ∷ 0 ∷ 0 ∷ 0 ∷ 8 ∷ 0 ∷ 100 ∷ 0 ∷ 1 ∷ 0 ∷ 0 ∷ 0 ∷ 0 ∷ 0 ∷ []) 64 23 19 2 (answer 1 11 0 ∷ []) 2 0
+    -- document 02, P10: 11 bytes of work memory
+    ∷ case rack (2 ∷ 0 ∷ 103 ∷ 0 ∷ 4 ∷ 0 ∷ 10 ∷ 0 ∷ 0 ∷ 0 ∷ []) 11 64 8 1 ([]) 2 0
+    -- document 02, P10: 23 bytes of work memory: a term, a repeat, and a second
+    ∷ case rack (2 ∷ 0 ∷ 103 ∷ 0 ∷ 4 ∷ 0 ∷ 10 ∷ 0 ∷ 0 ∷ 0 ∷ 4 ∷ 0 ∷ 10 ∷ 0 ∷ 0 ∷ 0 ∷ 4 ∷ 0 ∷ 10 ∷ 0 ∷ 1 ∷ 0 ∷ []) 23 64 8 3 ([]) 3 1
+    -- document 02, P10: the job of bbcheck's example
+    ∷ case rack (2 ∷ 0 ∷ 103 ∷ 0 ∷ 6 ∷ 0 ∷ 11 ∷ 0 ∷ 1 ∷ 0 ∷ 0 ∷ 0 ∷ 6 ∷ 0 ∷ 11 ∷ 0 ∷ 1 ∷ 0 ∷ 1 ∷ 0 ∷ 8 ∷ 0 ∷ 30 ∷ 0 ∷ 0 ∷ 0 ∷ 2 ∷ 0 ∷ 0 ∷ 0 ∷ 8 ∷ 0 ∷ 30 ∷ 0 ∷ 0 ∷ 0 ∷ 3 ∷ 0 ∷ 0 ∷ 0 ∷ 6 ∷ 0 ∷ 20 ∷ 0 ∷ 5 ∷ 0 ∷ 0 ∷ 0 ∷ 10 ∷ 0 ∷ 21 ∷ 0 ∷ 4 ∷ 0 ∷ 0 ∷ 0 ∷ 6 ∷ 0 ∷ 0 ∷ 0 ∷ 10 ∷ 0 ∷ 50 ∷ 0 ∷ 2 ∷ 0 ∷ 0 ∷ 0 ∷ 3 ∷ 0 ∷ 0 ∷ 0 ∷ 10 ∷ 0 ∷ 24 ∷ 0 ∷ 8 ∷ 0 ∷ 0 ∷ 0 ∷ 7 ∷ 0 ∷ 0 ∷ 0 ∷ 8 ∷ 0 ∷ 100 ∷ 0 ∷ 9 ∷ 0 ∷ 9 ∷ 0 ∷ 0 ∷ 0 ∷ []) 96 12 0 10 (answer 9 0 2 ∷ []) 10 0
+    -- document 02, P10: a depth has four bytes
+    ∷ case rack (2 ∷ 0 ∷ 103 ∷ 0 ∷ 6 ∷ 0 ∷ 20 ∷ 0 ∷ 0 ∷ 0 ∷ 0 ∷ 0 ∷ 6 ∷ 0 ∷ 20 ∷ 0 ∷ 2 ∷ 0 ∷ 0 ∷ 0 ∷ 6 ∷ 0 ∷ 20 ∷ 0 ∷ 3 ∷ 0 ∷ 0 ∷ 0 ∷ 6 ∷ 0 ∷ 31 ∷ 0 ∷ 4 ∷ 0 ∷ 0 ∷ 0 ∷ 10 ∷ 0 ∷ 24 ∷ 0 ∷ 5 ∷ 0 ∷ 0 ∷ 0 ∷ 5 ∷ 0 ∷ 0 ∷ 0 ∷ 8 ∷ 0 ∷ 100 ∷ 0 ∷ 2 ∷ 0 ∷ 6 ∷ 0 ∷ 0 ∷ 0 ∷ []) 60 12 0 7 (answer 2 0 3 ∷ []) 7 0
+    -- document 02, P10: symm of a step that is held
+    ∷ case rack (2 ∷ 0 ∷ 103 ∷ 0 ∷ 6 ∷ 0 ∷ 11 ∷ 0 ∷ 1 ∷ 0 ∷ 0 ∷ 0 ∷ 8 ∷ 0 ∷ 30 ∷ 0 ∷ 0 ∷ 0 ∷ 2 ∷ 0 ∷ 0 ∷ 0 ∷ 6 ∷ 0 ∷ 31 ∷ 0 ∷ 3 ∷ 0 ∷ 0 ∷ 0 ∷ 10 ∷ 0 ∷ 24 ∷ 0 ∷ 2 ∷ 0 ∷ 0 ∷ 0 ∷ 4 ∷ 0 ∷ 0 ∷ 0 ∷ 8 ∷ 0 ∷ 100 ∷ 0 ∷ 2 ∷ 0 ∷ 5 ∷ 0 ∷ 0 ∷ 0 ∷ 10 ∷ 0 ∷ 24 ∷ 0 ∷ 4 ∷ 0 ∷ 0 ∷ 0 ∷ 2 ∷ 0 ∷ 0 ∷ 0 ∷ 12 ∷ 0 ∷ 104 ∷ 0 ∷ 31 ∷ 0 ∷ 1 ∷ 0 ∷ 1 ∷ 0 ∷ 6 ∷ 0 ∷ 0 ∷ 0 ∷ []) 72 24 0 8 (answer 2 0 0 ∷ answer 31 0 0 ∷ []) 7 0
+    -- document 02, P10: a chain whose literal has two bytes
+    ∷ case rack (2 ∷ 0 ∷ 103 ∷ 0 ∷ 6 ∷ 0 ∷ 11 ∷ 0 ∷ 1 ∷ 0 ∷ 0 ∷ 0 ∷ 8 ∷ 0 ∷ 30 ∷ 0 ∷ 0 ∷ 0 ∷ 2 ∷ 0 ∷ 0 ∷ 0 ∷ 6 ∷ 0 ∷ 31 ∷ 0 ∷ 3 ∷ 0 ∷ 0 ∷ 0 ∷ 10 ∷ 0 ∷ 24 ∷ 0 ∷ 2 ∷ 0 ∷ 0 ∷ 0 ∷ 4 ∷ 0 ∷ 0 ∷ 0 ∷ 8 ∷ 0 ∷ 100 ∷ 0 ∷ 2 ∷ 0 ∷ 5 ∷ 0 ∷ 0 ∷ 0 ∷ 10 ∷ 0 ∷ 24 ∷ 0 ∷ 4 ∷ 0 ∷ 0 ∷ 0 ∷ 2 ∷ 0 ∷ 0 ∷ 0 ∷ 10 ∷ 0 ∷ 104 ∷ 0 ∷ 31 ∷ 0 ∷ 1 ∷ 0 ∷ 1 ∷ 0 ∷ 6 ∷ 0 ∷ []) 72 24 5 7 (answer 2 0 0 ∷ []) 7 0
+    -- document 02, P10: the job of bbcheck's example under 1 and 10
+    ∷ case (stated 1 10) (2 ∷ 0 ∷ 103 ∷ 0 ∷ 6 ∷ 0 ∷ 11 ∷ 0 ∷ 1 ∷ 0 ∷ 0 ∷ 0 ∷ 6 ∷ 0 ∷ 11 ∷ 0 ∷ 1 ∷ 0 ∷ 1 ∷ 0 ∷ 8 ∷ 0 ∷ 30 ∷ 0 ∷ 0 ∷ 0 ∷ 2 ∷ 0 ∷ 0 ∷ 0 ∷ 8 ∷ 0 ∷ 30 ∷ 0 ∷ 0 ∷ 0 ∷ 3 ∷ 0 ∷ 0 ∷ 0 ∷ 6 ∷ 0 ∷ 20 ∷ 0 ∷ 5 ∷ 0 ∷ 0 ∷ 0 ∷ 10 ∷ 0 ∷ 21 ∷ 0 ∷ 4 ∷ 0 ∷ 0 ∷ 0 ∷ 6 ∷ 0 ∷ 0 ∷ 0 ∷ 10 ∷ 0 ∷ 50 ∷ 0 ∷ 2 ∷ 0 ∷ 0 ∷ 0 ∷ 3 ∷ 0 ∷ 0 ∷ 0 ∷ 10 ∷ 0 ∷ 24 ∷ 0 ∷ 8 ∷ 0 ∷ 0 ∷ 0 ∷ 7 ∷ 0 ∷ 0 ∷ 0 ∷ 8 ∷ 0 ∷ 100 ∷ 0 ∷ 9 ∷ 0 ∷ 9 ∷ 0 ∷ 0 ∷ 0 ∷ []) 96 12 0 10 (answer 9 0 2 ∷ []) 10 0
+    -- document 02, P10: the same under 1 and 9
+    ∷ case (stated 1 9) (2 ∷ 0 ∷ 103 ∷ 0 ∷ 6 ∷ 0 ∷ 11 ∷ 0 ∷ 1 ∷ 0 ∷ 0 ∷ 0 ∷ 6 ∷ 0 ∷ 11 ∷ 0 ∷ 1 ∷ 0 ∷ 1 ∷ 0 ∷ 8 ∷ 0 ∷ 30 ∷ 0 ∷ 0 ∷ 0 ∷ 2 ∷ 0 ∷ 0 ∷ 0 ∷ 8 ∷ 0 ∷ 30 ∷ 0 ∷ 0 ∷ 0 ∷ 3 ∷ 0 ∷ 0 ∷ 0 ∷ 6 ∷ 0 ∷ 20 ∷ 0 ∷ 5 ∷ 0 ∷ 0 ∷ 0 ∷ 10 ∷ 0 ∷ 21 ∷ 0 ∷ 4 ∷ 0 ∷ 0 ∷ 0 ∷ 6 ∷ 0 ∷ 0 ∷ 0 ∷ 10 ∷ 0 ∷ 50 ∷ 0 ∷ 2 ∷ 0 ∷ 0 ∷ 0 ∷ 3 ∷ 0 ∷ 0 ∷ 0 ∷ 10 ∷ 0 ∷ 24 ∷ 0 ∷ 8 ∷ 0 ∷ 0 ∷ 0 ∷ 7 ∷ 0 ∷ 0 ∷ 0 ∷ 8 ∷ 0 ∷ 100 ∷ 0 ∷ 9 ∷ 0 ∷ 9 ∷ 0 ∷ 0 ∷ 0 ∷ []) 96 12 8 8 ([]) 9 0
+    -- document 02, P10: a width of 17 under 16
+    ∷ case (stated 16 1024) (2 ∷ 0 ∷ 103 ∷ 0 ∷ 6 ∷ 0 ∷ 11 ∷ 0 ∷ 17 ∷ 0 ∷ 0 ∷ 0 ∷ []) 96 12 7 1 ([]) 2 0
+    -- document 02, P10: limit 0: each new term is 8
+    ∷ case (stated 16 0) (2 ∷ 0 ∷ 103 ∷ 0 ∷ 4 ∷ 0 ∷ 10 ∷ 0 ∷ 0 ∷ 0 ∷ []) 96 12 8 1 ([]) 2 0
+    -- document 02, P10: limits far above the rack's
+    ∷ case (stated 4294967295 4294967295) (2 ∷ 0 ∷ 103 ∷ 0 ∷ 6 ∷ 0 ∷ 11 ∷ 0 ∷ 1 ∷ 0 ∷ 0 ∷ 0 ∷ 6 ∷ 0 ∷ 11 ∷ 0 ∷ 1 ∷ 0 ∷ 1 ∷ 0 ∷ 8 ∷ 0 ∷ 30 ∷ 0 ∷ 0 ∷ 0 ∷ 2 ∷ 0 ∷ 0 ∷ 0 ∷ 8 ∷ 0 ∷ 30 ∷ 0 ∷ 0 ∷ 0 ∷ 3 ∷ 0 ∷ 0 ∷ 0 ∷ 6 ∷ 0 ∷ 20 ∷ 0 ∷ 5 ∷ 0 ∷ 0 ∷ 0 ∷ 10 ∷ 0 ∷ 21 ∷ 0 ∷ 4 ∷ 0 ∷ 0 ∷ 0 ∷ 6 ∷ 0 ∷ 0 ∷ 0 ∷ 10 ∷ 0 ∷ 50 ∷ 0 ∷ 2 ∷ 0 ∷ 0 ∷ 0 ∷ 3 ∷ 0 ∷ 0 ∷ 0 ∷ 10 ∷ 0 ∷ 24 ∷ 0 ∷ 8 ∷ 0 ∷ 0 ∷ 0 ∷ 7 ∷ 0 ∷ 0 ∷ 0 ∷ 8 ∷ 0 ∷ 100 ∷ 0 ∷ 9 ∷ 0 ∷ 9 ∷ 0 ∷ 0 ∷ 0 ∷ []) 96 12 0 10 (answer 9 0 2 ∷ []) 10 0
     ∷ []
 
 pub computed : Computed cases
-unfolding fold same-op same-term guard depth zip-with last clog2 ripple-carry-adder last-carry carry-out ult-from bitblast-ult slt-from slt gather add-rows shift-add-multiplier shl-bits shl-stages shr-bits shr-stages shl lshr ashr divide-step bitblast-udiv-urem-rec udiv urem select get-term-bits fold-terms add-bits concat-bits args-of literal-bits slices-verdict on-sides verdict cut shape-of read feed repeat-of fault joins chain-verdict answers-to recall run-from run
-computed = (refl, (refl, (refl, (refl, (refl, (refl, (refl, (refl, (refl, (refl, (refl, (refl, (refl, (refl, (refl, (refl, (refl, (refl, (refl, (refl, (refl, (refl, (refl, (refl, (refl, (refl, (refl, (refl, (refl, (refl, (refl, (refl, (refl, (refl, (refl, (refl, (refl, (refl, (refl, (refl, (refl, (refl, (refl, (refl, (refl, (refl, (refl, (refl, (refl, (refl, (refl, (refl, (refl, (refl, (refl, (refl, (refl, (refl, (refl, (refl, (refl, (refl, tt))))))))))))))))))))))))))))))))))))))))))))))))))))))))))))))
+unfolding fold same-op same-term guard depth zip-with last clog2 ripple-carry-adder last-carry carry-out ult-from bitblast-ult slt-from slt gather add-rows shift-add-multiplier shl-bits shl-stages shr-bits shr-stages shl lshr ashr divide-step bitblast-udiv-urem-rec udiv urem select get-term-bits fold-terms add-bits concat-bits args-of literal-bits slices-verdict on-sides verdict cut shape-of read number-length feed repeat-of fault joins chain-verdict answers-to recall run-from run
+computed = (refl, (refl, (refl, (refl, (refl, (refl, (refl, (refl, (refl, (refl, (refl, (refl, (refl, (refl, (refl, (refl, (refl, (refl, (refl, (refl, (refl, (refl, (refl, (refl, (refl, (refl, (refl, (refl, (refl, (refl, (refl, (refl, (refl, (refl, (refl, (refl, (refl, (refl, (refl, (refl, (refl, (refl, (refl, (refl, (refl, (refl, (refl, (refl, (refl, (refl, (refl, (refl, (refl, (refl, (refl, (refl, (refl, (refl, (refl, (refl, (refl, (refl, (refl, (refl, (refl, (refl, (refl, (refl, (refl, (refl, (refl, (refl, (refl, (refl, (refl, (refl, (refl, (refl, (refl, (refl, (refl, (refl, (refl, (refl, (refl, (refl, (refl, (refl, (refl, (refl, (refl, (refl, tt))))))))))))))))))))))))))))))))))))))))))))))))))))))))))))))))))))))))))))))))))))))))))))

@@ -84,10 +84,10 @@ start-well = record {
   kept = λ i e p f. let l = getElem-lt start i e f in absurd (omega arith);
 }
 
-feed-well : (b : ℕ) (limits : Limits) (work space : ℕ) (list : Plain) (answered : ℕ) (r : Bytes) → fault b limits work space list answered r ≡ 0 → Sound r → WellKept b list
+feed-well : (place b : ℕ) (limits : Limits) (work space : ℕ) (list : Plain) (answered : ℕ) (r : Bytes) → fault place b limits work space list answered r ≡ 0 → Sound r → WellKept b list
     → WellKept b (feed b list r)
-feed-well b limits work space list answered r e s w =
-    fed (WellKept b) b limits work space list answered r e w
+feed-well place b limits work space list answered r e s w =
+    fed (WellKept b) place b limits work space list answered r e w
     (λ o ks d p n. snoc-well list r o ks w s d (p .below) n) (λ n a b. take-well n list a b w)
 
 module _ (limits : Limits) (job : Bytes) (bytes : AllBytes job) (work space : ℕ) where
@@ -96,7 +96,7 @@ module _ (limits : Limits) (job : Bytes) (bytes : AllBytes job) (work space : �
   plain-well =
       plain-ind limits job work space (λ m. WellKept (number-length job) (plain-after m job)) start-well
       (λ m r l e p w. subst (WellKept (number-length job)) (sym (plain-next limits job work space m r e))
-      (feed-well (number-length job) limits work space (plain-after m job) (step-count (number-length job) (take m (records-of job))) r p (record-sound job bytes m r e) w))
+      (feed-well m (number-length job) limits work space (plain-after m job) (step-count (number-length job) (take m (records-of job))) r p (record-sound job bytes m r e) w))
 
 -- ---- the terms of a well-kept list
 module _ {b : ℕ} (list : Plain) (w : WellKept b list) where

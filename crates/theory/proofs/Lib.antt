@@ -40,6 +40,7 @@ pub mod Positions
 pub mod Tallies
 pub mod Logarithm
 pub mod Signs
+pub mod Lengths
 pub mod Written
 pub mod Fresh
 pub mod Specimens

@@ -49,13 +49,13 @@ start-narrow w = (omega arith, (omega arith, tt))
 
 pub no-wider : NoWider
 no-wider limits job work space m i t l e =
-    narrow-at (capped limits .width) (plain-after m job) i t
-    (plain-ind limits job work space (λ (k : ℕ). Narrow (capped limits .width) (plain-after k job)) (start-narrow (capped limits .width))
-    (λ k r h f p n. subst (Narrow (capped limits .width)) (sym (plain-next limits job work space k r f))
-    (fed (Narrow (capped limits .width)) (number-length job) limits work space (plain-after k job) (step-count (number-length job) (take k (records-of job))) r p n
-    (λ o ks d q new. narrow-snoc (capped limits .width) (plain-after k job) (entry (tree-of (plain-after k job) o ks) r) n
-    (leb→le (sort-width (sort-of (tree-of (plain-after k job) o ks))) (capped limits .width) (q .narrow)))
-    (λ c a b. narrow-take (capped limits .width) c (plain-after k job) n)))
+    narrow-at (capped (number-length job) limits .width) (plain-after m job) i t
+    (plain-ind limits job work space (λ (k : ℕ). Narrow (capped (number-length job) limits .width) (plain-after k job)) (start-narrow (capped (number-length job) limits .width))
+    (λ k r h f p n. subst (Narrow (capped (number-length job) limits .width)) (sym (plain-next limits job work space k r f))
+    (fed (Narrow (capped (number-length job) limits .width)) k (number-length job) limits work space (plain-after k job) (step-count (number-length job) (take k (records-of job))) r p n
+    (λ o ks d q new. narrow-snoc (capped (number-length job) limits .width) (plain-after k job) (entry (tree-of (plain-after k job) o ks) r) n
+    (leb→le (sort-width (sort-of (tree-of (plain-after k job) o ks))) (capped (number-length job) limits .width) (q .narrow)))
+    (λ c a b. narrow-take (capped (number-length job) limits .width) c (plain-after k job) n)))
     m l)
     e
 
@@ -87,31 +87,31 @@ by-fault (suc c) g x y z s e h o =
 
 module _ (b : ℕ) (small large : Limits) (width-within : small .width ≤ large .width) (terms-within : small .terms ≤ large .terms) where
   -- ---- the tests that read a limit pass under larger ones
-  sorted-more : (q : Option Term) → T (well-sorted (capped small) q) → T (well-sorted (capped large) q)
+  sorted-more : (q : Option Term) → T (well-sorted (capped b small) q) → T (well-sorted (capped b large) q)
   sorted-more none h = h
   sorted-more (some t) h =
       let g = good (sort-of t) in
       let n = sort-width (sort-of t) in
-      let a = leb→le n (capped small .width) (and-r g _ h) in
-      and-i g (leb n (capped large .width)) (and-l g _ h) (le→leb n (capped large .width) (omega arith))
+      let a = leb→le n (capped b small .width) (and-r g _ h) in
+      and-i g (leb n (capped b large .width)) (and-l g _ h) (le→leb n (capped b large .width) (omega arith))
 
-  room-more : (work : ℕ) (list : Plain) → T (room b (capped small) work list) → T (room b (capped large) work list)
+  room-more : (work : ℕ) (list : Plain) → T (room b (capped b small) work list) → T (room b (capped b large) work list)
   room-more work list h =
       let m = leb (term-bytes b * (suc (length list) - first-terms)) work in
-      let a = ltb→lt (length list) (capped small .terms) (and-r m _ h) in
-      and-i m (ltb (length list) (capped large .terms)) (and-l m _ h) (lt→ltb (length list) (capped large .terms) (omega arith))
+      let a = ltb→lt (length list) (capped b small .terms) (and-r m _ h) in
+      and-i m (ltb (length list) (capped b large .terms)) (and-l m _ h) (lt→ltb (length list) (capped b large .terms) (omega arith))
 
   module _ (work space : ℕ) where
-    same-fault : (list : Plain) (answered : ℕ) (r : Bytes) → Other (fault b small work space list answered r)
-        → fault b small work space list answered r ≡ fault b large work space list answered r
+    same-fault : (place : ℕ) (list : Plain) (answered : ℕ) (r : Bytes) → Other (fault place b small work space list answered r)
+        → fault place b small work space list answered r ≡ fault place b large work space list answered r
     unfolding fault
-    same-fault list answered r o = go (read b r) o
+    same-fault place list answered r o = go (read b r) o
       where
-        go : (i : Item) → Other (first-fault (tests b small work space list answered r i))
-            → first-fault (tests b small work space list answered r i) ≡ first-fault (tests b large work space list answered r i)
+        go : (i : Item) → Other (first-fault (tests place b small work space list answered r i))
+            → first-fault (tests place b small work space list answered r i) ≡ first-fault (tests place b large work space list answered r i)
         go (term p ks) c =
-            by-tests (all-below (length list) ks) (well-sorted (capped small) (term-of list p ks)) (well-sorted (capped large) (term-of list p ks)) (has list r)
-            (room b (capped small) work list) (room b (capped large) work list) (sorted-more (term-of list p ks)) (room-more work list) c
+            by-tests (all-below (length list) ks) (well-sorted (capped b small) (term-of list p ks)) (well-sorted (capped b large) (term-of list p ks)) (has list r)
+            (room b (capped b small) work list) (room b (capped b large) work list) (sorted-more (term-of list p ks)) (room-more work list) c
         go (step n ks) c = refl
         go (chain n ps k) c = refl
         go (back n) c = refl
@@ -125,10 +125,10 @@ module _ (b : ℕ) (small large : Limits) (width-within : small .width ≤ large
     unfolding run-from
     same-run end done repeats earlier list answers [] o = refl
     same-run end done repeats earlier list answers (r ∷ rs) o =
-        by-fault (fault b small work space list (length answers) r) (fault b large work space list (length answers) r)
+        by-fault (fault done b small work space list (length answers) r) (fault done b large work space list (length answers) r)
         (run-from b small work space end (suc done) (repeats + repeat-of b list r) (recall b earlier list r) (feed b list r) (answers ++ answers-to b earlier list r) rs)
         (run-from b large work space end (suc done) (repeats + repeat-of b list r) (recall b earlier list r) (feed b list r) (answers ++ answers-to b earlier list r) rs)
-        (λ c. outcome (suc c) done repeats answers list) (λ c. refl) (same-fault list (length answers) r)
+        (λ c. outcome (suc c) done repeats answers list) (λ c. refl) (same-fault done list (length answers) r)
         (same-run end (suc done) (repeats + repeat-of b list r) (recall b earlier list r) (feed b list r) (answers ++ answers-to b earlier list r) rs) o
 
 -- ---- a whole run

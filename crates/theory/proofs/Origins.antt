@@ -152,7 +152,7 @@ left-below n ks a p b e = go (eqb (a .code) 0) ks b e
     go true (j ∷ js) h d = subst (λ (x : ℕ). x < n) (some-inj j p d) (ltb→lt j n (and-l (ltb j n) _ h))
     go false js h d = absurd (none-some p d)
 
-module _ (b : ℕ) (limits : Limits) (work space answered at at′ : ℕ) (r : Bytes) (os : List ℕ) (marks : List Mark) (earlier : Earlier) (list : Plain)
+module _ (place b : ℕ) (limits : Limits) (work space answered at at′ : ℕ) (r : Bytes) (os : List ℕ) (marks : List Mark) (earlier : Earlier) (list : Plain)
     (t : Tracks at os marks earlier list) (on : at < at′) where
   -- nothing changes
   tracks-same : Tracks at′ os marks earlier list
@@ -186,22 +186,22 @@ module _ (b : ℕ) (limits : Limits) (work space answered at at′ : ℕ) (r : B
         ∙ sym (all-snoc os marks (at, q));
   }
 
-  tracks-item : (i : Item) → first-fault (tests b limits work space list answered r i) ≡ 0
+  tracks-item : (i : Item) → first-fault (tests place b limits work space list answered r i) ≡ 0
       → Tracks at′ (origins-item os list at r i) (marks-item marks at i (item-answers earlier list i)) (recall-item earlier i (item-answers earlier list i)) (feed-item list r i)
   tracks-item (term o ks) e =
       subst (λ (q : Option Term). Tracks at′ (cond (has list r) os (os ++ (suc at ∷ []))) marks earlier (put list r q))
-      (sym (term-of-is list o ks (term-passed b limits work space list answered r o ks e .below))) (go (has list r))
+      (sym (term-of-is list o ks (term-passed place b limits work space list answered r o ks e .below))) (go (has list r))
     where
       go : (b : Bool) → Tracks at′ (cond b os (os ++ (suc at ∷ []))) marks earlier (cond b list (list ++ (entry (tree-of list o ks) r ∷ [])))
       go true = tracks-same
       go false = tracks-grown (entry (tree-of list o ks) r)
   tracks-item (step n ks) e =
-      let p = step-passed b limits work space list answered r n ks e in
+      let p = step-passed place b limits work space list answered r n ks e in
       let a = answer-to n (p .rule) (map (tree-at list) ks) in
       subst (λ (new : List Answer). Tracks at′ os (marks ++ map (λ (a : Answer). (at, leaves ks a)) new) (earlier ++ map (leaves ks) new) list)
       (sym (step-answer b space list answered n ks p)) (tracks-left (leaves ks a) (λ x. left-below (length list) ks a x (p .below)))
   tracks-item (chain n ps k) e =
-      let p = chain-passed b limits work space list answered r n ps k e in
+      let p = chain-passed place b limits work space list answered r n ps k e in
       let a = judged n (joined (p .rule) (premises-at earlier list ps) (tree-at list k)) (tree-at list k) in
       subst (λ (new : List Answer). Tracks at′ os (marks ++ map (λ (a : Answer). (at, leaves (k ∷ []) a)) new) (earlier ++ map (leaves (k ∷ [])) new) list)
       (sym (chain-answer b earlier space list answered n k ps p))
@@ -211,8 +211,8 @@ module _ (b : ℕ) (limits : Limits) (work space answered at at′ : ℕ) (r : B
   tracks-item misfit e = tracks-same
 
 -- one record that no code stops, at `at`, with the next one at `at′`
-pub tracks-next : (b : ℕ) (limits : Limits) (work space answered at at′ : ℕ) (r : Bytes) (os : List ℕ) (marks : List Mark) (earlier : Earlier) (list : Plain) → Tracks at os marks earlier list → at < at′
-    → fault b limits work space list answered r ≡ 0
+pub tracks-next : (place b : ℕ) (limits : Limits) (work space answered at at′ : ℕ) (r : Bytes) (os : List ℕ) (marks : List Mark) (earlier : Earlier) (list : Plain) → Tracks at os marks earlier list → at < at′
+    → fault place b limits work space list answered r ≡ 0
     → Tracks at′ (origins-item os list at r (read b r)) (marks-item marks at (read b r) (answers-to b earlier list r)) (recall b earlier list r) (feed b list r)
 unfolding fault recall answers-to feed
-tracks-next b limits work space answered at at′ r os marks earlier list t on e = tracks-item b limits work space answered at at′ r os marks earlier list t on (read b r) e
+tracks-next place b limits work space answered at at′ r os marks earlier list t on e = tracks-item place b limits work space answered at at′ r os marks earlier list t on (read b r) e

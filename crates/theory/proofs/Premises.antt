@@ -176,29 +176,29 @@ module _ (earlier : Earlier) (list : Plain) (g : AllGood list) (v : Valid earlie
           let h : Held list ks = subst (Held list) s (b .2 (z .0)) in
           subst (Held list) (first h (z .1)) h
 
-  valid-item : (b : ℕ) (limits : Limits) (work space answered : ℕ) (r : Bytes) (i : Item) → first-fault (tests b limits work space list answered r i) ≡ 0
+  valid-item : (place b : ℕ) (limits : Limits) (work space answered : ℕ) (r : Bytes) (i : Item) → first-fault (tests place b limits work space list answered r i) ≡ 0
       → Valid (recall-item earlier i (item-answers earlier list i)) (feed-item list r i)
-  valid-item b limits work space answered r (term o ks) e =
-      subst (λ (q : Option Term). Valid earlier (put list r q)) (sym (term-of-is list o ks (term-passed b limits work space list answered r o ks e .below)))
+  valid-item place b limits work space answered r (term o ks) e =
+      subst (λ (q : Option Term). Valid earlier (put list r q)) (sym (term-of-is list o ks (term-passed place b limits work space list answered r o ks e .below)))
       (put-cases (Valid earlier) list r (tree-of list o ks) v (λ n. valid-grown (entry (tree-of list o ks) r)))
-  valid-item b limits work space answered r (step n ks) e =
-      let p = step-passed b limits work space list answered r n ks e in
+  valid-item place b limits work space answered r (step n ks) e =
+      let p = step-passed place b limits work space list answered r n ks e in
       let a = answer-to n (p .rule) (map (tree-at list) ks) in
       subst (λ (new : List Answer). Valid (earlier ++ map (leaves ks) new) list) (sym (step-answer b space list answered n ks p))
       (valid-more (step n ks) ks a (to-step n (p .rule) ks (p .rule-is) (p .below)) (ap (λ (m : ℕ). some (m, ks)) (sym (answer-rule n (p .rule) (map (tree-at list) ks)))))
-  valid-item b limits work space answered r (chain n ps k) e =
-      let p = chain-passed b limits work space list answered r n ps k e in
+  valid-item place b limits work space answered r (chain n ps k) e =
+      let p = chain-passed place b limits work space list answered r n ps k e in
       let a = judged n (joined (p .rule) (premises-at earlier list ps) (tree-at list k)) (tree-at list k) in
       subst (λ (new : List Answer). Valid (earlier ++ map (leaves (k ∷ [])) new) list) (sym (chain-answer b earlier space list answered n k ps p))
       (valid-more (chain n ps k) (k ∷ []) a (to-chain n (p .rule) ps k (p .rule-is) (p .below)) refl)
-  valid-item b limits work space answered r (back n) e = valid-cut n
-  valid-item b limits work space answered r unknown e = v
-  valid-item b limits work space answered r misfit e = v
+  valid-item place b limits work space answered r (back n) e = valid-cut n
+  valid-item place b limits work space answered r unknown e = v
+  valid-item place b limits work space answered r misfit e = v
 
-valid-next : (b : ℕ) (limits : Limits) (work space : ℕ) (earlier : Earlier) (list : Plain) (answered : ℕ) (r : Bytes) → fault b limits work space list answered r ≡ 0 → AllGood list → Valid earlier list
+valid-next : (place b : ℕ) (limits : Limits) (work space : ℕ) (earlier : Earlier) (list : Plain) (answered : ℕ) (r : Bytes) → fault place b limits work space list answered r ≡ 0 → AllGood list → Valid earlier list
     → Valid (recall b earlier list r) (feed b list r)
 unfolding fault recall answers-to feed
-valid-next b limits work space earlier list answered r e g v = valid-item earlier list g v b limits work space answered r (read b r) e
+valid-next place b limits work space earlier list answered r e g v = valid-item earlier list g v place b limits work space answered r (read b r) e
 
 -- all through a run
 module _ (limits : Limits) (job : Bytes) (work space : ℕ) where
@@ -209,6 +209,6 @@ module _ (limits : Limits) (job : Bytes) (work space : ℕ) where
       let k = step-count (number-length job) (take m (records-of job)) in
       let list = plain-after m job in
       let n = plain-next limits job work space m r e in (
-        subst AllGood (sym n) (feed-good (number-length job) limits work space list k r p (w .0)),
-        subst₂ Valid (sym (earlier-next limits job work space m r e)) (sym n) (valid-next (number-length job) limits work space (earlier-after m job) list k r p (w .0) (w .1)),
+        subst AllGood (sym n) (feed-good m (number-length job) limits work space list k r p (w .0)),
+        subst₂ Valid (sym (earlier-next limits job work space m r e)) (sym n) (valid-next m (number-length job) limits work space (earlier-after m job) list k r p (w .0) (w .1)),
       ))

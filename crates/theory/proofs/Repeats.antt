@@ -19,6 +19,7 @@ use Rattle.theory.specs.Plain.{Plain, start, entry, has, put, feed-item,
 use Rattle.theory.specs.Codes.{first-fault, tests, fault}
 use Rattle.theory.specs.Job.{run}
 use Rattle.theory.specs.Claim.{repeats-from, news-from, is-term, term-count, Repeats, FewRepeats}
+use Rattle.theory.proofs.Lengths.{length-least}
 use Rattle.theory.proofs.Basics.{none-some, some-inj}
 use Rattle.theory.proofs.Bytes.{says-term}
 use Rattle.theory.proofs.Cut.{lengths}
@@ -34,10 +35,10 @@ longer : (m n : ℕ) → m < n → _≡_ {A = ℕ} (cond (ltb m n) 1 0) 1
 longer m n h = ap (λ (b : Bool). cond b 1 0) (le-leb (suc m) n h)
 
 -- a record without a fault: a term is a repeat or puts an entry, and no other record does either
-pub one-of : (b : ℕ) (limits : Limits) (work space : ℕ) (list : Plain) (answered : ℕ) (r : Bytes) → fault b limits work space list answered r ≡ 0
+pub one-of : (place b : ℕ) (limits : Limits) (work space : ℕ) (list : Plain) (answered : ℕ) (r : Bytes) → fault place b limits work space list answered r ≡ 0
     → repeat-of b list r + cond (ltb (length list) (length (feed b list r))) 1 0 ≡ cond (is-term (read b r)) 1 0
 unfolding repeat-of feed fault
-one-of b limits work space list answered r e = go (read b r) e
+one-of place b limits work space list answered r e = go (read b r) e
   where
     by-has : (t : Term) (h : Bool) → cond h 1 0 + cond (ltb (length list) (length (cond h list (list ++ (entry t r ∷ []))))) 1 0 ≡ 1
     by-has t true = ap (λ (k : ℕ). 1 + k) (not-longer (length list) (length list) (omega arith))
@@ -46,11 +47,11 @@ one-of b limits work space list answered r e = go (read b r) e
     same : _≡_ {A = ℕ} (0 + cond (ltb (length list) (length list)) 1 0) 0
     same = ap (λ (k : ℕ). 0 + k) (not-longer (length list) (length list) (omega arith))
 
-    go : (i : Item) → first-fault (tests b limits work space list answered r i) ≡ 0
+    go : (i : Item) → first-fault (tests place b limits work space list answered r i) ≡ 0
         → repeat-item list r i + cond (ltb (length list) (length (feed-item list r i))) 1 0 ≡ cond (is-term i) 1 0
     go (term o ks) f =
         subst (λ (q : Option Term). cond (has list r) 1 0 + cond (ltb (length list) (length (put list r q))) 1 0 ≡ 1)
-        (sym (term-of-is list o ks (term-passed b limits work space list answered r o ks f .below))) (by-has (tree-of list o ks) (has list r))
+        (sym (term-of-is list o ks (term-passed place b limits work space list answered r o ks f .below))) (by-has (tree-of list o ks) (has list r))
     go (step n ks) f = same
     go (chain n ps k) f = same
     go (back n) f = let l = length-take n list in ap (λ (k : ℕ). 0 + k) (not-longer (length list) (length (take n list)) (omega arith))
@@ -86,7 +87,7 @@ module _ (limits : Limits) (job : Bytes) (work space : ℕ) where
           let a = repeats-snoc b start rs r in
           let c = news-snoc b start rs r in
           let d = terms-snoc b rs r in
-          let o = one-of b limits work space (plain-after m job) _ r p in
+          let o = one-of m b limits work space (plain-after m job) _ r p in
           let z : Summed (rs ++ (r ∷ [])) = omega arith in
           subst Summed (sym (take-next limits job work space m r e)) z
 
@@ -175,7 +176,7 @@ few-repeats limits job work space = go (run limits job work space .records) (ran
         → run limits job work space .repeats ≤ 2796202
     go zero e s = omega arith
     go (suc m) e s =
-        let a = repeats-long (number-length job) (omega arith) start (take (suc m) (records-of job)) in
+        let a = repeats-long (number-length job) (length-least job) start (take (suc m) (records-of job)) in
         let b = total-take (suc m) (records-of job) in
         let c = lengths job in
         let d = s 0 (omega arith) in

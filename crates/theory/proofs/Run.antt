@@ -69,17 +69,17 @@ start-good = (tt, (tt, tt))
 pub record TermPassed (b : ℕ) (limits : Limits) (work : ℕ) (list : Plain) (r : Bytes) (o : Op) (ks : List ℕ) : Type 0 where
   pub below : T (all-below (length list) ks)
   pub sorted : T (good (sort-of (tree-of list o ks)))
-  pub narrow : T (leb (sort-width (sort-of (tree-of list o ks))) (capped limits .width))
-  pub roomy : T (has list r || room b (capped limits) work list)
+  pub narrow : T (leb (sort-width (sort-of (tree-of list o ks))) (capped b limits .width))
+  pub roomy : T (has list r || room b (capped b limits) work list)
 
-pub term-passed : (b : ℕ) (limits : Limits) (work space : ℕ) (list : Plain) (answered : ℕ) (r : Bytes) (o : Op) (ks : List ℕ)
-    → first-fault (tests b limits work space list answered r (term o ks)) ≡ 0 → TermPassed b limits work list r o ks
-term-passed b limits work space list answered r o ks e =
-    let w = well-sorted (capped limits) (term-of list o ks) in
-    let m = has list r || room b (capped limits) work list in
+pub term-passed : (place b : ℕ) (limits : Limits) (work space : ℕ) (list : Plain) (answered : ℕ) (r : Bytes) (o : Op) (ks : List ℕ)
+    → first-fault (tests place b limits work space list answered r (term o ks)) ≡ 0 → TermPassed b limits work list r o ks
+term-passed place b limits work space list answered r o ks e =
+    let w = well-sorted (capped b limits) (term-of list o ks) in
+    let m = has list r || room b (capped b limits) work list in
     let a = taken (all-below (length list) ks) 5 (cond w (cond m 0 8) 7) e in
     let c = taken w 6 (cond m 0 8) (a .1) in
-    let fits = subst (λ (q : Option Term). T (well-sorted (capped limits) q)) (term-of-is list o ks (a .0)) (c .0) in
+    let fits = subst (λ (q : Option Term). T (well-sorted (capped b limits) q)) (term-of-is list o ks (a .0)) (c .0) in
     record {
       below = a .0;
       sorted = and-l (good (sort-of (tree-of list o ks))) _ fits;
@@ -97,9 +97,9 @@ there : {A : Type 0} (q : Option A) → T (is-some q) → (a : A) × (q ≡ some
 there none h = absurd h
 there (some a) h = (a, refl)
 
-pub step-passed : (b : ℕ) (limits : Limits) (work space : ℕ) (list : Plain) (answered : ℕ) (r : Bytes) (n : ℕ) (ks : List ℕ)
-    → first-fault (tests b limits work space list answered r (step n ks)) ≡ 0 → StepPassed b space list answered n ks
-step-passed b limits work space list answered r n ks e =
+pub step-passed : (place b : ℕ) (limits : Limits) (work space : ℕ) (list : Plain) (answered : ℕ) (r : Bytes) (n : ℕ) (ks : List ℕ)
+    → first-fault (tests place b limits work space list answered r (step n ks)) ≡ 0 → StepPassed b space list answered n ks
+step-passed place b limits work space list answered r n ks e =
     let m = leb (answer-bytes b * suc answered) space in
     let a = taken (all-below (length list) ks) 5 (cond (is-some (rule-at n)) (cond m 0 19) 9) e in
     let c = taken (is-some (rule-at n)) 8 (cond m 0 19) (a .1) in
@@ -112,9 +112,9 @@ pub record ChainPassed (b space : ℕ) (list : Plain) (answered n k : ℕ) : Typ
   pub rule-is : chain-rule-at n ≡ some rule
   pub roomy : answer-bytes b * suc answered ≤ space
 
-pub chain-passed : (b : ℕ) (limits : Limits) (work space : ℕ) (list : Plain) (answered : ℕ) (r : Bytes) (n : ℕ) (ps : List ℕ) (k : ℕ)
-    → first-fault (tests b limits work space list answered r (chain n ps k)) ≡ 0 → ChainPassed b space list answered n k
-chain-passed b limits work space list answered r n ps k e =
+pub chain-passed : (place b : ℕ) (limits : Limits) (work space : ℕ) (list : Plain) (answered : ℕ) (r : Bytes) (n : ℕ) (ps : List ℕ) (k : ℕ)
+    → first-fault (tests place b limits work space list answered r (chain n ps k)) ≡ 0 → ChainPassed b space list answered n k
+chain-passed place b limits work space list answered r n ps k e =
     let m = leb (answer-bytes b * suc answered) space in
     let a = taken (all-below (length list) (k ∷ [])) 5 (cond (is-some (chain-rule-at n)) (cond m 0 19) 9) e in
     let c = taken (is-some (chain-rule-at n)) 8 (cond m 0 19) (a .1) in
@@ -158,15 +158,15 @@ put-cases P list r t old new = go (has list r) new
     go false f = f (λ z. z)
 
 -- what a record without a fault makes of the list: a property that a new term and a shorter list keep
-pub fed : (P : Plain → Type 0) (b : ℕ) (limits : Limits) (work space : ℕ) (list : Plain) (answered : ℕ) (r : Bytes) → fault b limits work space list answered r ≡ 0 → P list
+pub fed : (P : Plain → Type 0) (place b : ℕ) (limits : Limits) (work space : ℕ) (list : Plain) (answered : ℕ) (r : Bytes) → fault place b limits work space list answered r ≡ 0 → P list
     → ((o : Op) (ks : List ℕ) → read b r ≡ term o ks → TermPassed b limits work list r o ks → (T (has list r) → ⊥) → P (list ++ (entry (tree-of list o ks) r ∷ [])))
     → ((n : ℕ) → first-terms ≤ n → n ≤ length list → P (take n list)) → P (feed b list r)
 unfolding feed fault
-fed P b limits work space list answered r e old new shorter = go (read b r) e refl
+fed P place b limits work space list answered r e old new shorter = go (read b r) e refl
   where
-    go : (i : Item) → first-fault (tests b limits work space list answered r i) ≡ 0 → read b r ≡ i → P (feed-item list r i)
+    go : (i : Item) → first-fault (tests place b limits work space list answered r i) ≡ 0 → read b r ≡ i → P (feed-item list r i)
     go (term o ks) f d =
-        let p = term-passed b limits work space list answered r o ks f in
+        let p = term-passed place b limits work space list answered r o ks f in
         subst (λ (q : Option Term). P (put list r q)) (sym (term-of-is list o ks (p .below)))
         (put-cases P list r (tree-of list o ks) old (new o ks d p))
     go (step n ks) f d = old
@@ -177,26 +177,26 @@ fed P b limits work space list answered r e old new shorter = go (read b r) e re
     go unknown f d = old
     go misfit f d = old
 
-pub feed-good : (b : ℕ) (limits : Limits) (work space : ℕ) (list : Plain) (answered : ℕ) (r : Bytes) → fault b limits work space list answered r ≡ 0 → AllGood list → AllGood (feed b list r)
-feed-good b limits work space list answered r e h =
-    fed AllGood b limits work space list answered r e h
+pub feed-good : (place b : ℕ) (limits : Limits) (work space : ℕ) (list : Plain) (answered : ℕ) (r : Bytes) → fault place b limits work space list answered r ≡ 0 → AllGood list → AllGood (feed b list r)
+feed-good place b limits work space list answered r e h =
+    fed AllGood place b limits work space list answered r e h
     (λ o ks d p n. good-snoc list (entry (tree-of list o ks) r) h (p .sorted)) (λ n x y. good-take n list h)
 
 -- the answers to a record without a fault: one to a step, none to any other
-pub answers-cases : (P : List Answer → Type 0) (b : ℕ) (limits : Limits) (work space : ℕ) (earlier : Earlier) (list : Plain) (answered : ℕ) (r : Bytes) → fault b limits work space list answered r ≡ 0
+pub answers-cases : (P : List Answer → Type 0) (place b : ℕ) (limits : Limits) (work space : ℕ) (earlier : Earlier) (list : Plain) (answered : ℕ) (r : Bytes) → fault place b limits work space list answered r ≡ 0
     → ((a : Answer) → AnswerOf earlier list (read b r) a → P (a ∷ []))
     → (is-step (read b r) ≡ false → P []) → P (answers-to b earlier list r)
 unfolding answers-to fault
-answers-cases P b limits work space earlier list answered r e one other = go (read b r) e refl
+answers-cases P place b limits work space earlier list answered r e one other = go (read b r) e refl
   where
-    go : (i : Item) → first-fault (tests b limits work space list answered r i) ≡ 0 → read b r ≡ i → P (item-answers earlier list i)
+    go : (i : Item) → first-fault (tests place b limits work space list answered r i) ≡ 0 → read b r ≡ i → P (item-answers earlier list i)
     go (step n ks) f d =
-        let p = step-passed b limits work space list answered r n ks f in
+        let p = step-passed place b limits work space list answered r n ks f in
         let a = answer-to n (p .rule) (map (tree-at list) ks) in
         subst P (sym (step-answer b space list answered n ks p))
         (one a (subst (λ (i : Item). AnswerOf earlier list i a) (sym d) (to-step n (p .rule) ks (p .rule-is) (p .below))))
     go (chain n ps k) f d =
-        let p = chain-passed b limits work space list answered r n ps k f in
+        let p = chain-passed place b limits work space list answered r n ps k f in
         let a = judged n (joined (p .rule) (premises-at earlier list ps) (tree-at list k)) (tree-at list k) in
         subst P (sym (chain-answer b earlier space list answered n k ps p))
         (one a (subst (λ (i : Item). AnswerOf earlier list i a) (sym d) (to-chain n (p .rule) ps k (p .rule-is) (p .below))))
@@ -233,7 +233,7 @@ module _ (limits : Limits) (job : Bytes) (work space : ℕ) where
 
   -- record m, which is r, has no fault
   abbrev pub Passes : ℕ → Bytes → Type 0
-  Passes m r = fault b limits work space (plain-after m job) (step-count b (take m (records-of job))) r ≡ 0
+  Passes m r = fault m b limits work space (plain-after m job) (step-count b (take m (records-of job))) r ≡ 0
 
   -- after the records `pre`
   pub record Good (pre : List Bytes) (earlier : Earlier) (list : Plain) (answers : List Answer) : Type 0 where
@@ -258,7 +258,7 @@ module _ (limits : Limits) (job : Bytes) (work space : ℕ) where
       }
 
   module _ (pre : List Bytes) (earlier : Earlier) (list : Plain) (answers : List Answer) (r : Bytes) (rs : List Bytes)
-      (all : records-of job ≡ pre ++ (r ∷ rs)) (before : Good pre earlier list answers) (e : fault b limits work space list (length answers) r ≡ 0) where
+      (all : records-of job ≡ pre ++ (r ∷ rs)) (before : Good pre earlier list answers) (e : fault (length pre) b limits work space list (length answers) r ≡ 0) where
     so-far : take (length pre) (records-of job) ≡ pre
     so-far = ap (take (length pre)) all ∙ take-append-seam pre (r ∷ rs)
 
@@ -275,7 +275,7 @@ module _ (limits : Limits) (job : Bytes) (work space : ℕ) where
     count-now = ap (step-count b) so-far ∙ sym (before .counted)
 
     passes-now : Passes (length pre) r
-    passes-now = subst₂ (λ (l : Plain) (k : ℕ). fault b limits work space l k r ≡ 0) plain-now (sym count-now) e
+    passes-now = subst₂ (λ (l : Plain) (k : ℕ). fault (length pre) b limits work space l k r ≡ 0) plain-now (sym count-now) e
 
     -- the step that comes now
     new-answer : (a : Answer) → AnswerOf earlier list (read b r) a → Answered (suc (length pre)) (length answers) a
@@ -291,7 +291,7 @@ module _ (limits : Limits) (job : Bytes) (work space : ℕ) where
 
     after-exact : (k : ℕ) (a : Answer) → getElem? (answers ++ answers-to b earlier list r) k ≡ some a → Answered (suc (length pre)) k a
     after-exact k a =
-        answers-cases (λ (new : List Answer). getElem? (answers ++ new) k ≡ some a → Answered (suc (length pre)) k a) b limits work space earlier list (length answers) r e
+        answers-cases (λ (new : List Answer). getElem? (answers ++ new) k ≡ some a → Answered (suc (length pre)) k a) (length pre) b limits work space earlier list (length answers) r e
         (λ x p g. snoc-elim answers x k a g
         (λ h. later (length pre) (suc (length pre)) k a (omega arith) (before .exact k a h))
         (λ i j. subst₂ (Answered (suc (length pre))) (sym i) j (new-answer x p)))
@@ -300,7 +300,7 @@ module _ (limits : Limits) (job : Bytes) (work space : ℕ) where
 
     after-counted : length (answers ++ answers-to b earlier list r) ≡ step-count b (pre ++ (r ∷ []))
     after-counted =
-        answers-cases (λ (new : List Answer). length (answers ++ new) ≡ step-count b (pre ++ (r ∷ []))) b limits work space earlier list (length answers) r e
+        answers-cases (λ (new : List Answer). length (answers ++ new) ≡ step-count b (pre ++ (r ∷ []))) (length pre) b limits work space earlier list (length answers) r e
         (λ a p. length-append answers (a ∷ []) ∙ ap₂ _+_ (before .counted) (ap (λ (x : Bool). cond x 1 0) (sym (answered-step p))) ∙ sym (step-count-append b pre r))
         (λ d. length-append answers [] ∙ ap₂ _+_ (before .counted) (ap (λ (x : Bool). cond x 1 0) (sym d)) ∙ sym (step-count-append b pre r))
 
@@ -317,7 +317,7 @@ module _ (limits : Limits) (job : Bytes) (work space : ℕ) where
         record {
           plain = ap (λ (p : Plain). feed b p r) (before .plain) ∙ sym (foldl-append (feed b) start pre (r ∷ []));
           recalled = ap₂ (λ (x : Earlier) (l : Plain). recall b x l r) (before .recalled) (before .plain) ∙ sym (earlier-snoc b [] start pre r);
-          sorted = feed-good b limits work space list (length answers) r e (before .sorted);
+          sorted = feed-good (length pre) b limits work space list (length answers) r e (before .sorted);
           counted = after-counted;
           exact = λ k a f. subst (λ (n : ℕ). Answered n k a) (sym l) (after-exact k a f);
           passed = λ m s h f. after-passed m s (subst (λ (n : ℕ). m < n) l h) f;
@@ -362,11 +362,11 @@ module _ (limits : Limits) (job : Bytes) (work space : ℕ) where
 
   -- why it stops at record r, or where none is left
   why-fault : (pre : List Bytes) (earlier : Earlier) (list : Plain) (answers : List Answer) (r : Bytes) (rs : List Bytes) → length job ≤ max-job → records-of job ≡ pre ++ (r ∷ rs)
-      → Good pre earlier list answers → (c : ℕ) → fault b limits work space list (length answers) r ≡ suc c → Stops limits job work space (suc c) (length pre)
+      → Good pre earlier list answers → (c : ℕ) → fault (length pre) b limits work space list (length answers) r ≡ suc c → Stops limits job work space (suc c) (length pre)
   why-fault pre earlier list answers r rs short all g c e =
       let t : take (length pre) (records-of job) ≡ pre = ap (take (length pre)) all ∙ take-append-seam pre (r ∷ rs) in
       at-record short (ap (λ (l : List Bytes). getElem? l (length pre)) all ∙ getElem-seam pre r rs)
-      (subst₂ (λ (l : Plain) (k : ℕ). fault b limits work space l k r ≡ suc c) (g .plain ∙ ap (foldl (feed b) start) (sym t)) (g .counted ∙ ap (step-count b) (sym t)) e)
+      (subst₂ (λ (l : Plain) (k : ℕ). fault (length pre) b limits work space l k r ≡ suc c) (g .plain ∙ ap (foldl (feed b) start) (sym t)) (g .counted ∙ ap (step-count b) (sym t)) e)
       (g .passed)
 
   why-end : (pre : List Bytes) (earlier : Earlier) (list : Plain) (answers : List Answer) → length job ≤ max-job → records-of job ≡ pre ++ [] → Good pre earlier list answers
@@ -381,16 +381,19 @@ module _ (limits : Limits) (job : Bytes) (work space : ℕ) where
         subst (λ (m : ℕ). Ran (outcome (ending job) m repeats answers list)) (sym d)
         (stopped (ending job) repeats pre [] n earlier list answers all g (λ m l. short) (ending-code job) (why-end pre earlier list answers short all g))
     runs (r ∷ rs) pre earlier list answers done repeats d n all g =
-        by-fault (fault b limits work space list (length answers) r)
+        by-fault (fault done b limits work space list (length answers) r)
         (run-from b limits work space (ending job) (suc done) (repeats + repeat-of b list r) (recall b earlier list r) (feed b list r) (answers ++ answers-to b earlier list r) rs) (λ c. outcome (suc c) done repeats answers list)
         (λ e. runs rs (pre ++ (r ∷ [])) (recall b earlier list r) (feed b list r) (answers ++ answers-to b earlier list r) (suc done) (repeats + repeat-of b list r)
         (ap suc d ∙ sym (length-append pre (r ∷ []) ∙ add-one (length pre)))
         (ap₂ (λ (k : ℕ) (l : Plain). k + repeat-of b l r) n (g .plain) ∙ sym (repeats-snoc b start pre r))
         (all ∙ sym (append-assoc pre (r ∷ []) rs))
-        (next pre earlier list answers r rs all g e))
+        (next pre earlier list answers r rs all g (here e)))
         (λ c e. subst (λ (m : ℕ). Ran (outcome (suc c) m repeats answers list)) (sym d)
-        (stopped (suc c) repeats pre (r ∷ rs) n earlier list answers all g (λ m l. short) (subst Stop e (fault-code b limits work space list (length answers) r))
-        (why-fault pre earlier list answers r rs short all g c e)))
+        (stopped (suc c) repeats pre (r ∷ rs) n earlier list answers all g (λ m l. short) (subst Stop e (fault-code done b limits work space list (length answers) r))
+        (why-fault pre earlier list answers r rs short all g c (here e))))
+      where
+        here : {c : ℕ} → fault done b limits work space list (length answers) r ≡ c → fault (length pre) b limits work space list (length answers) r ≡ c
+        here {c} = subst (λ (p : ℕ). fault p b limits work space list (length answers) r ≡ c) d
 
   good-start : Good [] [] start []
   good-start = record { plain = refl; recalled = refl; sorted = start-good; counted = refl; exact = λ k a f. absurd (none-some a f); passed = λ m r l f. absurd (omega arith) }
@@ -443,4 +446,4 @@ module _ (limits : Limits) (job : Bytes) (work space : ℕ) where
   pub sorted-after : (m : ℕ) → m ≤ run limits job work space .records → AllGood (plain-after m job)
   sorted-after =
       plain-ind (λ m. AllGood (plain-after m job)) start-good
-      (λ m r l e p h. subst AllGood (sym (plain-next m r e)) (feed-good b limits work space (plain-after m job) (step-count b (take m (records-of job))) r p h))
+      (λ m r l e p h. subst AllGood (sym (plain-next m r e)) (feed-good m b limits work space (plain-after m job) (step-count b (take m (records-of job))) r p h))

@@ -5,7 +5,7 @@ use mathlib.Core.List.{[], _∷_}
 use Prim.Native.Nat.{ℕ}
 use native.Mathlib.Omega.{arith}
 use Rattle.theory.specs.Limit.{rack}
-use Rattle.theory.specs.Record.{Bytes, cut, shape-of, read}
+use Rattle.theory.specs.Record.{Bytes, cut, shape-of, read, number-length}
 use Rattle.theory.specs.Codes.{fault}
 use Rattle.theory.specs.Answer.{Answer}
 use Rattle.theory.specs.Demand.{Demand3}
@@ -15,7 +15,7 @@ abbrev job : Bytes
 job = 0x04 ∷ 0x00 ∷ 0x14 ∷ 0x00 ∷ 0x07 ∷ 0x00 ∷ 0x06 ∷ 0x00 ∷ 0x18 ∷ 0x00 ∷ 0x02 ∷ 0x00 ∷ 0x01 ∷ 0x00 ∷ 0x06 ∷ 0x00 ∷ 0x64 ∷ 0x00 ∷ 0x08 ∷ 0x00 ∷ 0x03 ∷ 0x00 ∷ []
 
 pub shut-out : (a : Answer) → Demand3 rack job 64 64 3 (a ∷ []) → ⊥
-unfolding cut shape-of read fault
+unfolding cut shape-of read number-length fault
 shut-out a d =
     let e : _≡_ {A = ℕ} 6 0 = d .each 0 a refl .reached .passes 0 (0x04 ∷ 0x00 ∷ 0x14 ∷ 0x00 ∷ 0x07 ∷ 0x00 ∷ []) (omega arith) refl in
     omega arith

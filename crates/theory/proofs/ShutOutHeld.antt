@@ -41,7 +41,7 @@ place-is : (p : ℕ) → 2 ∷ [] ≡ p ∷ [] → 2 ≡ p
 place-is p e = cc
 
 not-held : Held (plain-after 1 job) (2 ∷ []) → ⊥
-unfolding cut shape-of read feed
+unfolding cut shape-of read number-length feed
 not-held h =
     let p : 2 ≡ h .place = place-is (h .place) (h .one-literal) in
     let e : at-place (plain-after 1 job) 2 ≡ some (two Equals (h .left) (h .right)) = ap (at-place (plain-after 1 job)) p ∙ h .on-list in
@@ -51,7 +51,7 @@ not-held h =
 
 at-step : (m : ℕ) (bytes : Bytes) (n : ℕ) (ks : List ℕ) → m < 2 → getElem? (records-of job) m ≡ some bytes → claim-of (read (number-length job) bytes) ≡ some (n, ks)
     → Held (plain-after m job) ks → ⊥
-unfolding cut shape-of read
+unfolding cut shape-of read number-length
 at-step zero bytes n ks l s r h = none-some (n, ks) (ap (λ (bs : Bytes). claim-of (read (number-length job) bs)) (some-inj _ _ s) ∙ r)
 at-step (suc zero) bytes n ks l s r h =
     not-held (subst (Held (plain-after 1 job)) (sym (literals-are n ks (ap (λ (bs : Bytes). claim-of (read (number-length job) bs)) (some-inj _ _ s) ∙ r))) h)

@@ -162,12 +162,12 @@ module _ (limits : Limits) (job : Bytes) (work space m : ℕ) (r : Bytes) (e : g
           ap (getElem? (E ++ (leaves ks a ∷ []))) i ∙ getElem-seam E (leaves ks a) []
           ∙ ap some (ap (λ (v : Bool). cond v (getElem? ks 0) none) (eq-eqb (a .code) 0 z) ∙ ap (λ (js : List ℕ). getElem? js 0) (sym l) ∙ h .first)
 
-  one-new : fault b limits work space (plain-after m job) (step-count b (take m (records-of job))) r ≡ 0 → is-step (read b r) ≡ true → (a : Answer) × (answers-to b E (plain-after m job) r ≡ a ∷ [])
+  one-new : fault m b limits work space (plain-after m job) (step-count b (take m (records-of job))) r ≡ 0 → is-step (read b r) ≡ true → (a : Answer) × (answers-to b E (plain-after m job) r ≡ a ∷ [])
   one-new p =
-      answers-cases (λ (new : List Answer). is-step (read b r) ≡ true → (a : Answer) × (new ≡ a ∷ [])) b limits work space E (plain-after m job) (step-count b (take m (records-of job))) r p
+      answers-cases (λ (new : List Answer). is-step (read b r) ≡ true → (a : Answer) × (new ≡ a ∷ [])) m b limits work space E (plain-after m job) (step-count b (take m (records-of job))) r p
       (λ a h s. (a, refl)) (λ f s. absurd (let q : false ≡ true = sym f ∙ s in let z : _≡_ {A = ℕ} 0 1 = cc in omega arith))
 
-  next-told : fault b limits work space (plain-after m job) (step-count b (take m (records-of job))) r ≡ 0 → Tells job (suc m) (recall b E (plain-after m job) r)
+  next-told : fault m b limits work space (plain-after m job) (step-count b (take m (records-of job))) r ≡ 0 → Tells job (suc m) (recall b E (plain-after m job) r)
   unfolding recall
   next-told p = go (read b r) refl
     where

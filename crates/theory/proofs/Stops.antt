@@ -25,17 +25,17 @@ first-stop (t ∷ ts) h = go (t .0) (h .0) (first-stop ts (h .1))
     go true p q = q
     go false p q = p
 
-tests-stop : (b : ℕ) (limits : Limits) (work space : ℕ) (list : Plain) (answered : ℕ) (r : Bytes) (i : Item) → AllStops (tests b limits work space list answered r i)
-tests-stop b limits work space list answered r unknown = (tt, tt)
-tests-stop b limits work space list answered r misfit = (tt, tt)
-tests-stop b limits work space list answered r (term o ks) = (tt, (tt, (tt, tt)))
-tests-stop b limits work space list answered r (step n ks) = (tt, (tt, (tt, tt)))
-tests-stop b limits work space list answered r (chain n ps k) = (tt, (tt, (tt, tt)))
-tests-stop b limits work space list answered r (back n) = (tt, tt)
+tests-stop : (place b : ℕ) (limits : Limits) (work space : ℕ) (list : Plain) (answered : ℕ) (r : Bytes) (i : Item) → AllStops (tests place b limits work space list answered r i)
+tests-stop place b limits work space list answered r unknown = (tt, (tt, tt))
+tests-stop place b limits work space list answered r misfit = (tt, tt)
+tests-stop place b limits work space list answered r (term o ks) = (tt, (tt, (tt, tt)))
+tests-stop place b limits work space list answered r (step n ks) = (tt, (tt, (tt, tt)))
+tests-stop place b limits work space list answered r (chain n ps k) = (tt, (tt, (tt, tt)))
+tests-stop place b limits work space list answered r (back n) = (tt, tt)
 
-pub fault-code : (b : ℕ) (limits : Limits) (work space : ℕ) (list : Plain) (answered : ℕ) (r : Bytes) → Stop (fault b limits work space list answered r)
+pub fault-code : (place b : ℕ) (limits : Limits) (work space : ℕ) (list : Plain) (answered : ℕ) (r : Bytes) → Stop (fault place b limits work space list answered r)
 unfolding fault
-fault-code b limits work space list answered r = first-stop (tests b limits work space list answered r (read b r)) (tests-stop b limits work space list answered r (read b r))
+fault-code place b limits work space list answered r = first-stop (tests place b limits work space list answered r (read b r)) (tests-stop place b limits work space list answered r (read b r))
 
 pub ending-code : (job : Bytes) → Stop (ending job)
 ending-code job = go (eqb (total-length (records-of job)) (length job))

@@ -34,6 +34,7 @@ use Rattle.theory.proofs.Demand.{demand-3}
 use Rattle.theory.proofs.Demands.{demand-2}
 use Rattle.theory.proofs.Premises.{answer-rule}
 use Rattle.theory.proofs.Distinct.{WellKept, kept-at, tree-0, tree-1, plain-well}
+use Rattle.theory.proofs.Lengths.{terms-counted}
 use Rattle.theory.proofs.Bounds.{terms-fit, run-fits, place-depth}
 use Rattle.theory.proofs.Codes.{code-known}
 
@@ -155,10 +156,10 @@ one-small list w n {a = a} h =
     record { rule-small = d .0; code-small = element-below 65536 answer-codes tt (a .code) (code-known h); depth-small = omega (arith, d .1) }
 
 -- those of the answers to a record that no code stops
-pub new-small : (b : ℕ) (limits : Limits) (work space : ℕ) (earlier : Earlier) (list : Plain) (answered : ℕ) (r : Bytes) → fault b limits work space list answered r ≡ 0 → WellKept b list
+pub new-small : (place b : ℕ) (limits : Limits) (work space : ℕ) (earlier : Earlier) (list : Plain) (answered : ℕ) (r : Bytes) → fault place b limits work space list answered r ≡ 0 → WellKept b list
     → length list < 256 ^ b → AllSmall b (answers-to b earlier list r)
-new-small b limits work space earlier list answered r e w n =
-    answers-cases (AllSmall b) b limits work space earlier list answered r e
+new-small place b limits work space earlier list answered r e w n =
+    answers-cases (AllSmall b) place b limits work space earlier list answered r e
     (λ a h k c f. only k f (one-small list w n h)) (λ d k c f. absurd (none-some c f))
   where
     only : {a c : Answer} (k : ℕ) → getElem? (a ∷ []) k ≡ some c → Small b a → Small b c
@@ -172,8 +173,7 @@ module _ (limits : Limits) (job : Bytes) (bytes : AllBytes job) (work space : �
       let list = plain-after (h .m) job in
       let l = h .m-done in
       let w = plain-well limits job bytes work space (h .m) (omega arith) in
-      let n = terms-fit limits job work space (h .m) (omega arith) .numbers-fit in
-      one-small list w (omega arith) (h .is)
+      one-small list w (terms-counted job limits (length list) (terms-fit limits job work space (h .m) (omega arith) .numbers-fit)) (h .is)
 
   -- the answers' memory reads back as the answers
   pub answers-read : (old : Bytes) → let o = run limits job work space in

@@ -55,7 +55,7 @@ OneNumber = (limits : Limits) (job : Bytes) → AllBytes job → (work space m i
 pub record Fits (b : ℕ) (limits : Limits) (work space : ℕ) (o : Outcome) : Type 0 where
   pub answers-fit : answer-bytes b * length (o .answers) ≤ space
   pub terms-fit : term-bytes b * (o .terms - first-terms) ≤ work
-  pub numbers-fit : o .terms ≤ max first-terms (capped limits .terms)
+  pub numbers-fit : o .terms ≤ max first-terms (capped b limits .terms)
 
 -- of every job
 abbrev pub LentEnough : Type 0
@@ -66,7 +66,7 @@ LentEnough = (limits : Limits) (job : Bytes) (work space : ℕ) → Fits (number
 -- after any number of the records done, no bit-vector on the list is wider than the limit; how many terms there are, `Fits` says
 abbrev pub NoWider : Type 0
 NoWider = (limits : Limits) (job : Bytes) (work space m i : ℕ) (t : Term) → m ≤ run limits job work space .records
-    → at-place (plain-after m job) i ≡ some t → sort-width (sort-of t) ≤ capped limits .width
+    → at-place (plain-after m job) i ≡ some t → sort-width (sort-of t) ≤ capped (number-length job) limits .width
 
 -- a job that stops with neither 7 nor 8 comes to the same under any larger limits: what is returned, and both memories
 abbrev pub LimitsOnly : Type 0

@@ -19,7 +19,7 @@ pub record Reached (limits : Limits) (job : Bytes) (work space m : ℕ) (r : Byt
   pub short : length job ≤ max-job
   pub stands : getElem? (records-of job) m ≡ some r
   pub passes : (i : ℕ) (s : Bytes) → i ≤ m → getElem? (records-of job) i ≡ some s
-      → let b = number-length job in fault b limits work space (plain-after i job) (step-count b (take i (records-of job))) s ≡ 0
+      → let b = number-length job in fault i b limits work space (plain-after i job) (step-count b (take i (records-of job))) s ≡ 0
 
 -- the literals at these places are one, an equality whose two sides have the same value under every assignment
 pub record Held (list : Plain) (places : List ℕ) : Type 0 where

@@ -18,7 +18,7 @@ use Rattle.theory.specs.Demand.{Reached}
 -- the code that stops the job at record m, which is r, from the plain list just then; 0 where none does
 abbrev pub fault-at : Limits → Bytes → ℕ → ℕ → ℕ → Bytes → ℕ
 fault-at limits job work space m r =
-    let b = number-length job in fault b limits work space (plain-after m job) (step-count b (take m (records-of job))) r
+    let b = number-length job in fault m b limits work space (plain-after m job) (step-count b (take m (records-of job))) r
 
 -- the job stops with this code after so many records: it is too long; or the record after them has that code, and none before has one; or no
 -- whole record is left, and bytes are or not

@@ -83,7 +83,7 @@ outcome stop done repeats answers list = record { stop = stop; records = done; a
 unfoldable pub run-from : ℕ → Limits → ℕ → ℕ → ℕ → ℕ → ℕ → Earlier → Plain → List Answer → List Bytes → Outcome
 run-from b limits work space end done repeats earlier list answers [] = outcome end done repeats answers list
 run-from b limits work space end done repeats earlier list answers (r ∷ rs) =
-    elim (fault b limits work space list (length answers) r) [
+    elim (fault done b limits work space list (length answers) r) [
       | zero ↦
           run-from b limits work space end (suc done) (repeats + repeat-of b list r) (recall b earlier list r) (feed b list r)
           (answers ++ answers-to b earlier list r) rs

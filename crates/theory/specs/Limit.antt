@@ -1,5 +1,7 @@
 -- The limits of document 01, each named once, and those that a caller states (document 02, P8).
+use mathlib.Core.Bool.{cond}
 use Prim.Native.Nat.{ℕ, _+_, _*_, min}
+use lib.Dec.{eqb}
 
 -- the greatest width
 abbrev pub max-width : ℕ
@@ -8,10 +10,6 @@ max-width = 64
 -- the greatest number of arguments, or of literals
 abbrev pub max-arguments : ℕ
 max-arguments = 64
-
--- the greatest number of terms, `true` and `false` counted
-abbrev pub max-terms : ℕ
-max-terms = 65535
 
 -- `true` and `false`, which are there from the start
 abbrev pub first-terms : ℕ
@@ -25,7 +23,7 @@ max-job = 16777216
 abbrev pub number-bytes : ℕ
 number-bytes = 2
 
--- the most bytes of a term's number that a job may decide on
+-- the bytes of a term's number in a job that asks for long ones (document 02, P10)
 abbrev pub long-bytes : ℕ
 long-bytes = 4
 
@@ -33,7 +31,11 @@ long-bytes = 4
 abbrev pub value-bytes : ℕ
 value-bytes = 8
 
--- ---- by b, the bytes of a term's number
+-- ---- by b, the bytes of a term's number: two, or four
+-- the greatest number of terms, `true` and `false` counted
+abbrev pub max-terms : ℕ → ℕ
+max-terms b = cond (eqb b long-bytes) 1000000 65535
+
 -- the bytes of work memory that a kept term costs
 abbrev pub term-bytes : ℕ → ℕ
 term-bytes b = 4 + 2 * b
@@ -52,10 +54,10 @@ pub record Limits : Type 0 where
 abbrev pub stated : ℕ → ℕ → Limits
 stated width terms = record { width = width; terms = terms }
 
--- the rack's
+-- the rack's, of which the second is that of the longer numbers
 abbrev pub rack : Limits
-rack = stated max-width max-terms
+rack = stated max-width (max-terms long-bytes)
 
--- a limit above the rack's is the rack's
-abbrev pub capped : Limits → Limits
-capped limits = stated (min (limits .width) (rack .width)) (min (limits .terms) (rack .terms))
+-- a limit above the rack's is the rack's, by the job's numbers
+abbrev pub capped : ℕ → Limits → Limits
+capped b limits = stated (min (limits .width) max-width) (min (limits .terms) (max-terms b))

@@ -1,13 +1,15 @@
 -- Document 01, "The job": a job's bytes cut into records, and what a record says.
--- A record is a two-byte length L and L bytes: a two-byte kind and a body. The numbers of terms in a body have b bytes each, as the job decides.
+-- A record is a two-byte length L and L bytes: a two-byte kind and a body. The numbers of terms in a body have b bytes each, as the job decides: two,
+-- or four where it begins with the record that asks for them (document 02, P10).
 use mathlib.Core.Bool.{Bool, true, false, _&&_, cond}
-use mathlib.Core.List.{List, [], _∷_}
+use mathlib.Core.List.{List, [], _∷_, _++_}
 use mathlib.Core.Option.{Option, none, some}
 use Prim.Native.Nat.{ℕ, zero, suc, _+_, _-_, _*_, _/_, _%_, _<_}
 use lib.Dec.{leb, eqb}
 use lib.ListN.{length, take, drop}
-use Rattle.theory.specs.Limit.{max-arguments, number-bytes, value-bytes}
+use Rattle.theory.specs.Limit.{max-arguments, number-bytes, long-bytes, value-bytes}
 use Rattle.theory.specs.Kind.{Op, Not, And, Or, Xor, Equals, Ite, BoolVar, BvVar, Const, BvBitOf, BvBbTerm, BvNot, BvNeg, BvAnd, BvOr, BvXor, BvAdd, BvMul, BvXNor, BvComp, BvULt, BvSLt, BvShl, BvLShr, BvAShr, BvUDiv, BvURem, BvConcat, BvExtract, SignExtend, ZeroExtend, RotateLeft, RotateRight, Repeat, kind, arity, many, takes}
+use Rattle.theory.specs.Term.{same-numbers}
 
 -- bytes; a record too is its bytes
 abbrev pub Bytes : Type 0
@@ -220,6 +222,14 @@ step-count b [] = 0
 step-count b (r ∷ rs) = cond (is-step (read b r)) (suc (step-count b rs)) (step-count b rs)
 
 -- ---- the number length of a job
--- the bytes of a term's number: two, in every job
-abbrev pub number-length : Bytes → ℕ
-number-length job = number-bytes
+-- the kind of a record that asks for long numbers: as a job's first, and with no body
+abbrev pub long-kind : ℕ
+long-kind = 103
+
+-- that record: 02 00 67 00
+abbrev pub long-record : Bytes
+long-record = word-bytes number-bytes ++ word-bytes long-kind
+
+-- the bytes of a term's number: four where the job begins with that record, else two
+unfoldable pub number-length : Bytes → ℕ
+number-length job = cond (same-numbers (take (length long-record) job) long-record) long-bytes number-bytes

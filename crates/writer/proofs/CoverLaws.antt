@@ -12,22 +12,22 @@ use borrow.Author.Tests.{eq-eqb, ne-eqb}
 use lib.Seq.{take-append-le, drop-append-le, take-all, take-nil, drop-length, drop-at}
 use types.Run.{OneOf}
 use denote.Enum.Declared.{tagOf}
-use Rattle.theory.specs.Limit.{first-terms, max-job}
+use Rattle.theory.specs.Limit.{first-terms, number-bytes, max-job}
 use Rattle.theory.specs.Term.{same-numbers}
 use Rattle.theory.specs.Optional.{either}
 use Rattle.theory.specs.Record.{Bytes, extent, cut, kind-of, step-kind, number-length}
 use Rattle.terms.specs.Framing.{record-at}
-use Rattle.rows.specs.Layout.{link-bytes, link-size, missing}
+use Rattle.rows.specs.Layout.{link-bytes, missing}
 use Rattle.rows.specs.Rows as R
 use Rattle.rows.proofs.RowLaws.{length-kept}
-use Rattle.table.specs.Buckets.{Table}
+use Rattle.table.specs.Buckets.{TableAs, Table}
 use Rattle.table.specs.Promise.{count-after, list-after, memory-after, Grown}
 use Rattle.table.specs.declared.kept.Added.{Added}
 use Rattle.table.specs.declared.kept.Added.the-variants.{Found, New, Spent}
 use Rattle.table.proofs.kept.Added as E
 use Rattle.text.specs.Writing.{Lone, Clean, kept, place-from}
 use Rattle.text.proofs.Records.{empty-clean, clean-more, kept-more, kept-step}
-use Rattle.writer.specs.Places.{Covered}
+use Rattle.writer.specs.Places.{row-records, Covered}
 use Rattle.writer.proofs.Frame.{same-kept, same-table}
 
 nothing : {A : Type 0} (l : List A) → length l ≡ 0 → l ≡ []
@@ -47,7 +47,7 @@ part-is (suc a) (suc b) (x ∷ l) h = let e : suc b - suc a ≡ b - a = omega ar
 
 -- ---- a wiped work memory
 pub covered-none : {work : Bytes} → Table [] work 0 → Covered [] work 0 0
-unfolding R.kept-as R.column
+unfolding R.kept-as R.column number-length
 covered-none t = record { before = omega arith; table = t; split = refl; rest = empty-clean }
 
 -- ---- one record more
@@ -61,8 +61,8 @@ module _ {job work : Bytes} {rows covered : ℕ} (g : Covered job work rows cove
   before-more : covered ≤ length (job ++ r)
   before-more = let b = g .before in let n : length (job ++ r) ≡ length job + length r = length-append job r in omega arith
 
-  table-more : Table (take covered (job ++ r)) work rows
-  table-more = subst (λ (x : Bytes). Table x work rows) (sym front) (g .table)
+  table-more : TableAs number-bytes (take covered (job ++ r)) work rows
+  table-more = subst (λ (x : Bytes). TableAs number-bytes x work rows) (sym front) (g .table)
 
   rest-more : Clean (drop covered (job ++ r))
   rest-more = subst Clean (sym back) (clean-more (drop covered job) r (g .rest) l)
@@ -73,7 +73,7 @@ module _ {job work : Bytes} {rows covered : ℕ} (g : Covered job work rows cove
     before = before-more;
     table = table-more;
     split = kept-step job r c l k ∙ g .split
-        ∙ ap₂ (λ (x : Bytes) (y : List Bytes). R.kept x work rows ++ y) (sym front) (sym (ap kept back ∙ kept-step (drop covered job) r (g .rest) l k));
+        ∙ ap₂ (λ (x : Bytes) (y : List Bytes). row-records x work rows ++ y) (sym front) (sym (ap kept back ∙ kept-step (drop covered job) r (g .rest) l k));
     rest = rest-more;
   }
 
@@ -83,8 +83,8 @@ module _ {job work : Bytes} {rows covered : ℕ} (g : Covered job work rows cove
     covered-more = record {
       before = before-more;
       table = table-more;
-      split = kept-more job r c l f ∙ ap (λ (x : List Bytes). x ++ (r ∷ [])) (g .split) ∙ append-assoc (R.kept (take covered job) work rows) (kept (drop covered job)) (r ∷ [])
-          ∙ ap₂ (λ (x : Bytes) (y : List Bytes). R.kept x work rows ++ y) (sym front) (sym (ap kept back ∙ kept-more (drop covered job) r (g .rest) l f));
+      split = kept-more job r c l f ∙ ap (λ (x : List Bytes). x ++ (r ∷ [])) (g .split) ∙ append-assoc (row-records (take covered job) work rows) (kept (drop covered job)) (r ∷ [])
+          ∙ ap₂ (λ (x : Bytes) (y : List Bytes). row-records x work rows ++ y) (sym front) (sym (ap kept back ∙ kept-more (drop covered job) r (g .rest) l f));
       rest = rest-more;
     }
 
@@ -93,13 +93,13 @@ module _ {job work : Bytes} {rows covered : ℕ} (g : Covered job work rows cove
       whole-is : take covered job ++ (drop covered job ++ r) ≡ job ++ r
       whole-is = sym (append-assoc (take covered job) (drop covered job) r) ∙ ap (λ (x : Bytes). x ++ r) (take-append-drop covered job)
 
-      pub covered-table : Table (job ++ r) work rows
+      pub covered-table : TableAs number-bytes (job ++ r) work rows
       covered-table =
-          subst (λ (x : Bytes). Table x work rows) whole-is
+          subst (λ (x : Bytes). TableAs number-bytes x work rows) whole-is
           (same-table (take covered job) (drop covered job ++ r) (g .table .rows) (subst (λ (x : Bytes). length x ≤ max-job) (sym whole-is) short) (g .table))
 
-      rows-same : R.kept (take covered job) work rows ≡ R.kept (job ++ r) work rows
-      rows-same = same-kept (take covered job) (drop covered job ++ r) (g .table .rows) ∙ ap (λ (x : Bytes). R.kept x work rows) whole-is
+      rows-same : row-records (take covered job) work rows ≡ row-records (job ++ r) work rows
+      rows-same = same-kept (take covered job) (drop covered job ++ r) (g .table .rows) ∙ ap (λ (x : Bytes). row-records x work rows) whole-is
 
       record-is : record-at (job ++ r) (length job) ≡ r
       record-is =
@@ -111,32 +111,32 @@ module _ {job work : Bytes} {rows covered : ℕ} (g : Covered job work rows cove
           let n : length (job ++ r) ≡ length job + length r = length-append job r in
           omega arith
 
-      all-rows : rows ≡ length (kept job) → kept job ≡ R.kept (take covered job) work rows
+      all-rows : rows ≡ length (kept job) → kept job ≡ row-records (take covered job) work rows
       all-rows e =
           let k : length (kept job) ≡ rows + length (kept (drop covered job))
-          = ap length (g .split) ∙ length-append (R.kept (take covered job) work rows) (kept (drop covered job))
-          ∙ ap (λ (n : ℕ). n + length (kept (drop covered job))) (length-kept (link-size (take covered job)) (take covered job) work rows) in
-          g .split ∙ ap (λ (x : List Bytes). R.kept (take covered job) work rows ++ x) (nothing (kept (drop covered job)) (omega arith)) ∙ append-nil (R.kept (take covered job) work rows)
+          = ap length (g .split) ∙ length-append (row-records (take covered job) work rows) (kept (drop covered job))
+          ∙ ap (λ (n : ℕ). n + length (kept (drop covered job))) (length-kept (link-bytes number-bytes) (take covered job) work rows) in
+          g .split ∙ ap (λ (x : List Bytes). row-records (take covered job) work rows ++ x) (nothing (kept (drop covered job)) (omega arith)) ∙ append-nil (row-records (take covered job) work rows)
 
-      pub covered-row : {work′ : Bytes} {a : Added} {limit p : ℕ} → rows ≡ length (kept job) → Grown (number-length (job ++ r)) (job ++ r) work work′ rows limit (length job) 0 a → a ≡ New p
+      pub covered-row : {work′ : Bytes} {a : Added} {limit p : ℕ} → rows ≡ length (kept job) → Grown number-bytes (job ++ r) work work′ rows limit (length job) 0 a → a ≡ New p
           → Covered (job ++ r) work′ (rows + 1) (length (job ++ r))
       unfolding count-after list-after
       covered-row {work′} {a} {limit} {p} e h d =
-          let t : Grown (number-length (job ++ r)) (job ++ r) work work′ rows limit (length job) 0 (New p) = subst (Grown (number-length (job ++ r)) (job ++ r) work work′ rows limit (length job) 0) d h in
+          let t : Grown number-bytes (job ++ r) work work′ rows limit (length job) 0 (New p) = subst (Grown number-bytes (job ++ r) work work′ rows limit (length job) 0) d h in
           let n = length (job ++ r) in
           let all : take n (job ++ r) ≡ job ++ r = take-all n (job ++ r) (omega arith) in
           let none-left : drop n (job ++ r) ≡ [] = drop-length (job ++ r) in
           record {
             before = omega arith;
-            table = subst (λ (x : Bytes). Table x work′ (rows + 1)) (sym all) (t .table);
+            table = subst (λ (x : Bytes). TableAs number-bytes x work′ (rows + 1)) (sym all) (t .table);
             split = kept-more job r c l f ∙ ap₂ (λ (x : List Bytes) (y : Bytes). x ++ (y ∷ [])) (all-rows e ∙ rows-same) (sym record-is) ∙ sym (t .kept-is)
-                ∙ sym (append-nil (R.kept (job ++ r) work′ (rows + 1)))
-                ∙ ap₂ (λ (x : Bytes) (y : List Bytes). R.kept x work′ (rows + 1) ++ y) (sym all) (sym (ap kept none-left ∙ kept-nothing));
+                ∙ sym (append-nil (row-records (job ++ r) work′ (rows + 1)))
+                ∙ ap₂ (λ (x : Bytes) (y : List Bytes). row-records x work′ (rows + 1) ++ y) (sym all) (sym (ap kept none-left ∙ kept-nothing));
             rest = subst Clean (sym none-left) empty-clean;
           }
 
 -- no row was added: the work memory is as it was
-pub unchanged : {job work work′ : Bytes} {n limit at : ℕ} (a : Added) → OneOf (0 ∷ 2 ∷ []) (tagOf E.the-type a) → Grown (number-length job) job work work′ n limit at 0 a → work′ ≡ work
+pub unchanged : {job work work′ : Bytes} {n limit at : ℕ} (a : Added) → OneOf (0 ∷ 2 ∷ []) (tagOf E.the-type a) → Grown number-bytes job work work′ n limit at 0 a → work′ ≡ work
 unfolding memory-after
 unchanged (Found p) k h = h .memory-is
 unchanged (New p) (inl k) h = absurd (omega arith)
@@ -171,26 +171,26 @@ module _ {job work : Bytes} {rows covered : ℕ} (g : Covered job work rows cove
   unfolding link-bytes
   few-rows = g .table .rows .few
 
-  by-rows : place-from first-terms w (R.kept (take covered job) work rows)
-      ≡ cond (eqb (R.place-of w (R.kept (take covered job) work rows)) missing) none (some (R.place-of w (R.kept (take covered job) work rows)))
+  by-rows : place-from first-terms w (row-records (take covered job) work rows)
+      ≡ cond (eqb (R.place-of w (row-records (take covered job) work rows)) missing) none (some (R.place-of w (row-records (take covered job) work rows)))
   by-rows =
-      let n : length (R.kept (take covered job) work rows) ≡ rows = length-kept (link-size (take covered job)) (take covered job) work rows in
+      let n : length (row-records (take covered job) work rows) ≡ rows = length-kept (link-bytes number-bytes) (take covered job) work rows in
       let f = few-rows in
-      row-place first-terms w (R.kept (take covered job) work rows) (omega arith)
+      row-place first-terms w (row-records (take covered job) work rows) (omega arith)
 
   in-parts : place-from first-terms w (kept job)
-      ≡ either (place-from (rows + 2) w (kept (drop covered job))) some (place-from first-terms w (R.kept (take covered job) work rows))
+      ≡ either (place-from (rows + 2) w (kept (drop covered job))) some (place-from first-terms w (row-records (take covered job) work rows))
   in-parts =
-      let n : first-terms + length (R.kept (take covered job) work rows) ≡ rows + 2 = ap (λ (m : ℕ). 2 + m) (length-kept (link-size (take covered job)) (take covered job) work rows) ∙ omega arith in
-      ap (place-from first-terms w) (g .split) ∙ place-append first-terms w (R.kept (take covered job) work rows) (kept (drop covered job))
-      ∙ ap (λ (m : ℕ). either (place-from m w (kept (drop covered job))) some (place-from first-terms w (R.kept (take covered job) work rows))) n
+      let n : first-terms + length (row-records (take covered job) work rows) ≡ rows + 2 = ap (λ (m : ℕ). 2 + m) (length-kept (link-bytes number-bytes) (take covered job) work rows) ∙ omega arith in
+      ap (place-from first-terms w) (g .split) ∙ place-append first-terms w (row-records (take covered job) work rows) (kept (drop covered job))
+      ∙ ap (λ (m : ℕ). either (place-from m w (kept (drop covered job))) some (place-from first-terms w (row-records (take covered job) work rows))) n
 
-  pub found-row : {p : ℕ} → p ≡ R.place-of w (R.kept (take covered job) work rows) → (p ≡ missing → ⊥) → some p ≡ place-from first-terms w (kept job)
+  pub found-row : {p : ℕ} → p ≡ R.place-of w (row-records (take covered job) work rows) → (p ≡ missing → ⊥) → some p ≡ place-from first-terms w (kept job)
   found-row {p} e f =
       sym (in-parts ∙ ap (either (place-from (rows + 2) w (kept (drop covered job))) some)
       (by-rows ∙ ap (λ (m : ℕ). cond (eqb m missing) none (some m)) (sym e) ∙ ap (λ (z : Bool). cond z none (some p)) (ne-eqb p missing f)))
 
-  pub found-rest : {p : ℕ} → p ≡ R.place-of w (R.kept (take covered job) work rows) → p ≡ missing
+  pub found-rest : {p : ℕ} → p ≡ R.place-of w (row-records (take covered job) work rows) → p ≡ missing
       → place-from (rows + 2) w (kept (drop covered job)) ≡ place-from first-terms w (kept job)
   found-rest {p} e f =
       sym (in-parts ∙ ap (either (place-from (rows + 2) w (kept (drop covered job))) some)

@@ -10,10 +10,10 @@ use lib.Dec.{eqb}
 use lib.ListN.{length, take, drop, getD, set, length-append, length-drop}
 use lib.Seq.{sets, sets-eq, length-sets, drop-drop, take-at, drop-at, take-suc, take-take, take-add, length-take-le, take-all}
 use borrow.Author.Tests.{eq-eqb, ne-eqb, le-leb, lt-leb}
-use Rattle.theory.specs.Limit.{first-terms, max-arguments, max-job, value-bytes}
+use Rattle.theory.specs.Limit.{first-terms, number-bytes, max-arguments, max-job, value-bytes}
 use Rattle.theory.specs.Kind.{Op, kind}
 use Rattle.theory.specs.Term.{same-numbers}
-use Rattle.theory.specs.Record.{Bytes, little-endian, word, bytes-of, word-bytes, extent, whole, records-of, kind-of, step-kind, shape-of, number-length}
+use Rattle.theory.specs.Record.{Bytes, little-endian, word, bytes-of, word-bytes, extent, whole, records-of, kind-of, step-kind, shape-of}
 use Rattle.terms.specs.declared.Frame.{Frame}
 use Rattle.terms.specs.declared.Frame.the-variants.{Broken, Whole}
 use Rattle.terms.specs.Framing.{frame-of}
@@ -26,7 +26,7 @@ use Rattle.text.proofs.Records.{stands, clean-more, kept-more}
 use Rattle.text.proofs.Encoding.{words-length, record-length}
 use Rattle.rows.specs.Layout.{link-bytes, missing}
 use Rattle.rows.specs.Rows as R
-use Rattle.table.specs.Buckets.{Table}
+use Rattle.table.specs.Buckets.{TableAs}
 use Rattle.table.specs.Promise.{Grown}
 use Rattle.table.specs.declared.kept.Added.{Added}
 use Rattle.table.specs.declared.kept.Added.the-variants.{New}
@@ -35,7 +35,7 @@ use Rattle.words.proofs.WordLaws.{piece-length}
 use Rattle.writer.specs.declared.places.Spot.{Spot}
 use Rattle.writer.specs.declared.places.Put.the-variants as P
 use Rattle.names.specs.Kinds.{kind-at, kinds-end}
-use Rattle.writer.specs.Places.{so-far, Covered, Ready, Longer, Grows, Puts, key-bytes, front-size, Encoded}
+use Rattle.writer.specs.Places.{so-far, row-records, Covered, Ready, Longer, Grows, Puts, key-bytes, front-size, Encoded}
 use Rattle.writer.proofs.Moves.{moved-none}
 use Rattle.writer.proofs.Moves.{AllFrom, each}
 use Rattle.writer.proofs.CoverLaws.{part-is, covered-more, covered-table, record-ends, covered-row, found-row, found-rest}
@@ -296,8 +296,8 @@ module _ {out work : Bytes} {s : Spot} {end : ℕ} (g : Longer out work s end) w
     fits-job : length (so-far out s ++ last) ≤ max-job
     fits-job = let l = job-long in let m = last-long in let o = g .on in let n : length (so-far out s ++ last) ≡ length (so-far out s) + length last = length-append (so-far out s) last in omega arith
 
-    pub add-ready : Table (take end out) work (s .rows)
-    add-ready = subst (λ (x : Bytes). Table x work (s .rows)) (sym far) (covered-table (g .ready .rows) last (g .ready .clean) (g .lone) no-step fits-job)
+    pub add-ready : TableAs number-bytes (take end out) work (s .rows)
+    add-ready = subst (λ (x : Bytes). TableAs number-bytes x work (s .rows)) (sym far) (covered-table (g .ready .rows) last (g .ready .clean) (g .lone) no-step fits-job)
 
     pub add-ends : s .done + extent (drop (s .done) (take end out)) ≤ length (take end out)
     add-ends =
@@ -305,16 +305,16 @@ module _ {out work : Bytes} {s : Spot} {end : ℕ} (g : Longer out work s end) w
         (subst (λ (n : ℕ). n + extent (drop n (so-far out s ++ last)) ≤ length (so-far out s ++ last)) job-long
         (record-ends (g .ready .rows) last (g .ready .clean) (g .lone) no-step fits-job))
 
-    pub grows-row : {work′ : Bytes} {a : Added} {limit p : ℕ} → s .rows ≡ s .terms → Grown (number-length (take end out)) (take end out) work work′ (s .rows) limit (s .done) 0 a → a ≡ New p
+    pub grows-row : {work′ : Bytes} {a : Added} {limit p : ℕ} → s .rows ≡ s .terms → Grown number-bytes (take end out) work work′ (s .rows) limit (s .done) 0 a → a ≡ New p
         → Grows out work′ end (record { done = end; terms = s .terms + 1; rows = s .terms + 1; covered = end })
     grows-row {work′} {a} {limit} {p} e h d =
         let j = job-long in
         let m = last-long in
         let o = g .on in
         let n : length (so-far out s ++ last) ≡ end = length-append (so-far out s) last ∙ omega arith in
-        let k : Grown (number-length (so-far out s ++ last)) (so-far out s ++ last) work work′ (s .rows) limit (length (so-far out s)) 0 a
-        = subst (λ (x : Bytes). Grown (number-length x) x work work′ (s .rows) limit (length (so-far out s)) 0 a) far
-        (subst (λ (i : ℕ). Grown (number-length (take end out)) (take end out) work work′ (s .rows) limit i 0 a) (sym j) h) in
+        let k : Grown number-bytes (so-far out s ++ last) work work′ (s .rows) limit (length (so-far out s)) 0 a
+        = subst (λ (x : Bytes). Grown number-bytes x work work′ (s .rows) limit (length (so-far out s)) 0 a) far
+        (subst (λ (i : ℕ). Grown number-bytes (take end out) work work′ (s .rows) limit i 0 a) (sym j) h) in
         let c : Covered (so-far out s ++ last) work′ (s .rows + 1) (length (so-far out s ++ last))
         = covered-row (g .ready .rows) last (g .ready .clean) (g .lone) no-step fits-job (e ∙ g .ready .counted) k d in
         let q : s .rows + 1 ≡ s .terms + 1 = omega arith in
@@ -328,21 +328,21 @@ module _ {out work : Bytes} {s : Spot} (g : Ready out work s) where
   covered-is : take (s .covered) (so-far out s) ≡ take (s .covered) out
   covered-is = take-take (s .covered) (s .done) out covered-on
 
-  pub find-table : Table (take (s .covered) out) work (s .rows)
-  find-table = subst (λ (x : Bytes). Table x work (s .rows)) covered-is (g .rows .table)
+  pub find-table : TableAs number-bytes (take (s .covered) out) work (s .rows)
+  find-table = subst (λ (x : Bytes). TableAs number-bytes x work (s .rows)) covered-is (g .rows .table)
 
   pub find-bounds : (s .covered ≤ s .done) × (s .done ≤ length out) × (first-terms + s .rows < 65536)
   unfolding link-bytes
   find-bounds = (covered-on, g .within, g .rows .table .rows .few)
 
-  pub find-row : (w : Bytes) {p : ℕ} → p ≡ R.place-of w (R.kept (take (s .covered) out) work (s .rows)) → (p ≡ missing → ⊥) → some p ≡ place-from first-terms w (kept (so-far out s))
-  find-row w e f = found-row (g .rows) w (e ∙ ap (λ (x : Bytes). R.place-of w (R.kept x work (s .rows))) (sym covered-is)) f
+  pub find-row : (w : Bytes) {p : ℕ} → p ≡ R.place-of w (row-records (take (s .covered) out) work (s .rows)) → (p ≡ missing → ⊥) → some p ≡ place-from first-terms w (kept (so-far out s))
+  find-row w e f = found-row (g .rows) w (e ∙ ap (λ (x : Bytes). R.place-of w (row-records x work (s .rows))) (sym covered-is)) f
 
-  pub find-rest : (w : Bytes) {p : ℕ} → p ≡ R.place-of w (R.kept (take (s .covered) out) work (s .rows)) → p ≡ missing
+  pub find-rest : (w : Bytes) {p : ℕ} → p ≡ R.place-of w (row-records (take (s .covered) out) work (s .rows)) → p ≡ missing
       → place-from (s .rows + 2) w (kept (piece (s .covered) (s .done) out)) ≡ place-from first-terms w (kept (so-far out s))
   find-rest w e f =
       ap (λ (x : Bytes). place-from (s .rows + 2) w (kept x)) (part-is (s .covered) (s .done) out covered-on)
-      ∙ found-rest (g .rows) w (e ∙ ap (λ (x : Bytes). R.place-of w (R.kept x work (s .rows))) (sym covered-is)) f
+      ∙ found-rest (g .rows) w (e ∙ ap (λ (x : Bytes). R.place-of w (row-records x work (s .rows))) (sym covered-is)) f
 
 -- ---- the numbers in a kind
 unfoldable pub by-size : ℕ → ℕ → ℕ → Bytes

@@ -6,11 +6,13 @@ use mathlib.Core.List.{List, _++_}
 use Prim.Native.Nat.{ℕ, _≤_, _<_}
 use lib.Dec.{eqb}
 use lib.ListN.{length, take, drop}
+use Rattle.theory.specs.Limit.{number-bytes}
 use Rattle.theory.specs.Record.{Bytes, kind-of, step-kind}
 use Rattle.theory.specs.Kind.{Op}
 use Rattle.text.specs.Writing.{Lone, Clean, kept, Placed, placed, term-record}
-use Rattle.rows.specs.Rows as R
-use Rattle.table.specs.Buckets.{Table}
+use Rattle.rows.specs.Layout.{link-bytes}
+use Rattle.rows.specs.Rows.{kept-as}
+use Rattle.table.specs.Buckets.{TableAs}
 use Rattle.words.specs.Words.{piece}
 use Rattle.writer.specs.declared.places.Spot.{Spot}
 use Rattle.writer.specs.declared.places.Put as put
@@ -20,11 +22,15 @@ use Rattle.writer.specs.declared.places.Put.the-variants.{Full, At}
 abbrev pub so-far : Bytes → Spot → Bytes
 so-far out s = take (s .done) out
 
+-- the records that rows name: a job that is written has terms' numbers of two bytes
+abbrev pub row-records : Bytes → Bytes → ℕ → List Bytes
+row-records job work n = kept-as (link-bytes number-bytes) job work n
+
 -- the terms of the first bytes of a job have a row each in the work memory, and a table over the rows finds them; the records after them are found by a walk
 pub record Covered (job work : Bytes) (rows covered : ℕ) : Type 0 where
   pub before : covered ≤ length job
-  pub table : Table (take covered job) work rows
-  pub split : kept job ≡ R.kept (take covered job) work rows ++ kept (drop covered job)
+  pub table : TableAs number-bytes (take covered job) work rows
+  pub split : kept job ≡ row-records (take covered job) work rows ++ kept (drop covered job)
   pub rest : Clean (drop covered job)
 
 -- the job so far lies in the memory, is whole records, and its terms are counted and found

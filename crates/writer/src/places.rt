@@ -4,7 +4,7 @@ ghost use mathlib.Core.Path.{_≡_};
 ghost use Prim.Native.Nat.{_+_, _≤_, _<_};
 ghost use lib.ListN.{length, take};
 ghost use lib.Seq.{sets};
-ghost use Rattle.theory.specs.Limit.{first-terms, max-terms, max-arguments};
+ghost use Rattle.theory.specs.Limit.{first-terms, number-bytes, max-terms, max-arguments};
 ghost use Rattle.theory.specs.Record.{kind-of, step-kind};
 ghost use Rattle.theory.specs.Codes.{all-below};
 ghost use Rattle.text.specs.Reading.{number-end};
@@ -17,7 +17,7 @@ use rows::FIRST_PLACE;
 use rows::MISSING;
 use rows::bytes::put_number;
 use table::Added;
-use table::add;
+use table::add_as;
 use table::find_record;
 use terms::Frame;
 use terms::Term;
@@ -63,7 +63,7 @@ pub enum Put {
 // The number of the term whose record equals `wanted`, the first of the job having the number `first`: a walk over the records, in which
 // steps have no number.
 fn walk_records(job: &[u8], first: usize, wanted: &[u8]) -> Found
-    requires { ⌜ first ≤ max-terms ⌝ }
+    requires { ⌜ first ≤ max-terms number-bytes ⌝ }
     ensures { λ r. ⌜ told-place r ≡ place-from first (now (wanted .entry)) (kept (now (job .entry))) ⌝ }
 {
     let mut at: usize = 0;
@@ -91,7 +91,7 @@ fn find_term(wanted: &[u8], out: &[u8], work: &[u8], spot: Spot) -> Found
 {
     let covered = spot.covered;
     let done = spot.done;
-    let place = find_record(&out[..covered], work, spot.rows, wanted);
+    let place = find_record(&out[..covered], work, Term::NUMBER_BYTES, spot.rows, wanted);
     if place != MISSING {
         return Found::At(place as usize);
     }
@@ -131,7 +131,15 @@ fn cover(out: &[u8], work: &mut [u8], spot: Spot, end: usize) -> Spot
     if MAX_COVERED < end {
         return plain;
     }
-    let added = add(&out[..end], work, rows, Term::MAX_TERMS, done, 0);
+    let added = add_as(
+        &out[..end],
+        work,
+        Term::NUMBER_BYTES,
+        rows,
+        Term::MAX_TERMS,
+        done,
+        0,
+    );
     if let Added::New(_) = added {
         return Spot {
             done: end,

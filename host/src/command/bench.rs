@@ -1,9 +1,9 @@
 //! `bbhost bench`: how long jobs take.
 use super::{
-    Failure, Status, about, fill, grouped, interrupt, number, progress::Progress, sweeps, texts, unknown, value,
+    Failure, Status, about, fill, grouped, interrupt, number, progress::Progress, sweeps, terms, texts, unknown, value,
 };
 use bitblast_host::{
-    Answers,
+    Answers, Format,
     jobs::{self, CONG},
     run_job,
     words::{self, ORIGINAL_RULES, RULES},
@@ -22,8 +22,8 @@ use std::{
 
 /// How the command is used.
 pub const USAGE: &str = "  bbhost bench [--work BYTES] [--against COMMAND] [--write DIR]
-      Measures a list of jobs, the same with exactly the work memory that their terms need, sweeps beside a plain Rust
-      evaluator of the same terms, and texts. --against also runs
+      Measures a list of jobs, the same with exactly the work memory that their terms need, terms entered and looked up in
+      both formats, sweeps beside a plain Rust evaluator of the same terms, and texts. --against also runs
       `COMMAND FILE RUNS` on each job that has only rules of the original, as with `oracle bench`, and prints the ratio.
       --write only writes the jobs as files.";
 
@@ -102,9 +102,10 @@ pub fn run(words: &[OsString], out: &mut impl Write) -> Result<Status, Failure> 
     let status = measure_all(&mut memory, other.as_ref(), out)?;
     drop(other);
     let filled = fill::measure_all(&mut memory.1, out)?;
+    let entered = terms::measure_all(out)?;
     let swept = sweeps::measure_all(&mut memory, out)?;
     let converted = texts::measure_all(out)?;
-    Ok(status.max(filled).max(swept).max(converted))
+    Ok(status.max(filled).max(entered).max(swept).max(converted))
 }
 
 /// Another program, and a folder of the jobs for it, which goes when the measuring ends, by an interrupt too.
@@ -156,7 +157,7 @@ fn measure_all(
         }
         progress.show(|| name.clone());
         let outcome = run_job(&job, &mut memory.0, &mut memory.1);
-        let accepted = Answers::new(&memory.1, outcome.answers).all(|answer| answer.code <= 1);
+        let accepted = Answers::new(Format::of(&job), &memory.1, outcome.answers).all(|answer| answer.code <= 1);
         if outcome.stop != 0 || !accepted {
             writeln!(out, "{name:<20} NOT MEASURED, the job is not accepted: {outcome:?}")?;
             status = Status::Failed;

@@ -1,6 +1,6 @@
 //! A case of the oracle: a job, the memory lent, what is expected of it, and questions about its final store or about the job under limits.
 use bitblast_host::{
-    ANSWER_BYTES, Answers, Limits, Outcome, count_job, known_job, lent::Lent, run_job, run_job_within, sweep_job,
+    Answers, Format, Limits, Outcome, count_job, known_job, lent::Lent, run_job, run_job_within, sweep_job,
 };
 
 /// What is expected of a job.
@@ -243,13 +243,13 @@ impl<'a> Call<'a> {
     /// Where the outcome, the answers or the memories are not as expected.
     fn job_difference(&self, outcome: Outcome, expected: &Came) -> Option<String> {
         let Call { work, answers, .. } = self;
-        let written = ANSWER_BYTES * outcome.answers as usize;
+        let format = Format::of(self.job);
+        let written = format.answer_bytes() * outcome.answers as usize;
         if outcome.numbers() != expected.outcome {
             Some(format!("expected {:?}, found {outcome:?}", expected.outcome))
         } else if answers.bytes().get(..written) != Some(&expected.answers[..]) {
-            let pairs =
-                Answers::new(&expected.answers, outcome.answers).zip(Answers::new(answers.bytes(), outcome.answers));
-            let first = pairs.into_iter().find(|(a, b)| a != b);
+            let listed = |bytes| Answers::new(format, bytes, outcome.answers);
+            let first = listed(&expected.answers).zip(listed(answers.bytes())).find(|(a, b)| a != b);
             Some(format!("answers differ, the first (expected, found): {first:?}"))
         } else if !answers.untouched_from(written) {
             Some("answer bytes past the last answer are not as they were".to_owned())

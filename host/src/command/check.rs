@@ -32,10 +32,11 @@ pub const USAGE: &str = "  bbhost check [--explain | --json | --jsonl | -q] [--s
       -q         prints nothing
       --steps N  demands exactly N answers of each job, so that a job that lost its end does not pass
       --timeout S  checks each job in a process of its own, which is ended where it takes longer than S seconds
-      --work, --answers   lend that much memory only (a kept term takes 8 bytes, an answer 10)
+      --work, --answers   lend that much memory only (a kept term takes 8 bytes and an answer 10; 12 and 12 in a job whose
+                 term numbers have four bytes)
       --files-from LIST  also checks the files that LIST names, one a line: `find DIR -type f | bbhost check --files-from -`
       --width W  stops a job at a bit-vector wider than W (code 7), --terms T at a new term beyond T, true and false
-                 counted (code 8); above 64 and 65,535 they are these
+                 counted (code 8); above 64, and above 65,535 or in four bytes 1,000,000, they are these
       Exit status 0: every job ran to its end, has a step (or the demanded number), and every step is held. 1: not so; a job
       without a step was not checked. 2: usage, or a file that cannot be read. 3: a job took longer than --timeout allows.";
 

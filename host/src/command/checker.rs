@@ -1,6 +1,9 @@
 //! Who checks the jobs of `bbhost check`: this process, or a child of it for each job, which is ended where it takes too long.
 use super::{Failure, Status, number, unknown};
-use bitblast_host::{Limits, Outcome, Refused, Report, Seeds, Service, Tally, run_job_within, tally_answers};
+use bitblast_host::{
+    Format, Limits, Outcome, Refused, Report, Seeds, Service, Tally, format::useful_work_bytes, run_job_within,
+    tally_answers,
+};
 use std::{
     env,
     ffi::OsString,
@@ -87,7 +90,7 @@ impl Checker {
                 let outcome = take_outcome(&mut bytes).map_err(Trouble::Failed)?;
                 *answers = bytes;
                 tally_answers(tally, answers, outcome.answers);
-                Ok(Report::new(outcome, answers, *tally))
+                Ok(Report::new(Format::of(job), outcome, answers, *tally))
             }
         }
     }
@@ -157,11 +160,12 @@ pub fn work(words: &[OsString], out: &mut impl Write) -> Result<Status, Failure>
     if let Some(word) = rest.next() {
         return Err(unknown(word));
     }
-    let (mut job, mut work, mut answers) = (Vec::new(), vec![0; work], vec![0; room]);
+    let mut job = Vec::new();
     io::stdin().lock().read_to_end(&mut job)?;
+    let (mut work, mut answers) = (vec![0; work.min(useful_work_bytes(&job))], vec![0; room]);
     Seeds::default().put(&mut work);
     let outcome = run_job_within(&job, &mut work, &mut answers, limits);
     outcome.numbers().iter().try_for_each(|number| out.write_all(&number.to_le_bytes()))?;
-    out.write_all(&answers[..bitblast_host::ANSWER_BYTES * outcome.answers as usize])?;
+    out.write_all(&answers[..Format::of(&job).answer_bytes() * outcome.answers as usize])?;
     Ok(Status::Fine)
 }

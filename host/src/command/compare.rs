@@ -6,7 +6,7 @@ use super::{
     progress::Progress,
     text_case, unknown, value,
 };
-use bitblast_host::{Answers, Outcome, words};
+use bitblast_host::{Answers, Format, Outcome, words};
 use std::{
     collections::BTreeMap,
     ffi::OsString,
@@ -95,7 +95,8 @@ fn compare(path: &Path, seed: u64, counts: &mut Counts) -> Result<Option<String>
     }
     let expected = Expected::parse(&text).ok_or_else(other)?;
     let mut call = Call::new(&job, &expected, seed);
-    let mut difference = call.job(|outcome, answers| counts.add(outcome, answers));
+    let format = Format::of(&job);
+    let mut difference = call.job(|outcome, answers| counts.add(format, outcome, answers));
     for question in &expected.questions {
         match question {
             Question::Within { .. } => counts.limits += 1,
@@ -110,6 +111,8 @@ fn compare(path: &Path, seed: u64, counts: &mut Counts) -> Result<Option<String>
 #[derive(Default)]
 struct Counts {
     jobs: u64,
+    /// Those of them whose term numbers have four bytes.
+    long: u64,
     questions: u64,
     /// Runs under stated limits.
     limits: u64,
@@ -119,17 +122,19 @@ struct Counts {
 }
 
 impl Counts {
-    fn add(&mut self, outcome: Outcome, answers: &[u8]) {
+    fn add(&mut self, format: Format, outcome: Outcome, answers: &[u8]) {
         self.jobs += 1;
+        self.long += u64::from(format == Format::FourBytes);
         *self.stops.entry(outcome.stop).or_default() += 1;
-        for answer in Answers::new(answers, outcome.answers) {
+        for answer in Answers::new(format, answers, outcome.answers) {
             *self.answers.entry((answer.rule, answer.code)).or_default() += 1;
         }
     }
 
     fn text(&self) -> String {
-        let Counts { jobs, differences, questions, limits, .. } = self;
-        let mut text = format!("jobs {jobs}\ndifferences {differences}\nquestions {questions}\nlimits {limits}\n");
+        let Counts { jobs, long, differences, questions, limits, .. } = self;
+        let mut text =
+            format!("jobs {jobs}\ndifferences {differences}\nquestions {questions}\nlimits {limits}\nlong {long}\n");
         for (stop, n) in &self.stops {
             text.push_str(&format!("stop {stop} {n}\n"));
         }
@@ -144,6 +149,7 @@ impl Counts {
         for line in text.lines() {
             match line.split(' ').collect::<Vec<_>>()[..] {
                 ["jobs", n] => counts.jobs = n.parse().ok()?,
+                ["long", n] => counts.long = n.parse().ok()?,
                 ["differences", n] => counts.differences = n.parse().ok()?,
                 ["questions", n] => counts.questions = n.parse().ok()?,
                 ["limits", n] => counts.limits = n.parse().ok()?,
@@ -188,6 +194,9 @@ impl Counts {
         }
         if self.limits > 0 {
             write!(out, "{} runs under stated limits; ", grouped(self.limits))?;
+        }
+        if self.long > 0 {
+            write!(out, "{} jobs with term numbers of four bytes; ", grouped(self.long))?;
         }
         writeln!(out, "in all {} jobs, {} differences", grouped(self.jobs), self.differences)
     }

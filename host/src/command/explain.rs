@@ -31,7 +31,7 @@ pub fn explain(reader: &mut Reader, item: &Item, answer: &Answer) -> Vec<String>
             lines.extend(premises.iter().map(|&place| premise(reader, place)));
             lines
         }
-        Item::Term { .. } | Item::Back { .. } => vec![],
+        Item::Term { .. } | Item::Back { .. } | Item::FourBytes => vec![],
     }
 }
 

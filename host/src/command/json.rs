@@ -89,6 +89,7 @@ pub fn checked(checked: &Checked) -> Vec<(&'static str, String)> {
         ("answers", outcome.answers.to_string()),
         ("terms", outcome.terms.to_string()),
         ("repeats", outcome.repeats.to_string()),
+        ("number_bytes", report.format().number_bytes().to_string()),
         ("all_held", success.to_string()),
         ("steps", format!("[{}]", steps.join(","))),
     ]

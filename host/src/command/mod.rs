@@ -21,6 +21,7 @@ pub mod soak;
 pub mod sweep;
 mod sweeps;
 mod table;
+mod terms;
 mod text_case;
 mod texts;
 

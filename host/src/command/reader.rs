@@ -1,7 +1,7 @@
 //! A job's records one after the other, and the terms that they build.
 use bitblast_host::{
-    Kind,
-    jobs::{JobWriter, Term},
+    Format, Kind,
+    jobs::{JobWriter, Term, own_bytes},
 };
 
 /// A record: its place among the records from 1, its place in the job's bytes, and its own bytes.
@@ -13,19 +13,18 @@ pub struct Record<'a> {
 }
 
 impl Record<'_> {
-    /// The two-byte number at a place of the record, the length being 0 and the kind 1; 0 where there is none.
-    fn word(&self, at: usize) -> u16 {
-        self.bytes.get(2 * at..2 * at + 2).map_or(0, |bytes| u16::from_le_bytes([bytes[0], bytes[1]]))
-    }
-
     /// The kind, if it is one.
     pub fn kind(&self) -> Option<Kind> {
-        Kind::try_from(self.word(1)).ok()
+        let number = self.bytes.get(2..4).map_or(0, |bytes| u16::from_le_bytes([bytes[0], bytes[1]]));
+        Kind::try_from(number).ok()
     }
 
-    /// The body's numbers.
-    fn body(&self) -> Vec<u16> {
-        (2..self.bytes.len() / 2).map(|at| self.word(at)).collect()
+    /// The body's numbers of two bytes, and after them the numbers of terms.
+    fn body(&self, kind: Kind, format: Format) -> (Vec<u16>, Vec<u32>) {
+        let body = &self.bytes[4..];
+        let (own, terms) = body.split_at(own_bytes(kind, body));
+        let words = own.chunks(2).map(|bytes| u16::from_le_bytes([bytes[0], bytes[1]])).collect();
+        (words, terms.chunks(format.number_bytes()).map(|bytes| format.number(bytes)).collect())
     }
 
     /// Whether it is answered: a step or a chain.
@@ -52,7 +51,7 @@ pub fn records(job: &[u8]) -> impl Iterator<Item = Record<'_>> {
 pub enum Item {
     /// A term, with its number, and whether it was there already.
     Term {
-        number: u16,
+        number: u32,
         repeats: bool,
     },
     /// A step, with its literals.
@@ -65,42 +64,49 @@ pub enum Item {
         literal: Term,
     },
     Back {
-        terms: u16,
+        terms: u32,
     },
+    /// The first record of a job whose term numbers have four bytes.
+    FourBytes,
 }
 
 /// The terms that a job keeps, and the literals of its steps. It reads records that the library has done.
 pub struct Reader {
+    format: Format,
     pub terms: JobWriter,
     /// The literals of the steps and chains so far.
     pub claims: Vec<Vec<Term>>,
 }
 
 impl Reader {
-    pub fn new() -> Self {
-        Reader { terms: JobWriter::new(), claims: Vec::new() }
+    /// A reader of a job of that format.
+    pub fn new(format: Format) -> Self {
+        Reader { format, terms: JobWriter::of(format), claims: Vec::new() }
     }
 
     /// Reads the next record.
     pub fn read(&mut self, record: Record) -> Item {
-        let body = record.body();
-        match record.kind().expect("the library has done this record") {
+        let kind = record.kind().expect("the library has done this record");
+        let (words, numbers) = record.body(kind, self.format);
+        match kind {
+            Kind::FourBytes => Item::FourBytes,
             Kind::Step => {
-                let literals = self.kept(&body[1..]);
+                let literals = self.kept(&numbers);
                 self.claims.push(literals.clone());
                 Item::Step { literals }
             }
             Kind::Chain => {
-                let literal = self.kept(&body[body.len() - 1..])[0];
+                let literal = self.kept(&numbers)[0];
                 self.claims.push(vec![literal]);
-                Item::Chain { premises: body[2..body.len() - 1].to_vec(), literal }
+                Item::Chain { premises: words[2..].to_vec(), literal }
             }
             Kind::Back => {
-                self.terms.back(body[0].into());
-                Item::Back { terms: body[0] }
+                self.terms.back(numbers[0] as usize);
+                Item::Back { terms: numbers[0] }
             }
             kind => {
-                let term = self.term(kind, &body);
+                let arguments = self.kept(&numbers);
+                let term = self.term(kind, &words, &arguments);
                 let repeats = self.terms.is_kept(term);
                 Item::Term { number: self.terms.number(term), repeats }
             }
@@ -108,27 +114,26 @@ impl Reader {
     }
 
     /// The kept terms of these numbers.
-    fn kept(&self, numbers: &[u16]) -> Vec<Term> {
-        numbers.iter().map(|&number| self.terms.kept()[usize::from(number)]).collect()
+    fn kept(&self, numbers: &[u32]) -> Vec<Term> {
+        numbers.iter().map(|&number| self.terms.kept()[number as usize]).collect()
     }
 
-    fn term(&mut self, kind: Kind, body: &[u16]) -> Term {
-        let last = body.len() - 1;
-        let index = |at: usize| usize::from(body[at]);
+    fn term(&mut self, kind: Kind, words: &[u16], arguments: &[Term]) -> Term {
+        let index = |at: usize| usize::from(words[at]);
         match kind {
-            Kind::BoolVar => self.terms.bool_var(body[0]),
-            Kind::BvVar => self.terms.bv_var(index(0), body[1]),
+            Kind::BoolVar => self.terms.bool_var(words[0]),
+            Kind::BvVar => self.terms.bv_var(index(0), words[1]),
             Kind::Constant => {
-                let value = body[1..].iter().rev().fold(0, |value, &part| value << 16 | u64::from(part));
+                let value = words[1..].iter().rev().fold(0, |value, &part| value << 16 | u64::from(part));
                 self.terms.constant(index(0), value)
             }
-            Kind::BvBitOf => self.terms.bit(index(0), self.kept(&body[last..])[0]),
-            Kind::BvExtract => self.terms.extract(index(0), index(1), self.kept(&body[last..])[0]),
-            Kind::SignExtend => self.terms.sign_extend(index(0), self.kept(&body[last..])[0]),
+            Kind::BvBitOf => self.terms.bit(index(0), arguments[0]),
+            Kind::BvExtract => self.terms.extract(index(0), index(1), arguments[0]),
+            Kind::SignExtend => self.terms.sign_extend(index(0), arguments[0]),
             Kind::ZeroExtend | Kind::RotateLeft | Kind::RotateRight | Kind::Repeat => {
-                self.terms.moved(kind, index(0), self.kept(&body[last..])[0])
+                self.terms.moved(kind, index(0), arguments[0])
             }
-            _ => self.terms.term(kind, &self.kept(body)),
+            _ => self.terms.term(kind, arguments),
         }
     }
 }

@@ -46,7 +46,7 @@ pub fn run(words: &[OsString], out: &mut impl Write) -> Result<Status, Failure> 
 }
 
 fn show(job: &[u8], report: &Report, out: &mut impl Write) -> io::Result<()> {
-    let mut reader = Reader::new();
+    let mut reader = Reader::new(report.format());
     let mut answers = report.answers();
     for record in records(job).take(report.outcome().records as usize + 1) {
         write!(out, "{:>7} {:>8}  ", record.place, record.offset)?;
@@ -69,7 +69,7 @@ fn line(reader: &Reader, item: &Item, answer: Option<Answer>) -> String {
     };
     match item {
         Item::Term { number, repeats } => {
-            let term = text(&reader.terms, reader.terms.kept()[usize::from(*number)]);
+            let term = text(&reader.terms, reader.terms.kept()[*number as usize]);
             format!("{} {number}: {term}", if *repeats { "again term" } else { "term" })
         }
         Item::Step { literals } => claim(String::new(), literals),
@@ -78,6 +78,7 @@ fn line(reader: &Reader, item: &Item, answer: Option<Answer>) -> String {
             claim(format!(" from {}", premises.join(" ")), &[*literal])
         }
         Item::Back { terms } => format!("back to {}", counted((*terms).into(), "term")),
+        Item::FourBytes => "term numbers have four bytes".to_owned(),
     }
 }
 

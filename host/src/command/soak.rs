@@ -1,8 +1,9 @@
 //! `bbhost soak`: jobs of all sorts, one after the other, on the same memory.
 use super::{Failure, Status, grouped, interrupt, progress::Progress, unknown};
 use bitblast_host::{
-    ANSWER_BYTES, Answer, Answers, Outcome, Tally, Verdict,
-    jobs::{self, SPECIMEN_ANSWER},
+    Answer, Answers, Format, Outcome, Tally, Verdict,
+    format::FOUR_BYTES_RECORD,
+    jobs::{self, LONG_SPECIMEN_ANSWER, SPECIMEN_ANSWER},
     lent::Lent,
     rng::Rng,
     run_job, tally_answers,
@@ -15,7 +16,8 @@ use std::{
 
 /// How the command is used.
 pub const USAGE: &str = "  bbhost soak SECONDS [--seed N]
-      Runs right, damaged and random jobs on the same memory, and watches the memory, a known job and the tally after each.
+      Runs right, damaged and random jobs of both formats on the same memory, and watches the memory, a known job and the
+      tally after each.
       Exit status 1 on any deviation, or where resident memory grows by more than 1 MiB. An interrupt ends it early, with
       what it came to so far and status 2.";
 
@@ -27,7 +29,7 @@ const LARGE: usize = 1_000;
 
 /// The most memory lent, in bytes, to a large job and to any other.
 const LARGE_WORK: usize = 1 << 20;
-const MOST_WORK: usize = 1 << 16;
+const MOST_WORK: usize = 3 << 15;
 const MOST_ANSWERS: usize = 1 << 10;
 
 /// The growth of resident memory that is allowed, in KiB.
@@ -43,6 +45,8 @@ fn large_jobs() -> Vec<Right> {
         Right { job: jobs::many_terms(65_533), codes: vec![] },
         Right { job: jobs::many_backs(2_000), codes: vec![] },
         Right { job: jobs::many_chains(100), codes: vec![0; 101] },
+        Right { job: jobs::in_four_bytes(&jobs::right_claim(24, 20)), codes: vec![0] },
+        Right { job: jobs::deep_claim(Format::FourBytes, 70_000), codes: vec![0] },
     ]
 }
 
@@ -153,7 +157,8 @@ struct Soak {
     rng: Rng,
     /// Small ones, then the large ones.
     right_jobs: Vec<Right>,
-    specimen: Vec<u8>,
+    /// In two bytes, and in four.
+    specimens: [Vec<u8>; 2],
     /// The job that runs.
     job: Vec<u8>,
     work: Lent,
@@ -169,8 +174,9 @@ impl Soak {
     fn new(seed: u64) -> Self {
         let mut rng = Rng::new(seed);
         let mut right_jobs: Vec<Right> = Vec::new();
-        for _ in 0..RIGHT_JOBS {
+        for k in 0..RIGHT_JOBS {
             let (job, codes) = jobs::random_right(&mut rng);
+            let job = if k % 2 == 0 { job } else { jobs::in_four_bytes(&job) };
             right_jobs.push(Right { job, codes });
         }
         right_jobs.extend(large_jobs());
@@ -179,7 +185,7 @@ impl Soak {
             seed,
             rng,
             right_jobs,
-            specimen: jobs::specimen(),
+            specimens: [jobs::specimen(), jobs::in_four_bytes(&jobs::specimen())],
             job: Vec::with_capacity(longest + 1),
             work: Lent::new(LARGE_WORK),
             answers: Lent::new(MOST_ANSWERS),
@@ -204,6 +210,9 @@ impl Soak {
             3 => self.right(RIGHT_JOBS + self.turns[3] as usize % (self.right_jobs.len() - RIGHT_JOBS))?,
             _ => {
                 jobs::random_bytes(&mut self.job, &mut self.rng);
+                if self.rng.chance(30) {
+                    self.job.splice(..0, FOUR_BYTES_RECORD);
+                }
                 self.run_anyhow()?;
             }
         }
@@ -214,7 +223,8 @@ impl Soak {
     fn right(&mut self, k: usize) -> Result<(), String> {
         self.job.clone_from(&self.right_jobs[k].job);
         let outcome = self.run(if k < RIGHT_JOBS { MOST_WORK } else { LARGE_WORK }, MOST_ANSWERS)?;
-        let codes = Answers::new(self.answers.bytes(), outcome.answers).map(|answer| answer.code);
+        let format = Format::of(&self.job);
+        let codes = Answers::new(format, self.answers.bytes(), outcome.answers).map(|answer| answer.code);
         if outcome.stop != 0 || !codes.eq(self.right_jobs[k].codes.iter().copied()) {
             return Err(format!("a right job was not accepted: {outcome:?}"));
         }
@@ -228,14 +238,17 @@ impl Soak {
         self.run(work, answers).map(drop)
     }
 
-    /// The specimen, whose outcome is known.
+    /// The specimen, whose outcome is known, in either format.
     fn known(&mut self) -> Result<(), String> {
-        self.job.clone_from(&self.specimen);
-        let outcome = self.run(64, 10 + 5)?;
-        if outcome.numbers() != [0, 9, 1, 10, 0] {
+        let which = self.rng.below(2);
+        self.job.clone_from(&self.specimens[which]);
+        let (work, answer): (usize, &[u8]) = [(64, &SPECIMEN_ANSWER[..]), (96, &LONG_SPECIMEN_ANSWER)][which];
+        let outcome = self.run(work, answer.len() + 5)?;
+        // In four bytes there is one record more, the first.
+        if outcome.numbers() != [0, 9 + which as u32, 1, 10, 0] {
             return Err(format!("the specimen came to {outcome:?}"));
         }
-        if self.answers.bytes()[..ANSWER_BYTES] != SPECIMEN_ANSWER {
+        if !self.answers.bytes().starts_with(answer) {
             return Err("the specimen has another answer".to_owned());
         }
         Ok(())
@@ -249,7 +262,8 @@ impl Soak {
         if !self.work.is_zero() {
             return fault("work memory is not zero");
         }
-        let written = ANSWER_BYTES * outcome.answers as usize;
+        let format = Format::of(&self.job);
+        let written = format.answer_bytes() * outcome.answers as usize;
         if written > answers || !self.answers.untouched_from(written) {
             return fault("answers past the last one are not as they were");
         }
@@ -257,17 +271,27 @@ impl Soak {
             return fault("memory that was not lent was written");
         }
         if !matches!(outcome.stop, 0 | 2..=9 | 18 | 19)
-            || !(2..=65_535).contains(&outcome.terms)
+            || !(2..=format.max_terms()).contains(&(outcome.terms as usize))
             || outcome.repeats > outcome.records
         {
             return fault("an impossible outcome");
         }
-        for bytes in self.answers.bytes()[..written].chunks_exact(ANSWER_BYTES) {
-            if bytes[..4] != [8, 0, 200, 0] {
-                return fault("an answer begins with other bytes");
-            }
+        let mut heads = self.answers.bytes()[..written].chunks_exact(format.answer_bytes());
+        if heads.any(|bytes| bytes[..4] != [format.answer_bytes() as u8 - 2, 0, 200, 0]) {
+            return fault("an answer begins with other bytes");
         }
-        for answer in Answers::new(self.answers.bytes(), outcome.answers) {
+        self.count_answers(outcome)?;
+        self.count.jobs += 1;
+        tally_answers(&mut self.tally, self.answers.bytes(), outcome.answers);
+        if self.tally != self.count {
+            return Err(format!("the tally is {:?}, but the host counts {:?}", self.tally, self.count));
+        }
+        Ok(outcome)
+    }
+
+    /// Counts the answers of the job as the tally should.
+    fn count_answers(&mut self, outcome: Outcome) -> Result<(), String> {
+        for answer in Answers::new(Format::of(&self.job), self.answers.bytes(), outcome.answers) {
             if !possible(&answer) {
                 return Err(format!("an impossible answer: {answer:?}"));
             }
@@ -277,12 +301,7 @@ impl Soak {
                 Verdict::Refused => self.count.refused += 1,
             }
         }
-        self.count.jobs += 1;
-        tally_answers(&mut self.tally, self.answers.bytes(), outcome.answers);
-        if self.tally != self.count {
-            return Err(format!("the tally is {:?}, but the host counts {:?}", self.tally, self.count));
-        }
-        Ok(outcome)
+        Ok(())
     }
 }
 

@@ -6,7 +6,7 @@ use super::{
     reader::{Reader, records},
     shown,
 };
-use bitblast_host::{Answer, MAX_JOB_BYTES, Report, Tally, Verdict};
+use bitblast_host::{Answer, Format, MAX_JOB_BYTES, Report, Tally, Verdict};
 use std::{
     ffi::OsStr,
     io::{self, Write},
@@ -21,9 +21,13 @@ pub fn table(checked: &Checked, explained: bool, out: &mut impl Write) -> io::Re
     } else {
         counted(job.len() as u64, "byte")
     };
+    let numbers = match report.format() {
+        Format::TwoBytes => "",
+        Format::FourBytes => " (term numbers of four)",
+    };
     writeln!(
         out,
-        "{name}: {bytes}, {}, {} kept, {}, {}",
+        "{name}: {bytes}{numbers}, {}, {} kept, {}, {}",
         counted(outcome.records.into(), "record"),
         counted(outcome.terms.into(), "term"),
         counted(outcome.repeats.into(), "repeat"),
@@ -48,7 +52,7 @@ fn steps(job: &[u8], report: &Report, explained: bool, out: &mut impl Write) -> 
     if !explained {
         return answers.try_for_each(|answer| writeln!(out, "{}", row(&answer)));
     }
-    let mut reader = Reader::new();
+    let mut reader = Reader::new(report.format());
     for record in records(job).take(report.outcome().records as usize) {
         let item = reader.read(record);
         let Some(answer) = record.is_step().then(|| answers.next()).flatten() else { continue };

@@ -1,6 +1,7 @@
 //! What a batch of cases reaches, and a look at their answers that needs no other program: sides of held steps have equal values,
 //! and the claims that the generator knows to be right or wrong are answered so.
 use crate::chain::CONG;
+use crate::format::{FOUR, Format, TWO};
 use crate::generate::Case;
 use crate::job::{RACK, Step, run};
 use crate::kind::{BOOL, VARIABLE, shape, terms};
@@ -30,6 +31,34 @@ struct Limited {
     repeated: usize,
 }
 
+/// What jobs whose numbers have four bytes come to.
+#[derive(Default)]
+struct InFourBytes {
+    jobs: usize,
+    stops: BTreeSet<u16>,
+    /// The rules that were answered, and whether they were accepted.
+    answered: BTreeSet<(u16, bool)>,
+    /// The greatest depth, and the most terms at a job's end.
+    deepest: u64,
+    most_terms: usize,
+}
+
+impl InFourBytes {
+    /// What a batch should have and has not.
+    fn missing(&self) -> Vec<String> {
+        let stops = STOPS.iter().filter(|&&stop| stop != 2 && !self.stops.contains(&stop));
+        let mut missing: Vec<String> = stops.map(|stop| format!("four bytes with stop {stop}")).collect();
+        let answers = (1..=RULES.len() as u16).flat_map(|rule| [true, false].map(|accepted| (rule, accepted)));
+        let absent = answers.filter(|answer| !self.answered.contains(answer));
+        missing.extend(absent.map(|(rule, accepted)| format!("four bytes with rule {rule} accepted: {accepted}")));
+        let many = [(self.deepest, "depth"), (self.most_terms as u64, "number of terms")];
+        let few = many.iter().filter(|(most, _)| *most <= TWO.most_terms as u64);
+        missing.extend(few.map(|(_, what)| format!("a {what} that two bytes do not hold")));
+        missing.extend((self.most_terms < FOUR.most_terms).then(|| "all the terms that there may be".to_owned()));
+        missing
+    }
+}
+
 #[derive(Default)]
 pub struct Summary {
     answers: BTreeMap<(u16, u16), usize>,
@@ -41,13 +70,18 @@ pub struct Summary {
     right: usize,
     wrong: usize,
     limits: Limited,
+    four: InFourBytes,
     pub faults: Vec<String>,
 }
 
 impl Summary {
     pub fn look(&mut self, name: usize, case: &Case) {
-        let mut place = 0;
+        let (mut place, in_four) = (0, Format::of(&case.job) == FOUR);
         let out = run(&case.job, case.lent, |step| {
+            if in_four {
+                self.four.answered.insert((step.answer.rule, step.answer.code <= 1));
+                self.four.deepest = self.four.deepest.max(step.answer.depth);
+            }
             *self.answers.entry((step.answer.rule, step.answer.code)).or_default() += 1;
             if let Some(fault) = self.fault(&step, case.claims.get(place).copied().flatten(), name) {
                 self.faults.push(format!("case {name} answer {} rule {}: {fault}", place + 1, step.answer.rule));
@@ -55,11 +89,19 @@ impl Summary {
             place += 1;
         });
         *self.stops.entry(out.stop).or_default() += 1;
+        if in_four {
+            self.four.jobs += 1;
+            self.four.stops.insert(out.stop);
+            self.four.most_terms = self.four.most_terms.max(out.terms);
+        }
         self.limits(name, case);
     }
 
     /// A job that stops with neither 7 nor 8 under some limits is as under the rack's.
     fn limits(&mut self, name: usize, case: &Case) {
+        if case.under.is_empty() {
+            return;
+        }
         let rack = case.limited(RACK);
         for &limits in &case.under {
             let found = case.limited(limits);
@@ -131,6 +173,7 @@ impl Summary {
         let limits =
             [(same, "the same"), (full, "as many terms"), (wide, "7"), (many, "8"), (repeated, "8 after a repeat")];
         missing.extend(limits.iter().filter(|(n, _)| *n == 0).map(|(_, what)| format!("limits with {what}")));
+        missing.extend(self.four.missing());
         missing
     }
 
@@ -154,6 +197,8 @@ impl Summary {
             out,
             "under limits as under the rack's: {same}, with as many terms: {full}; 7: {wide}, 8: {many}, after a repeat: {repeated}"
         );
+        let InFourBytes { jobs, deepest, most_terms, .. } = self.four;
+        let _ = writeln!(out, "jobs in four bytes: {jobs}, of up to {most_terms} terms, depth up to {deepest}");
         let (tried, every) = (self.assignments, self.exhaustive);
         let _ = writeln!(out, "assignments tried on held steps: {tried}, on {every} steps all there are");
         let _ = writeln!(

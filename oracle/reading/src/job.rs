@@ -1,15 +1,13 @@
 //! A job: records in their order, the plain list of terms, the codes, the answers.
 use crate::chain::{CONG, SYMM, joins};
-use crate::kind::{BACK, CHAIN, CONSTANT, STEP, shape};
+use crate::format::{FOUR, Format};
+use crate::kind::{BACK, CHAIN, CONSTANT, FOUR_BYTES, STEP, shape};
 use crate::limited::Limited;
 use crate::pool::{Id, NO, Pool, YES};
 use crate::rule::{STEP_RULES, verdict};
 use std::collections::HashSet;
 
 pub const LONGEST: usize = 16_777_216;
-pub const MOST_TERMS: usize = 65_535;
-pub const ROW: usize = 8;
-pub const ANSWER: usize = 10;
 
 /// The greatest width, and the most terms with `true` and `false`, as a caller states them; above the rack's they are the rack's.
 #[derive(Debug, Clone, Copy, PartialEq, Eq)]
@@ -18,8 +16,8 @@ pub struct Limits {
     pub terms: u32,
 }
 
-/// The rack's.
-pub const RACK: Limits = Limits { width: 64, terms: MOST_TERMS as u32 };
+/// The rack's, of which a job has what its format allows.
+pub const RACK: Limits = Limits { width: 64, terms: FOUR.most_terms as u32 };
 
 /// The bytes of work memory and of answers that are lent.
 #[derive(Debug, Clone, Copy)]
@@ -62,6 +60,7 @@ struct Answered {
 }
 
 struct Run<'a> {
+    format: Format,
     pool: Pool,
     list: Vec<Id>,
     /// The records of the list, from place 2 on, in order and as a set.
@@ -93,14 +92,16 @@ pub fn run_whole(job: &[u8], lent: Lent, seen: impl FnMut(Step)) -> (Outcome, Fi
 pub fn run_within(job: &[u8], lent: Lent, limits: Limits, mut seen: impl FnMut(Step)) -> (Outcome, Final) {
     let mut outcome = Outcome { stop: 0, records: 0, answers: 0, terms: 2, repeats: 0 };
     let (records, kept, steps) = Default::default();
-    let mut run = Run { pool: Pool::default(), list: vec![YES, NO], records, kept, steps, repeats: 0, lent, limits };
+    let (format, pool, list) = (Format::of(job), Pool::default(), vec![YES, NO]);
+    let mut run = Run { format, pool, list, records, kept, steps, repeats: 0, lent, limits };
     let mut rest = job;
     if job.len() > LONGEST {
         outcome.stop = 2;
         rest = &[];
     }
     while !rest.is_empty() {
-        match cut(rest).and_then(|(record, after)| run.record(record, &mut seen).map(|()| after)) {
+        let first = outcome.records == 0;
+        match cut(rest).and_then(|(record, after)| run.record(record, first, &mut seen).map(|()| after)) {
             Ok(after) => rest = after,
             Err(code) => {
                 outcome.stop = code;
@@ -133,8 +134,16 @@ fn cut(rest: &[u8]) -> Result<(&[u8], &[u8]), u16> {
 }
 
 impl<'a> Run<'a> {
-    fn record(&mut self, record: &'a [u8], seen: &mut impl FnMut(Step)) -> Result<(), u16> {
+    fn record(&mut self, record: &'a [u8], first: bool, seen: &mut impl FnMut(Step)) -> Result<(), u16> {
         match word(record) {
+            // It has said how long numbers are; elsewhere it is no kind of record.
+            FOUR_BYTES if first => {
+                if record.len() == 2 {
+                    Ok(())
+                } else {
+                    Err(5)
+                }
+            }
             STEP => self.step(&record[2..], seen),
             BACK => self.back(&record[2..]),
             CHAIN => self.chain(&record[2..], seen),
@@ -145,12 +154,12 @@ impl<'a> Run<'a> {
     fn term(&mut self, record: &'a [u8]) -> Result<(), u16> {
         let (kind, body) = (word(record), &record[2..]);
         let shape = shape(kind).ok_or(4u16)?;
-        let fits = |count: usize| body.len() == shape.own + 2 * count;
+        let fits = |count: usize| body.len() == shape.own + self.format.number * count;
         if !(shape.least..=shape.most).any(fits) {
             return Err(5);
         }
         let (own, args) = body.split_at(shape.own);
-        let args = self.named(&words(args))?;
+        let args = self.named(&self.format.numbers(args))?;
         let id = self.pool.try_add(kind, &own_numbers(kind, own), &args).ok_or(7u16)?;
         // Whatever made it: a variable, a constant, bits, an operation. A Bool has no width.
         if self.pool.width(id) > self.limits.width as usize {
@@ -161,9 +170,8 @@ impl<'a> Run<'a> {
             return Ok(());
         }
         // `true` and `false` are on the list, but need no memory.
-        if self.list.len() >= MOST_TERMS.min(self.limits.terms as usize)
-            || (self.records.len() + 1) * ROW > self.lent.work
-        {
+        let most_terms = self.format.most_terms.min(self.limits.terms as usize);
+        if self.list.len() >= most_terms || (self.records.len() + 1) * self.format.row > self.lent.work {
             return Err(8);
         }
         self.list.push(id);
@@ -178,10 +186,10 @@ impl<'a> Run<'a> {
     }
 
     fn step(&mut self, body: &[u8], seen: &mut impl FnMut(Step)) -> Result<(), u16> {
-        if !body.len().is_multiple_of(2) || !(2..=2 + 2 * 64).contains(&body.len()) {
+        if !(0..=64).any(|count| body.len() == 2 + self.format.number * count) {
             return Err(5);
         }
-        let numbers = words(&body[2..]);
+        let numbers = self.format.numbers(&body[2..]);
         let literals = self.named(&numbers)?;
         let rule = word(body);
         if !(1..=STEP_RULES).contains(&rule) {
@@ -196,10 +204,11 @@ impl<'a> Run<'a> {
     /// A rule, a count of premises, so many premises, and a literal.
     fn chain(&mut self, body: &[u8], seen: &mut impl FnMut(Step)) -> Result<(), u16> {
         let count = if body.len() < 4 { 0 } else { usize::from(word(&body[2..])) };
-        if !(1..=64).contains(&count) || body.len() != 2 * (count + 3) {
+        if !(1..=64).contains(&count) || body.len() != 4 + 2 * count + self.format.number {
             return Err(5);
         }
-        let (premises, literal) = (words(&body[4..4 + 2 * count]), words(&body[4 + 2 * count..]));
+        let (premises, literal) = body[4..].split_at(2 * count);
+        let (premises, literal) = (words(premises), self.format.numbers(literal));
         let conclusion = self.named(&literal)?[0];
         let rule = word(body);
         if !(SYMM..=CONG).contains(&rule) {
@@ -223,7 +232,7 @@ impl<'a> Run<'a> {
     }
 
     fn room_left(&self) -> Result<(), u16> {
-        if (self.steps.len() + 1) * ANSWER > self.lent.room { Err(19) } else { Ok(()) }
+        if (self.steps.len() + 1) * self.format.answer > self.lent.room { Err(19) } else { Ok(()) }
     }
 
     fn answer(&mut self, rule: u16, code: u16, numbers: &[usize], seen: &mut impl FnMut(Step)) {
@@ -237,10 +246,10 @@ impl<'a> Run<'a> {
     }
 
     fn back(&mut self, body: &[u8]) -> Result<(), u16> {
-        if body.len() != 2 {
+        if body.len() != self.format.number {
             return Err(5);
         }
-        let count = usize::from(word(body));
+        let count = self.format.numbers(body)[0];
         if count < 2 || count > self.list.len() {
             return Err(18);
         }

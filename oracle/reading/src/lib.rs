@@ -4,6 +4,7 @@ pub mod chain;
 pub mod check;
 pub mod circuit;
 pub mod divide;
+pub mod format;
 pub mod generate;
 pub mod job;
 pub mod kind;

@@ -29,6 +29,8 @@ pub struct Survey {
     once: usize,
     /// Counted terms with a value that no assignment leads to.
     gaps: usize,
+    /// The accepted questions about terms whose numbers two bytes do not hold.
+    great: BTreeMap<&'static str, usize>,
     assignments: u64,
     evaluations: usize,
     known: usize,
@@ -45,12 +47,15 @@ impl Survey {
                 Answer::Derived { code: 0, bits } => self.derived(asked, bits),
                 _ => None,
             };
-            let (codes, code) = match asked.answer {
-                Answer::Swept { code, .. } => (&mut self.sweeps, code),
-                Answer::Counted { code, .. } => (&mut self.counts, code),
-                Answer::Derived { code, .. } => (&mut self.derivings, code),
+            let (codes, code, sort) = match asked.answer {
+                Answer::Swept { code, .. } => (&mut self.sweeps, code, "sweeps"),
+                Answer::Counted { code, .. } => (&mut self.counts, code, "counts"),
+                Answer::Derived { code, .. } => (&mut self.derivings, code, "bits"),
             };
             *codes.entry(code).or_default() += 1;
+            if code == 0 && asked.question.number() > u32::from(u16::MAX) {
+                *self.great.entry(sort).or_default() += 1;
+            }
             self.known += usize::from(code == 0 && asked.known.is_some());
             self.evaluations += if code == 0 { asked.evaluations } else { 0 };
             if let Some(fault) = fault {
@@ -109,6 +114,8 @@ impl Survey {
         missing.extend(kinds_lacking(&self.counted, "counted"));
         let widths = (1..=MOST_WIDTH).filter(|&width| !self.sizes.contains(&(1 << width)));
         missing.extend(widths.map(|width| format!("counts of width {width}")));
+        let few = ["sweeps", "counts", "bits"].into_iter().filter(|sort| !self.great.contains_key(sort));
+        missing.extend(few.map(|sort| format!("{sort} of a number that two bytes do not hold")));
         missing.extend((self.once == 0).then(|| "a difference on just one assignment".to_owned()));
         missing.extend((self.gaps == 0).then(|| "a value that never occurs".to_owned()));
         missing
@@ -129,6 +136,8 @@ impl Survey {
         );
         let _ = writeln!(out, "assignments: {}, evaluations: {}", self.assignments, self.evaluations);
         let _ = writeln!(out, "differing on just one assignment: {}, known beforehand: {}", self.once, self.known);
+        let great: Vec<String> = self.great.iter().map(|(sort, count)| format!("{sort} {count}")).collect();
+        let _ = writeln!(out, "about numbers that two bytes do not hold: {}", great.join(", "));
         let missing = self.missing();
         let _ = writeln!(
             out,

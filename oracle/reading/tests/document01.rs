@@ -208,8 +208,8 @@ fn the_standards_circuits() {
 fn amounts() {
     let code = |kind: u16, width: u16, k: u16| {
         let mut maker = Maker::new(0);
-        maker.words(VARIABLE, &[width, 0]);
-        maker.words(kind, &[k, 2]);
+        maker.words(VARIABLE, &[width, 0], &[]);
+        maker.words(kind, &[k], &[2]);
         stop(&maker.bytes, 800, 0)
     };
     for (kind, width, fit, unfit) in [

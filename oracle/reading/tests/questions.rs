@@ -33,7 +33,7 @@ fn counted(build: impl FnOnce(&mut Maker) -> Id) -> (u16, Vec<u64>) {
     let mut maker = Maker::new(0);
     let term = build(&mut maker);
     let number = maker.emit(term);
-    count(&maker.bytes, number.into(), 8 * maker.list.len(), 256)
+    count(&maker.bytes, number, 8 * maker.list.len(), 256)
 }
 
 /// The sweep of an Equals of two terms, with enough memory.
@@ -42,7 +42,7 @@ fn swept(build: impl FnOnce(&mut Maker) -> (Id, Id)) -> (u16, u64, u64) {
     let (left, right) = build(&mut maker);
     let equality = maker.equals(left, right);
     let number = maker.emit(equality);
-    sweep(&maker.bytes, MUCH, number.into(), 8 * maker.list.len())
+    sweep(&maker.bytes, MUCH, number, 8 * maker.list.len())
 }
 
 /// The left side of a rule over two variables, and its circuit.
@@ -111,7 +111,7 @@ fn the_order_of_assignments() {
     let Final { pool, list } = &store;
     assert_eq!((pool.kind(list[2]), pool.kind(list[3])), (BOOL, VARIABLE));
     let mut seen = Vec::new();
-    let standing = Standing::of(&store, list[usize::from(number)]);
+    let standing = Standing::of(&store, list[number as usize]);
     standing.each_assignment(pool, |values| seen.push((values[list[2]], values[list[3]])));
     assert_eq!(seen, [(0, 0), (1, 0), (0, 1), (1, 1), (0, 2), (1, 2), (0, 3), (1, 3)]);
 }
@@ -167,7 +167,7 @@ fn counts() {
 fn derived(inputs: &[u8], build: impl FnOnce(&mut Maker) -> Id) -> (u16, Vec<u8>) {
     let mut maker = Maker::new(0);
     let term = build(&mut maker);
-    let number = maker.emit(term).into();
+    let number = maker.emit(term);
     derive(&maker.bytes, number, 8 * maker.list.len(), 64, inputs)
 }
 
@@ -261,7 +261,7 @@ fn bits_that_are_refused() {
     for (room, code) in [(4, 23), (5, 0), (6, 0)] {
         let mut maker = Maker::new(0);
         let x = maker.variable(5, 0);
-        let number = maker.emit(x).into();
+        let number = maker.emit(x);
         assert_eq!(derive(&maker.bytes, number, 24, room, &[2; 5]).0, code);
     }
 }

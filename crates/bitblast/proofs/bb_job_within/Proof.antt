@@ -7,7 +7,8 @@ use lib.ListN.{length}
 use lib.Seq.{length-take-le}
 use denote.Ref.{now}
 use Rattle.terms.proofs.Numbers.{all-bytes}
-use Rattle.theory.specs.Limit.{stated, number-bytes}
+use Rattle.theory.specs.Limit.{stated}
+use Rattle.theory.specs.Record.{number-length}
 use Rattle.theory.specs.Job.{Outcome, returned, answers-after}
 use Rattle.table.proofs.Face.{zeros}
 use Rattle.bitblast.proofs.Calls.{called}
@@ -29,7 +30,7 @@ returns c =
     let a = s .before .args in
     let e = run-enough (stated (a .width-limit) (a .term-limit)) (now (a .job)) (now (a .work)) (l .lend .result) (length (now (a .answers))) (l .lend .ensures .0) (l .lend .last .1 .0) (let q : length (l .lend .last .1 .0) ≡ length (now (a .work)) = search needs in q) in
     called (stated (a .width-limit) (a .term-limit)) (now (a .job)) (now (a .work)) (now (a .answers)) (all-bytes (now (a .job)) (λ i. s .shared-slice-known .given i)) (j .check-job .result)
-    (j .check-job .ensures .0 ∙ ap returned e) (j .check-job .ensures .1 .0 ∙ ap (λ (o : Outcome). answers-after number-bytes (o .answers) (now (a .answers))) e)
+    (j .check-job .ensures .0 ∙ ap returned e) (j .check-job .ensures .1 .0 ∙ ap (λ (o : Outcome). answers-after (number-length (now (a .job))) (o .answers) (now (a .answers))) e)
     (zeros (now (a .work)) (c .before .before .wipe .ensures) (same-length c))
 
 pub bb-job-within-spec : {M : Type 1} → statement M

@@ -1,20 +1,19 @@
 use Prim.Native.Nat.{_*_, _-_, _≤_}
 use native.Mathlib.Omega.{arith}
 use lib.ListN.{length}
-use Rattle.rows.specs.Layout.{row-size}
-use Rattle.theory.specs.Limit.{number-bytes}
+use Rattle.rows.specs.Layout.{row-size, link-size}
 use Rattle.marks.proofs.MarkLaws.{Clearing, clearing-start, clearing-room, clearing-turn, clearing-done}
 use Rattle.marks.proofs.clear_marks.Statement.{statement}
 use Rattle.marks.proofs.clear_marks.Tie as tie
 
 abbrev Inv-loop : tie.InvT-loop
-Inv-loop work₀ n k₀ work k = Clearing work₀ n work k × (n * row-size number-bytes ≤ length work₀)
+Inv-loop job work₀ n k₀ work k = Clearing job work₀ n work k × (n * row-size (link-size job) ≤ length work₀)
 
 abbrev μ-loop : tie.MeasureT-loop
-μ-loop work₀ n k₀ work k = n - k
+μ-loop job work₀ n k₀ work k = n - k
 
 loop-holds : tie.Need-loop-holds Inv-loop μ-loop
-loop-holds c = (clearing-start _ _, c .before .pre)
+loop-holds c = (clearing-start _ _ _, c .before .before .pre)
 
 put-mark-requires : tie.Need-put-mark-requires Inv-loop μ-loop
 put-mark-requires c κs = clearing-room (c .before .before .loop .inv .0) (c .before .before .loop .inv .1) (c .before .loop-test .taken)

@@ -1,7 +1,6 @@
 use native.Mathlib.Omega.{arith}
 use mathlib.Core.Path.{sym, _∙_}
 use mathlib.Core.Logic.{⊎-elim}
-use Rattle.rows.specs.Layout.{link-bytes}
 use Rattle.theory.proofs.Basics.{true-T}
 use Rattle.marks.proofs.MarkLaws.{kept-more, room-kept, room-in}
 use Rattle.marks.proofs.Marking.{Marking, marking-start, marking-term, marking-pass, marking-done, marks-moved, marking-same, marking-room, marking-shelf}
@@ -15,12 +14,10 @@ abbrev μ-loop : tie.MeasureT-loop
 μ-loop job work₀ n asked k₀ work k = k
 
 clear-marks-requires : tie.Need-clear-marks-requires Inv-loop μ-loop
-unfolding link-bytes
 clear-marks-requires c κs = c .before .before .before .pre .0 .rows .room
 
 set-mark-requires : tie.Need-set-mark-requires Inv-loop μ-loop
-unfolding link-bytes
-set-mark-requires c κs = let s = c .before .before .before .before .before .before .before in room-kept (c .before .before .before .clear-marks .ensures .kept) (room-in _ _ (s .pre .0 .rows .room) (s .args .asked) (s .pre .1))
+set-mark-requires c κs = let s = c .before .before .before .before .before .before .before in room-kept (c .before .before .before .clear-marks .ensures .kept) (room-in _ _ _ (s .pre .0 .rows .room) (s .args .asked) (s .pre .1))
 
 loop-holds : tie.Need-loop-holds Inv-loop μ-loop
 loop-holds c = let s = c .before .before .before .before .before .before .before .before .before .before in marking-start (s .pre .0) (s .pre .1) (c .before .before .before .before .before .before .clear-marks .ensures) (c .before .before .set-mark .ensures)

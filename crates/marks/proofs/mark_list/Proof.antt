@@ -5,13 +5,13 @@ use Rattle.marks.proofs.mark_list.Statement.{statement}
 use Rattle.marks.proofs.mark_list.Tie as tie
 
 abbrev Inv-loop : tie.InvT-loop
-Inv-loop job work₀ a i₀ work i = Listing work₀ (words-in job a) work i
+Inv-loop job work₀ a i₀ work i = Listing job work₀ (words-in job a) work i
 
 abbrev μ-loop : tie.MeasureT-loop
 μ-loop job work₀ a i₀ work i = i
 
 loop-holds : tie.Need-loop-holds Inv-loop μ-loop
-loop-holds c = let s = c .before .before in listing-start _ _ _ (count-is (s .args .job .now) (s .args .a))
+loop-holds c = let s = c .before .before in listing-start _ _ _ _ (count-is (s .args .job .now) (s .args .a))
 
 sub-i : tie.Need-sub-i Inv-loop μ-loop
 sub-i c = omega (arith, c .loop-test .taken)

@@ -1,23 +1,29 @@
 use native.Mathlib.Omega.{arith}
 use mathlib.Core.Path.{sym, _∙_}
 use mathlib.Core.Logic.{⊎-elim}
+use denote.Ref.{now}
 use Rattle.theory.proofs.Basics.{true-T}
+use Rattle.terms.proofs.Numbers.{length-of, place-small}
+use Rattle.rows.proofs.RowLaws.{link-whole}
 use Rattle.marks.specs.Marks.{Threadable}
 use Rattle.marks.proofs.Threading.{Threading, threading-start, threading-room, threading-turn, threading-pass, threading-same, threading-done}
 use Rattle.marks.proofs.thread.Statement.{statement}
 use Rattle.marks.proofs.thread.Tie as tie
 
 abbrev Inv-loop : tie.InvT-loop
-Inv-loop work₀ asked next₀ k₀ work next k = Threadable work₀ asked × Threading work₀ asked work next k
+Inv-loop job work₀ asked next₀ k₀ work next k = Threadable job work₀ asked × Threading job work₀ asked work next k
 
 abbrev μ-loop : tie.MeasureT-loop
-μ-loop work₀ asked next₀ k₀ work next k = k
+μ-loop job work₀ asked next₀ k₀ work next k = k
 
 add-next : tie.Need-add-next Inv-loop μ-loop
-add-next c = record { fits = omega (arith, c .before .pre .low) }
+add-next c =
+    let s = c .before .before in
+    let most = place-small _ _ (link-whole (length-of (now (s .args .job))) .few-bytes) (s .pre .low) in
+    record { fits = omega arith }
 
 loop-holds : tie.Need-loop-holds Inv-loop μ-loop
-loop-holds c = (c .before .pre, threading-start _ _)
+loop-holds c = (c .before .before .pre, threading-start _ _ _)
 
 is-marked-requires : tie.Need-is-marked-requires Inv-loop μ-loop
 is-marked-requires c κs = let i = c .before .before .loop .inv in threading-room (i .1) (i .0 .room) _ (i .1 .most)

@@ -6,7 +6,7 @@ use denote.Ref.{now}
 use Rattle.terms.specs.declared.Item.the-variants as I
 use Rattle.intern.specs.Interning.{limits-of}
 use Rattle.records.specs.Turning.{Reading}
-use Rattle.records.proofs.Turns.{reading, stopped}
+use Rattle.records.proofs.Turns.{reading, stopped, opened}
 use Rattle.records.proofs.take_record.Statement.{statement}
 use Rattle.records.proofs.take_record.Tie as tie
 
@@ -39,32 +39,40 @@ back-record-requires c κs =
     reading (s .pre .0 .store) (s .pre .1) (r .read .ensures .0) (r .read .ensures .1) (k .item4 .given .1)
 
 returns : tie.Need-returns
-returns c = c .before .before .term-record .ensures (now (c .before .before .before .before .before .before .before .before .before .before .before .args .answers))
+returns c =
+    let s = c .before .before .before .before .before .before .before .before .before .before .before in
+    c .before .before .term-record .ensures (s .args .place) (now (s .args .answers))
 
 returns-2 : tie.Need-returns-2
-returns-2 c = let t = c .before .before in t .step-record .ensures (limits-of (t .before .before .before .before .before .before .before .before .before .before .args .limits))
+returns-2 c =
+    let t = c .before .before in
+    let a = t .before .before .before .before .before .before .before .before .before .before .args in
+    t .step-record .ensures (limits-of (a .limits)) (a .place)
 
 returns-3 : tie.Need-returns-3
-returns-3 c = let t = c .before .before in t .chain-record .ensures (limits-of (t .before .before .before .before .before .before .before .before .before .before .args .limits))
+returns-3 c =
+    let t = c .before .before in
+    let a = t .before .before .before .before .before .before .before .before .before .before .args in
+    t .chain-record .ensures (limits-of (a .limits)) (a .place)
 
 returns-4 : tie.Need-returns-4
 returns-4 c =
     let s = c .before .before .before .before .before .before .before .before .before .before .before in
-    c .before .before .back-record .ensures (limits-of (s .args .limits)) (now (s .args .answers))
+    c .before .before .back-record .ensures (limits-of (s .args .limits)) (s .args .place) (now (s .args .answers))
 
 returns-5 : tie.Need-returns-5
 returns-5 c =
-    let r = c .before .before in
+    let r = c .before .before .before in
     let s = r .before .before .before .before in
-    let g : Reading (now (s .args .job)) (now (s .args .work)) (s .args .rows) (s .args .at) I.Unknown = reading (s .pre .0 .store) (s .pre .1) (r .read .ensures .0) (r .read .ensures .1) (c .enum-told .given .1) in
-    stopped (limits-of (s .args .limits)) g (now (s .args .answers)) (s .args .answered) 4 (λ z. omega arith) refl
+    let g : Reading (now (s .args .job)) (now (s .args .work)) (s .args .rows) (s .args .at) I.Unknown = reading (s .pre .0 .store) (s .pre .1) (r .read .ensures .0) (r .read .ensures .1) (c .before .enum-told .given .1) in
+    opened (limits-of (s .args .limits)) (s .args .place) g (now (s .args .answers)) (s .args .answered) _ (c .opening-fault .ensures)
 
 returns-6 : tie.Need-returns-6
 returns-6 c =
     let r = c .before .before in
     let s = r .before .before .before .before in
     let g : Reading (now (s .args .job)) (now (s .args .work)) (s .args .rows) (s .args .at) I.Misfit = reading (s .pre .0 .store) (s .pre .1) (r .read .ensures .0) (r .read .ensures .1) (c .enum-told2 .given .1) in
-    stopped (limits-of (s .args .limits)) g (now (s .args .answers)) (s .args .answered) 5 (λ z. omega arith) refl
+    stopped (limits-of (s .args .limits)) (s .args .place) g (now (s .args .answers)) (s .args .answered) 5 (λ z. omega arith) refl
 
 pub take-record-spec : {M : Type 1} → statement M
 take-record-spec =
@@ -80,6 +88,7 @@ take-record-spec =
     (λ c. search needs)
     back-record-requires
     (λ c. search needs)
+    (λ c κs. search needs)
     (λ c. search needs)
     (λ c. search needs)
     returns

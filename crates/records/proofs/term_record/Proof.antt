@@ -17,7 +17,7 @@ cast-below c = omega (arith, few-terms (c .before .before .pre .store))
 returns : tie.Need-returns
 returns c =
     let s = c .before .before .before .before in
-    λ answers. not-below (limits-of (s .args .limits)) (s .pre) answers (s .args .answered) (sym (c .before .below .ensures) ∙ not-true _ (c .if1 .taken))
+    λ place answers. not-below (limits-of (s .args .limits)) place (s .pre) answers (s .args .answered) (sym (c .before .below .ensures) ∙ not-true _ (c .if1 .taken))
 
 intern-requires : tie.Need-intern-requires
 intern-requires c κs =
@@ -29,7 +29,7 @@ returns-2 c =
     let i = c .before .before .before in
     let b = i .before .before .before in
     let s = b .before .before .before in
-    λ answers. term-turned (limits-of (s .args .limits)) (s .pre) answers (s .args .answered) (sym (b .below .ensures) ∙ not-false _ (i .before .before .if1 .left)) (i .intern .ensures) (c .kept-turn .ensures)
+    λ place answers. term-turned (limits-of (s .args .limits)) place (s .pre) answers (s .args .answered) (sym (b .below .ensures) ∙ not-false _ (i .before .before .if1 .left)) (i .intern .ensures) (c .kept-turn .ensures)
 
 pub term-record-spec : {M : Type 1} → statement M
 term-record-spec =

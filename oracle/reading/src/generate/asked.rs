@@ -1,5 +1,5 @@
 //! Jobs with questions about their final list.
-use super::{Case, Maker, lend_around};
+use super::{Case, IN_FOUR_BYTES, MANY, Maker, lend_around};
 use crate::job::{Final, run_whole};
 use crate::kind::*;
 use crate::partial::is_of_bits;
@@ -11,6 +11,12 @@ use std::collections::HashSet;
 const CHEAP: usize = 1 << 19;
 const DEAR: usize = 1 << 24;
 const SELDOM: usize = 40;
+
+/// The first so many cases have numbers that two bytes do not hold.
+const LONG: usize = 4;
+
+/// So many of the last terms are asked about where there are very many.
+const LAST: usize = 100;
 
 /// A question, its answer, and what is known of it without the answer.
 pub struct Asked {
@@ -30,6 +36,12 @@ pub fn asked_case(seed: u64, i: usize) -> Case {
     let mut maker = Maker::new(seed.wrapping_mul(1_000_033).wrapping_add(i as u64));
     let kinds: Vec<u16> = terms().filter(|&kind| shape(kind).is_some_and(|shape| shape.least > 0)).collect();
     let dear = i % SELDOM == SELDOM - 1;
+    if i < LONG || maker.rng.chance(IN_FOUR_BYTES) {
+        maker.in_four_bytes();
+    }
+    if i < LONG {
+        maker.past_two_bytes();
+    }
     match maker.rng.below(20) {
         0 => maker.mixture(),
         1..=4 => maker.gates(),
@@ -61,20 +73,22 @@ impl Maker {
     /// Questions about a final list: its equalities, its narrow terms, its terms of bits, other numbers, and lent memory around what is needed.
     fn questions(&mut self, store: &Final) -> Vec<Question> {
         let kept = store.list.len();
-        let places = |asked: &dyn Fn(Id) -> bool| (0..kept).filter(|&place| asked(store.list[place])).collect();
+        // Of very many terms the last ones are what the job is about.
+        let first = if kept > MANY { kept - LAST } else { 0 };
+        let places = |asked: &dyn Fn(Id) -> bool| (first..kept).filter(|&place| asked(store.list[place])).collect();
         let equals: Vec<usize> = places(&|id| store.pool.kind(id) == EQUALS);
         let narrow: Vec<usize> = places(&|id| store.pool.width(id) <= MOST_WIDTH);
         let all_of_bits = |id: Id| store.pool.below(&[id]).iter().all(|&id| is_of_bits(&store.pool, id));
         let of_bits: Vec<usize> = places(&all_of_bits);
         // The last equality is most often what the job is about.
         let last = equals.last().map(|&place| place as u32);
-        let first = Question::Sweep { number: last.unwrap_or(0), values: self.buffer(CELL * kept) };
-        let mut questions = vec![first];
+        let sweep = Question::Sweep { number: last.unwrap_or(0), values: self.buffer(CELL * kept) };
+        let mut questions = vec![sweep];
         // The later ones are over more of the others.
         let of_bits = &of_bits[if self.rng.chance(80) { of_bits.len() / 2 } else { 0 }..];
         // Where gates are much of the job, most questions are about their bits.
-        let gates = of_bits.len() > kept / 4;
-        for _ in 0..if gates { self.rng.range(6, 14) } else { self.rng.range(2, 6) } {
+        let gates = of_bits.len() > (kept - first) / 4;
+        for _ in 0..if gates || first > 0 { self.rng.range(6, 14) } else { self.rng.range(2, 6) } {
             let sort = if gates { self.rng.pick(&[0, 1, 2, 2, 2, 2]) } else { self.rng.below(3) };
             let fitting = [&equals[..], &narrow, of_bits][sort];
             let any = self.rng.chance(15) || fitting.is_empty();
@@ -108,7 +122,18 @@ impl Maker {
     fn any_number(&mut self, kept: usize) -> u32 {
         let some = self.rng.below(kept) as u32;
         let (yes, no, kept) = (YES as u32, NO as u32, kept as u32);
-        self.rng.pick(&[yes, no, some, kept - 1, kept, kept + 1, some + 65_536, some + (1 << 31), u32::MAX])
+        self.rng.pick(&[
+            yes,
+            no,
+            some,
+            kept - 1,
+            kept,
+            kept + 1,
+            some + 65_536,
+            some + (1 << 24),
+            some + (1 << 31),
+            u32::MAX,
+        ])
     }
 
     /// A length around what is needed.

@@ -59,7 +59,7 @@ impl Maker {
         let place = self.rng.pick(&usable);
         let premise = self.premises[usize::from(place) - 1];
         let kept = self.rng.chance(50);
-        self.back(usize::from(premise.number) + usize::from(kept));
+        self.back(premise.number as usize + usize::from(kept));
         self.emit(premise.literal);
         let (a, b) = self.sides_at(place);
         let turned = self.equals(b, a);

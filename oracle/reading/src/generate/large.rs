@@ -1,6 +1,7 @@
 //! Jobs at the limits of length and of term numbers, and circuits of large widths.
 use super::{Case, Maker};
-use crate::job::{LONGEST, MOST_TERMS};
+use crate::format::TWO;
+use crate::job::LONGEST;
 use crate::kind::NOT;
 use crate::pool::YES;
 use crate::rule::left_kind;
@@ -31,7 +32,7 @@ pub fn case(maker: &mut Maker, i: usize) -> Case {
     match i {
         0 | 1 => maker.bytes = vec![0; LONGEST + i],
         2 => maker.bytes = crate::specimen(),
-        3 | 4 => tower(maker, MOST_TERMS - 2 + i - 3),
+        3 | 4 => tower(maker, TWO.most_terms - 2 + i - 3),
         _ => {
             let (rule, width) = CIRCUITS[i - 5];
             circuit(maker, rule, width);

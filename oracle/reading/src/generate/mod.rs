@@ -5,8 +5,10 @@ mod chains;
 mod claims;
 mod derived;
 mod equalities;
+mod first;
 mod large;
 mod limits;
+mod long;
 mod maker;
 mod over;
 mod records;
@@ -19,7 +21,8 @@ pub use asked::{Asked, asked_case};
 pub use maker::Maker;
 
 use crate::check::Summary;
-use crate::job::{ANSWER, Lent, Limits, ROW, expect_text};
+use crate::format::Format;
+use crate::job::{Lent, Limits, expect_text};
 use crate::limited::Limited;
 use crate::rule::STEP_RULES;
 use crate::survey::Survey;
@@ -41,7 +44,8 @@ pub struct Case {
 impl Case {
     /// The job of a maker, with the memory that it needs.
     fn of(maker: &mut Maker) -> Self {
-        let lent = Lent { work: ROW * (maker.peak - 2), room: ANSWER * maker.claims.len() };
+        let (row, answer) = (maker.format.row, maker.format.answer);
+        let lent = Lent { work: row * (maker.peak - 2), room: answer * maker.claims.len() };
         let (job, claims) = (std::mem::take(&mut maker.bytes), std::mem::take(&mut maker.claims));
         Case { job, lent, claims, asked: Vec::new(), under: Vec::new() }
     }
@@ -59,16 +63,29 @@ impl Case {
     }
 }
 
+/// More terms than most jobs keep.
+const MANY: usize = 1_000;
+
+/// Of so many cases in a hundred the numbers have four bytes.
+const IN_FOUR_BYTES: usize = 45;
+
 /// Case number `i` of a seed: the large ones first, then the others in turns.
 pub fn case(seed: u64, i: usize) -> Case {
     let mut maker = Maker::new(seed.wrapping_mul(1_000_003).wrapping_add(i as u64));
     let Some(i) = i.checked_sub(large::COUNT) else {
         return large::case(&mut maker, i);
     };
+    let Some(i) = i.checked_sub(long::COUNT) else {
+        return long::case(&mut maker, i);
+    };
+    if maker.rng.chance(IN_FOUR_BYTES) {
+        maker.in_four_bytes();
+    }
     let rule = (i / 5) as u16 % STEP_RULES + 1;
     match i % 5 {
         0 => maker.claims_of(rule),
         1 => maker.mixture(),
+        2 if maker.rng.chance(15) => maker.first_records(),
         2 => maker.stopped(),
         3 => maker.chains(),
         _ => maker.small_steps(rule),
@@ -89,7 +106,7 @@ pub fn case(seed: u64, i: usize) -> Case {
 
 /// Lends a little more or less than is needed.
 fn lend_around(maker: &mut Maker, case: &mut Case) {
-    let rng = &mut maker.rng;
+    let (Format { row, answer, .. }, rng) = (maker.format, &mut maker.rng);
     let mut around = |need: usize, unit: usize| match rng.below(8) {
         0 => rng.below(2 * unit),
         1 => need,
@@ -97,7 +114,7 @@ fn lend_around(maker: &mut Maker, case: &mut Case) {
         5 => rng.below(need + 1),
         _ => need + unit,
     };
-    case.lent = Lent { work: around(case.lent.work, ROW), room: around(case.lent.room, ANSWER) };
+    case.lent = Lent { work: around(case.lent.work, row), room: around(case.lent.room, answer) };
 }
 
 /// Changes some bytes of a job, or cuts it; what its claims are is not known then.

@@ -1,14 +1,13 @@
 use borrow.Author.Needs.{needs}
 use mathlib.Core.Path.{refl}
 use Prim.Native.Nat.{_-_}
-use Rattle.rows.specs.Rows.{kept}
-use Rattle.store.specs.Numbers.{numbers}
+use Rattle.store.specs.Numbers.{numbers-in}
 use Rattle.circuits.proofs.AddLaws.{Adding, adder-start, adder-turn, adder-end}
 use Rattle.circuits.proofs.adder.ripple_carry_adder.Statement.{statement}
 use Rattle.circuits.proofs.adder.ripple_carry_adder.Tie as tie
 
 abbrev Inv-loop : tie.InvT-loop
-Inv-loop job work n w carry x y bits₀ last₀ c₀ i₀ bits last c i = Adding (numbers (kept job work n)) x y w carry bits last c i
+Inv-loop job work n w carry x y bits₀ last₀ c₀ i₀ bits last c i = Adding (numbers-in job work n) x y w carry bits last c i
 
 abbrev μ-loop : tie.MeasureT-loop
 μ-loop job work n w carry x y bits₀ last₀ c₀ i₀ bits last c i = w - i

@@ -1,14 +1,13 @@
 use borrow.Author.Needs.{needs}
 use mathlib.Core.Path.{refl}
 use Prim.Native.Nat.{_-_}
-use Rattle.rows.specs.Rows.{kept}
-use Rattle.store.specs.Numbers.{numbers}
+use Rattle.store.specs.Numbers.{numbers-in}
 use Rattle.circuits.proofs.FillLaws.{Mapping, map-start, map-turn, map-end}
 use Rattle.circuits.proofs.bits.nots.Statement.{statement}
 use Rattle.circuits.proofs.bits.nots.Tie as tie
 
 abbrev Inv-loop : tie.InvT-loop
-Inv-loop job work n w x out₀ i₀ out i = Mapping (numbers (kept job work n) .not-gate) x w out i
+Inv-loop job work n w x out₀ i₀ out i = Mapping (numbers-in job work n .not-gate) x w out i
 
 abbrev μ-loop : tie.MeasureT-loop
 μ-loop job work n w x out₀ i₀ out i = w - i

@@ -3,12 +3,13 @@ use mathlib.Core.Path.{refl}
 use Prim.Native.Nat.{_-_}
 use Rattle.rows.specs.Rows.{kept}
 use Rattle.store.specs.Numbers.{bit-number}
+use Rattle.theory.specs.Record.{number-length}
 use Rattle.circuits.proofs.FillLaws.{Filling, fill-start, fill-turn, fill-end}
 use Rattle.circuits.proofs.bits.select_bits.Statement.{statement}
 use Rattle.circuits.proofs.bits.select_bits.Tie as tie
 
 abbrev Inv-loop : tie.InvT-loop
-Inv-loop job work n t w out₀ i₀ out i = Filling (λ k. bit-number (kept job work n) k t) w out i
+Inv-loop job work n t w out₀ i₀ out i = Filling (λ k. bit-number (number-length job) (kept job work n) k t) w out i
 
 abbrev μ-loop : tie.MeasureT-loop
 μ-loop job work n t w out₀ i₀ out i = w - i

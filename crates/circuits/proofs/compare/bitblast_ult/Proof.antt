@@ -1,13 +1,12 @@
 use borrow.Author.Needs.{needs}
 use Prim.Native.Nat.{_-_}
-use Rattle.rows.specs.Rows.{kept}
-use Rattle.store.specs.Numbers.{numbers}
+use Rattle.store.specs.Numbers.{numbers-in}
 use Rattle.circuits.proofs.CompareLaws.{Comparing, ult-start, ult-turn, ult-end}
 use Rattle.circuits.proofs.compare.bitblast_ult.Statement.{statement}
 use Rattle.circuits.proofs.compare.bitblast_ult.Tie as tie
 
 abbrev Inv-loop : tie.InvT-loop
-Inv-loop job work n w x y res₀ i₀ res i = Comparing (numbers (kept job work n)) x y w res i
+Inv-loop job work n w x y res₀ i₀ res i = Comparing (numbers-in job work n) x y w res i
 
 abbrev μ-loop : tie.MeasureT-loop
 μ-loop job work n w x y res₀ i₀ res i = w - i

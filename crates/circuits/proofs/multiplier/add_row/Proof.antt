@@ -1,13 +1,12 @@
 use borrow.Author.Needs.{needs}
 use Prim.Native.Nat.{_-_}
-use Rattle.rows.specs.Rows.{kept}
-use Rattle.store.specs.Numbers.{numbers}
+use Rattle.store.specs.Numbers.{numbers-in}
 use Rattle.circuits.proofs.MultiplyLaws.{Adding-row, row-start, row-turn, row-end}
 use Rattle.circuits.proofs.multiplier.add_row.Statement.{statement}
 use Rattle.circuits.proofs.multiplier.add_row.Tie as tie
 
 abbrev Inv-loop : tie.InvT-loop
-Inv-loop job work n y j w sum x out₀ c₀ k₀ out c k = Adding-row (numbers (kept job work n)) y j sum x w out c k
+Inv-loop job work n y j w sum x out₀ c₀ k₀ out c k = Adding-row (numbers-in job work n) y j sum x w out c k
 
 abbrev μ-loop : tie.MeasureT-loop
 μ-loop job work n y j w sum x out₀ c₀ k₀ out c k = w - j - k

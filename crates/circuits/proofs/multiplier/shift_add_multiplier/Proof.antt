@@ -1,15 +1,14 @@
 use borrow.Author.Needs.{needs}
 use mathlib.Core.Path.{_∙_}
 use Prim.Native.Nat.{_-_}
-use Rattle.rows.specs.Rows.{kept}
-use Rattle.store.specs.Numbers.{numbers}
+use Rattle.store.specs.Numbers.{numbers-in}
 use Rattle.circuits.proofs.FillLaws.{with-left}
 use Rattle.circuits.proofs.MultiplyLaws.{Multiplying, mult-start, mult-turn, mult-end}
 use Rattle.circuits.proofs.multiplier.shift_add_multiplier.Statement.{statement}
 use Rattle.circuits.proofs.multiplier.shift_add_multiplier.Tie as tie
 
 abbrev Inv-loop : tie.InvT-loop
-Inv-loop job work n x w y res₀ j₀ res j = Multiplying (numbers (kept job work n)) x y w res j
+Inv-loop job work n x w y res₀ j₀ res j = Multiplying (numbers-in job work n) x y w res j
 
 abbrev μ-loop : tie.MeasureT-loop
 μ-loop job work n x w y res₀ j₀ res j = w - j

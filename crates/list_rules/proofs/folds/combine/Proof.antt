@@ -4,8 +4,7 @@ use mathlib.Core.List.{List}
 use Prim.Native.Nat.{ℕ}
 use lib.ListN.{take}
 use denote.Ref.{now}
-use Rattle.rows.specs.Rows.{kept}
-use Rattle.store.specs.Numbers.{numbers}
+use Rattle.store.specs.Numbers.{numbers-in}
 use Rattle.list_rules.specs.declared.folds.Operation.{Operation}
 use Rattle.list_rules.specs.Lists.{circuit}
 use Rattle.list_rules.proofs.folds.combine.Statement.{statement}
@@ -13,7 +12,7 @@ use Rattle.list_rules.proofs.folds.combine.Tie as tie
 
 -- the circuit of an operation, on a call's arguments
 abbrev circuit-at : tie.Start → Operation → List ℕ
-circuit-at s op = let a = s .args in circuit (numbers (kept (now (a .job)) (now (a .work)) (a .n))) op (take (a .w) (a .x)) (take (a .w) (a .y))
+circuit-at s op = let a = s .args in circuit (numbers-in (now (a .job)) (now (a .work)) (a .n)) op (take (a .w) (a .x)) (take (a .w) (a .y))
 
 returns : tie.Need-returns
 returns c = c .ands .ensures ∙ sym (ap (circuit-at (c .before .before .before .before .before)) (c .before .enum-told .given .1))

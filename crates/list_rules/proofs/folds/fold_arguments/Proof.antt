@@ -8,8 +8,7 @@ use denote.Ref.{now}
 use Rattle.theory.specs.Bits.{get-term-bits}
 use Rattle.terms.specs.Decoded.{words-in}
 use Rattle.terms.proofs.Lists.{words-in-length}
-use Rattle.rows.specs.Rows.{kept}
-use Rattle.store.specs.Numbers.{numbers}
+use Rattle.store.specs.Numbers.{numbers-in}
 use Rattle.operand_rules.specs.Rules.{number-in, tree}
 use Rattle.operand_rules.proofs.Numbers.{store-hom, widths}
 use Rattle.list_rules.proofs.Folding.{Folding, fold-start, fold-turn, fold-end}
@@ -18,7 +17,7 @@ use Rattle.list_rules.proofs.folds.fold_arguments.Statement.{statement}
 use Rattle.list_rules.proofs.folds.fold_arguments.Tie as tie
 
 abbrev Inv-loop : tie.InvT-loop
-Inv-loop job work n op list w count bits₀ i₀ bits i = Folding (numbers (kept job work n)) (number-in job work n) (tree job work n) op (words-in job list) (take w bits) i
+Inv-loop job work n op list w count bits₀ i₀ bits i = Folding (numbers-in job work n) (number-in job work n) (tree job work n) op (words-in job list) (take w bits) i
 
 abbrev μ-loop : tie.MeasureT-loop
 μ-loop job work n op list w count bits₀ i₀ bits i = count - i

@@ -12,7 +12,7 @@ use Rattle.partial.proofs.inputs.place_inputs.Statement.{statement}
 use Rattle.partial.proofs.inputs.place_inputs.Tie as tie
 
 abbrev Inv-loop : tie.InvT-loop
-Inv-loop job work n values₀ asked at₀ k₀ values at k = Placing job work n asked values₀ values at k × (k ≤ asked → T (mark-of work k))
+Inv-loop job work n values₀ asked at₀ k₀ values at k = Placing job work n asked values₀ values at k × (k ≤ asked → T (mark-of job work k))
 
 abbrev μ-loop : tie.MeasureT-loop
 μ-loop job work n values₀ asked at₀ k₀ values at k = asked + 1 - k

@@ -10,7 +10,7 @@ use Rattle.partial.proofs.levels.is_bit_level.Statement.{statement}
 use Rattle.partial.proofs.levels.is_bit_level.Tie as tie
 
 abbrev Inv-loop : tie.InvT-loop
-Inv-loop job work n asked k₀ k = Searching job work n asked k × (k ≤ asked → T (mark-of work k))
+Inv-loop job work n asked k₀ k = Searching job work n asked k × (k ≤ asked → T (mark-of job work k))
 
 abbrev μ-loop : tie.MeasureT-loop
 μ-loop job work n asked k₀ k = asked + 1 - k

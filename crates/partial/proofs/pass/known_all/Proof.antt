@@ -10,7 +10,7 @@ use Rattle.partial.proofs.pass.known_all.Statement.{statement}
 use Rattle.partial.proofs.pass.known_all.Tie as tie
 
 abbrev Inv-loop : tie.InvT-loop
-Inv-loop job work n values₀ inputs asked k₀ values k = Knowing job work n inputs asked values₀ values k × (k ≤ asked → T (mark-of work k))
+Inv-loop job work n values₀ inputs asked k₀ values k = Knowing job work n inputs asked values₀ values k × (k ≤ asked → T (mark-of job work k))
 
 abbrev μ-loop : tie.MeasureT-loop
 μ-loop job work n values₀ inputs asked k₀ values k = asked + 1 - k

@@ -1,41 +1,34 @@
-use mathlib.Core.Path.{_≡_, refl, sym, _∙_}
-use Prim.Native.Nat.{_+_, _-_}
-use lib.ListN.{length}
+-- each call is for the length that was asked
+use mathlib.Core.Path.{_≡_, sym, subst}
+use Prim.Native.Nat.{ℕ}
 use lib.Seq.{sets}
 use borrow.Author.Needs.{needs}
 use Rattle.theory.specs.Record.{bytes-of}
-use Rattle.rows.proofs.RowLaws.{put-end, put-start, put-turn}
 use Rattle.rows.proofs.bytes.put_number.Statement.{statement}
 use Rattle.rows.proofs.bytes.put_number.Tie as tie
 
-abbrev Inv-loop : tie.InvT-loop
-Inv-loop s₀ at len x end i₀ rest₀ s i rest =
-    (end ≡ at + len) × (length s ≡ length s₀) × (sets s₀ at (bytes-of len x) ≡ sets s i (bytes-of (end - i) rest))
+returns : tie.Need-returns
+returns c =
+    let a = c .before .before .before .before .before .before .args in
+    subst (λ (m : ℕ). c .before .before .put-number-of .last .0 ≡ sets (a .s .now) (a .at) (bytes-of m (a .x))) (sym (c .before .before .before .before .if1 .taken))
+    (c .before .before .put-number-of .ensures)
 
-abbrev μ-loop : tie.MeasureT-loop
-μ-loop s₀ at len x end i₀ rest₀ s i rest = end - i
-
-loop-holds : tie.Need-loop-holds Inv-loop μ-loop
-loop-holds c = (refl, refl, put-start (c .args .s .now) (c .args .at) (c .args .x) (c .args .len))
-
-loop-again : tie.Need-loop-again Inv-loop μ-loop
-loop-again c = (search needs, search needs, c .before .loop .inv .2 ∙ put-turn _ _ _ _ (c .loop-test .taken))
-
-returns : tie.Need-returns Inv-loop μ-loop
-returns c = sym (c .before .loop .inv .2 ∙ put-end _ _ _ _ (c .loop-test .left))
+returns-2 : tie.Need-returns-2
+returns-2 c =
+    let a = c .before .before .before .before .before .before .before .args in
+    subst (λ (m : ℕ). c .before .before .put-number-of2 .last .0 ≡ sets (a .s .now) (a .at) (bytes-of m (a .x))) (sym (c .before .before .before .before .if2 .taken))
+    (c .before .before .put-number-of2 .ensures)
 
 pub put-number-spec : {M : Type 1} → statement M
 put-number-spec =
     tie.close
     (tie.spec
-    Inv-loop
-    μ-loop
+    (λ c κs. search needs)
     (λ c. search needs)
-    loop-holds
+    returns
+    (λ c κs. search needs)
     (λ c. search needs)
+    returns-2
+    (λ c κs. search needs)
     (λ c. search needs)
-    (λ c. search needs)
-    (λ c. search needs)
-    loop-again
-    (λ c. search needs)
-    returns)
+    (λ c. search needs))

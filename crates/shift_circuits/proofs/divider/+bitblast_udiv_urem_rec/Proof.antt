@@ -56,12 +56,12 @@ pub +bitblast-udiv-urem-rec-spec : {M : Type 1} → statement M
     divide-stop _ _ _ _ _ (c .if1 .taken) (repeated 1 (a .x) (a .w) 64 (search needs) (search needs)))
     (λ c κs. search needs)
     (λ c. let a = c .before .before .before .before .before .args in
-    divide-none _ _ _ _ _ (numbers []) _ (c .before .before .if1 .left) (c .before .all-false .ensures) (c .if2 .taken) (repeated 1 (a .x) (a .w) 64 (search needs) (search needs)))
+    divide-none _ _ _ _ _ (numbers 0 []) _ (c .before .before .if1 .left) (c .before .all-false .ensures) (c .if2 .taken) (repeated 1 (a .x) (a .w) 64 (search needs) (search needs)))
     (λ c κs. search needs)
     (λ c. search needs)
     (λ c κs. search needs)
     (λ c κs. search needs)
     (λ c. let b = c .before .before .before .before .before in
     let a = b .before .before .before .before .before .args in
-    divide-more _ _ _ _ _ _ (numbers []) _ (b .before .before .if1 .left) (first (a .x) (a .w) (search needs) (long t (b .before .before .before .before .before))) (b .before .all-false .ensures) (b .if2 .left)
+    divide-more _ _ _ _ _ _ (numbers 0 []) _ (b .before .before .if1 .left) (first (a .x) (a .w) (search needs) (long t (b .before .before .before .before .before))) (b .before .all-false .ensures) (b .if2 .left)
     (c .before .before .before .before .shift-right .ensures) (c .before .before .before .bitblast-udiv-urem-rec .ensures) (c .divide-step .ensures))

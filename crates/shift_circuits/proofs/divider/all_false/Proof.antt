@@ -8,7 +8,7 @@ use Rattle.shift_circuits.proofs.divider.all_false.Statement.{statement
 use Rattle.shift_circuits.proofs.divider.all_false.Tie as tie
 
 abbrev Inv-loop : tie.InvT-loop
-Inv-loop w x i₀ i = Testing (numbers []) is-false-number x w i
+Inv-loop w x i₀ i = Testing (numbers 0 []) is-false-number x w i
 
 abbrev μ-loop : tie.MeasureT-loop
 μ-loop w x i₀ i = w - i

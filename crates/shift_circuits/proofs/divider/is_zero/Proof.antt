@@ -2,8 +2,7 @@ use borrow.Author.Needs.{needs}
 use mathlib.Core.Path.{sym}
 use lib.Seq.{length-take-le}
 use denote.Ref.{now}
-use Rattle.rows.specs.Rows.{kept}
-use Rattle.store.specs.Numbers.{numbers}
+use Rattle.store.specs.Numbers.{numbers-in}
 use Rattle.circuits.proofs.FillLaws.{take-short}
 use Rattle.shift_circuits.proofs.DivideLaws.{zero-by}
 use Rattle.shift_circuits.proofs.divider.is_zero.Statement.{statement}
@@ -18,7 +17,7 @@ all-of-requires c κs = let a = c .before .before .before .before .args in
 
 returns : tie.Need-returns
 returns c = let a = c .before .before .before .before .before .args in
-    zero-by (numbers (kept (now (a .job)) (now (a .work)) (a .n))) (a .y) (c .before .before .eqs .result) (a .w) (c .all-of .ensures) (c .before .before .eqs .ensures) (search needs) (search needs)
+    zero-by (numbers-in (now (a .job)) (now (a .work)) (a .n)) (a .y) (c .before .before .eqs .result) (a .w) (c .all-of .ensures) (c .before .before .eqs .ensures) (search needs) (search needs)
 
 pub is-zero-spec : {M : Type 1} → statement M
 is-zero-spec =

@@ -2,14 +2,13 @@ use borrow.Author.Needs.{needs}
 use mathlib.Core.Path.{refl}
 use mathlib.Core.Logic.{⊎-elim}
 use Prim.Native.Nat.{_-_}
-use Rattle.rows.specs.Rows.{kept}
-use Rattle.store.specs.Numbers.{numbers}
+use Rattle.store.specs.Numbers.{numbers-in}
 use Rattle.shift_circuits.proofs.ShiftLaws.{power, Shl-stage, shl-start, shl-low, shl-high, shl-end}
 use Rattle.shift_circuits.proofs.shift.shl_stage.Statement.{statement}
 use Rattle.shift_circuits.proofs.shift.shl_stage.Tie as tie
 
 abbrev Inv-loop : tie.InvT-loop
-Inv-loop job work n s y w p thresh out₀ i₀ out i = Shl-stage (numbers (kept job work n)) s thresh y p w out i
+Inv-loop job work n s y w p thresh out₀ i₀ out i = Shl-stage (numbers-in job work n) s thresh y p w out i
 
 abbrev μ-loop : tie.MeasureT-loop
 μ-loop job work n s y w p thresh out₀ i₀ out i = w - i

@@ -1,13 +1,12 @@
 use borrow.Author.Needs.{needs}
 use Prim.Native.Nat.{_-_}
-use Rattle.rows.specs.Rows.{kept}
-use Rattle.store.specs.Numbers.{numbers}
+use Rattle.store.specs.Numbers.{numbers-in}
 use Rattle.shift_circuits.proofs.ShiftLaws.{Shl-stages, shl-stages-start, shl-stages-turn, shl-stages-end}
 use Rattle.shift_circuits.proofs.shift.shl_stages.Statement.{statement}
 use Rattle.shift_circuits.proofs.shift.shl_stages.Tie as tie
 
 abbrev Inv-loop : tie.InvT-loop
-Inv-loop job work n w y stages res₀ s₀ res s = Shl-stages (numbers (kept job work n)) res₀ y w stages res s
+Inv-loop job work n w y stages res₀ s₀ res s = Shl-stages (numbers-in job work n) res₀ y w stages res s
 
 abbrev μ-loop : tie.MeasureT-loop
 μ-loop job work n w y stages res₀ s₀ res s = stages - s

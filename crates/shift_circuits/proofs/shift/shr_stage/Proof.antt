@@ -2,14 +2,13 @@ use borrow.Author.Needs.{needs}
 use mathlib.Core.Path.{refl, _∙_}
 use mathlib.Core.Logic.{⊎-elim}
 use Prim.Native.Nat.{_-_}
-use Rattle.rows.specs.Rows.{kept}
-use Rattle.store.specs.Numbers.{numbers}
+use Rattle.store.specs.Numbers.{numbers-in}
 use Rattle.shift_circuits.proofs.ShiftLaws.{power, Shr-stage, shr-start, shr-low, shr-high, shr-end}
 use Rattle.shift_circuits.proofs.shift.shr_stage.Statement.{statement}
 use Rattle.shift_circuits.proofs.shift.shr_stage.Tie as tie
 
 abbrev Inv-loop : tie.InvT-loop
-Inv-loop job work n fill s y w p thresh stays out₀ i₀ out i = Shr-stage (numbers (kept job work n)) fill s thresh y stays p w out i
+Inv-loop job work n fill s y w p thresh stays out₀ i₀ out i = Shr-stage (numbers-in job work n) fill s thresh y stays p w out i
 
 abbrev μ-loop : tie.MeasureT-loop
 μ-loop job work n fill s y w p thresh stays out₀ i₀ out i = w - i

@@ -1,13 +1,12 @@
 use borrow.Author.Needs.{needs}
 use Prim.Native.Nat.{_-_}
-use Rattle.rows.specs.Rows.{kept}
-use Rattle.store.specs.Numbers.{numbers}
+use Rattle.store.specs.Numbers.{numbers-in}
 use Rattle.shift_circuits.proofs.ShiftLaws.{Shr-stages, shr-stages-start, shr-stages-turn, shr-stages-end}
 use Rattle.shift_circuits.proofs.shift.shr_stages.Statement.{statement}
 use Rattle.shift_circuits.proofs.shift.shr_stages.Tie as tie
 
 abbrev Inv-loop : tie.InvT-loop
-Inv-loop job work n fill w y stages res₀ s₀ res s = Shr-stages (numbers (kept job work n)) fill res₀ y w stages res s
+Inv-loop job work n fill w y stages res₀ s₀ res s = Shr-stages (numbers-in job work n) fill res₀ y w stages res s
 
 abbrev μ-loop : tie.MeasureT-loop
 μ-loop job work n fill w y stages res₀ s₀ res s = stages - s

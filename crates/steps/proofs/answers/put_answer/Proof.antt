@@ -12,13 +12,14 @@ returns c =
     let a₂ = a₃ .before .before .before .before .before in
     let a₁ = a₂ .before .before .before .before in
     let s = a₁ .before .before .before in
-    four (s .args .d .now) _ _ _ _ (s .args .k) (s .args .place) (given (s .args .rule) (s .args .reply)) (s .pre)
+    four (s .args .bytes) (s .args .d .now) _ _ _ _ (s .args .k) (s .args .place) (given (s .args .rule) (s .args .reply)) (s .pre .1)
     (a₁ .put-number .ensures) (a₂ .put-number2 .ensures) (a₃ .put-number3 .ensures) (a₄ .put-number4 .ensures)
 
 pub put-answer-spec : {M : Type 1} → statement M
 put-answer-spec =
     tie.close
     (tie.spec
+    (λ c. search needs)
     (λ c. search needs)
     (λ c κs. search needs)
     (λ c. search needs)

@@ -2,7 +2,7 @@
 use mathlib.Core.Path.{_∙_}
 use native.Mathlib.Omega.{arith}
 use borrow.Author.Needs.{needs}
-use Rattle.rows.specs.Layout.{link-bytes}
+use Rattle.terms.proofs.Numbers.{place-small}
 use Rattle.store.proofs.Keeping.{row-lies}
 use Rattle.store.proofs.Measuring.{depth-least}
 use Rattle.store.proofs.Sorting.{row-depth, row-stands}
@@ -28,7 +28,6 @@ measure-at-requires : tie.Need-measure-at-requires
 measure-at-requires c κs = let s = c .before .before .before .before in row-lies (s .pre .0) (s .pre .1)
 
 returns : tie.Need-returns
-unfolding link-bytes
 returns c =
     let s = c .before .before .before .before .before .before in
     record {
@@ -39,7 +38,7 @@ returns c =
         arith,
         c .depth-in .ensures,
         depth-least (c .before .before .number .result) (c .before .measure-at .result),
-        c .before .measure-at .ensures .below,
+        place-small _ _ (s .pre .0 .rows .link-length .few-bytes) (c .before .measure-at .ensures .below),
       );
     }
 
