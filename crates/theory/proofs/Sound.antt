@@ -2,8 +2,8 @@
 use mathlib.Core.Path.{_≡_, refl, sym, ap, subst}
 use mathlib.Core.Bool.{Bool, true, false, _&&_, cond, not}
 use mathlib.Core.List.{List, [], _∷_, map, foldl}
-use Prim.Native.Nat.{ℕ, zero, suc, _+_, _-_, _*_, _/_, _^_, _<_, _≤_}
-use native.Mathlib.Nat.{mod-lt, pow-succ', lt-of-le-of-lt, div-le-self, mod-le, zero-add, add-zero, add-assoc, sub-add-cancel}
+use Prim.Native.Nat.{ℕ, zero, suc, _+_, _-_, _*_, _/_, _^_, _<_}
+use native.Mathlib.Nat.{mod-lt, pow-succ', lt-of-le-of-lt, div-le-self, mod-le, zero-add, add-zero, add-assoc}
 use native.Mathlib.Omega.{arith}
 use lib.Bits.{and-lt, or-lt, xor-lt}
 use lib.Dec.{T, leb, ltb, eqb, eqb→eq, leb→le, ltb→lt}
@@ -126,24 +126,24 @@ lshr-lt : Below2 lshr-n
 unfolding lshr-n
 lshr-lt n x y h k = cond-lt (ltb y n) (λ t. lt-of-le-of-lt (div-le-self x (2 ^ y)) h) (λ t. pow-pos n)
 
--- x is below the part that is not filled
-fill-lt : (n k x a : ℕ) → k ≤ n → a < 2 ^ (n - k) → a + top-copies n k x < 2 ^ n
+-- bvashr stays below 2 ^ n whatever bit is copied and whatever test chooses: the proofs name neither, `search` finds them.
+fill-lt : (n k x a : ℕ) → a < 2 ^ (n - k) → a + top-copies n k x < 2 ^ n
 unfolding top-copies
-fill-lt n k x a c h = go (bit-at (n - 1) x)
+fill-lt n k x a h = search go
   where
     go : (b : Bool) → a + cond b (2 ^ n - 2 ^ (n - k)) 0 < 2 ^ n
     go true = omega (arith, pow-mono {i = n - k} {j = n} (omega arith))
     go false = omega (arith, pow-mono {i = n - k} {j = n} (omega arith))
 
-y-le : (n y : ℕ) → T (ltb y n) → y ≤ n
-y-le n y t = omega (arith, ltb→lt y n t)
+top-copies-lt : (n k x : ℕ) → top-copies n k x < 2 ^ n
+top-copies-lt n k x = rw zero-add at (fill-lt n k x 0 (pow-pos (n - k)))
+
+div-pow-lt : (n x y : ℕ) → x < 2 ^ n → x / 2 ^ y < 2 ^ (n - y)
+div-pow-lt n x y h = shr-lt (n - y) y (omega (arith, pow-mono {i = n} {j = n - y + y} (omega arith)))
 
 ashr-lt : Below2 ashr-n
 unfolding ashr-n
-ashr-lt n x y h k =
-    cond-lt (ltb y n)
-    (λ t. fill-lt n y x (x / 2 ^ y) (y-le n y t) (shr-lt (n - y) y (rw (sub-add-cancel (y-le n y t)) h)))
-    (λ t. rw zero-add at (fill-lt n n x 0 (omega arith) (pow-pos (n - n))))
+ashr-lt n x y h k = search (cond-lt, fill-lt, div-pow-lt, top-copies-lt)
 
 udiv-lt : Below2 udiv-n
 unfolding udiv-n
