@@ -365,13 +365,12 @@ pub fn many_terms_in(format: Format, count: usize) -> Vec<u8> {
     job.finish()
 }
 
-/// The same run of Nots, and then so many repeats of them in scattered order.
-pub fn many_repeats_in(format: Format, count: usize, repeats: usize) -> Vec<u8> {
+/// The same run of Nots, and then so many repeats of them, each of the one that stands `step` places after the last, the first following the last.
+pub fn many_repeats_in(format: Format, count: usize, repeats: usize, step: usize) -> Vec<u8> {
     let mut job = JobWriter::of(format);
     job.bytes = many_terms_in(format, count);
     for k in 0..repeats {
-        // The step is a prime, so that all of them have their turn.
-        let number = (k * 40_503 % count) as u32;
+        let number = (k * step % count) as u32;
         job.record(Kind::Not, std::iter::empty(), &[if number == 0 { 0 } else { number + 1 }]);
     }
     job.finish()

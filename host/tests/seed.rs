@@ -5,7 +5,7 @@ use std::time::{Duration, Instant};
 /// What the library computes with, where the seed is 0 (crates/table/specs/Buckets.antt).
 const MULTIPLIER: u64 = 668_265_264;
 const PRIME: u64 = (1 << 31) - 1;
-const HASH_END: u64 = (1 << 31) + 2;
+const HASH_END: u64 = 1 << 31;
 
 /// A memory of which a job of more than a quarter of its bytes gets all, and its buckets.
 const WORK: usize = 1 << 20;
@@ -18,9 +18,12 @@ fn fold(x: u64) -> u64 {
     x % (1 << 31) + x / (1 << 31)
 }
 
-/// The bucket of a record of these words.
-fn bucket(words: [u64; 4]) -> u64 {
-    fold(words.iter().fold(0, |hash, word| fold((hash + word) * MULTIPLIER))) * BUCKETS / HASH_END
+/// The kind of a conjunction, as it stands above its first argument.
+const AND: u64 = 21 << 16;
+
+/// The bucket of a conjunction of two terms.
+fn bucket(a: u64, b: u64) -> u64 {
+    [a, b].iter().fold(AND, |hash, word| fold((hash + word) * MULTIPLIER)) % HASH_END * BUCKETS / HASH_END
 }
 
 fn power(base: u64, exponent: u64) -> u64 {
@@ -37,11 +40,11 @@ fn crafted_gates() -> Vec<(u64, u64)> {
     let mut ends: Vec<u64> = (2..PRIME / BUCKETS).map(|end| end * inverse % PRIME).collect();
     ends.sort_unstable();
     let pairs = (0..VARIABLES).flat_map(|a| {
-        let before = [6, 21, a].iter().fold(0, |hash, word| (hash + word) * MULTIPLIER % PRIME);
+        let before = (AND + a) * MULTIPLIER % PRIME;
         let from = ends.partition_point(|&end| end < before);
         ends[from..].iter().map(move |end| (a, end - before)).take_while(|pair| pair.1 < VARIABLES).collect::<Vec<_>>()
     });
-    pairs.filter(|&(a, b)| bucket([6, 21, a, b]) == 0).take(GATES).collect()
+    pairs.filter(|&(a, b)| bucket(a, b) == 0).take(GATES).collect()
 }
 
 /// A job of variables and of these gates.

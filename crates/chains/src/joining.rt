@@ -1,36 +1,22 @@
 // The three rules, on the numbers of terms: equal terms have equal numbers.
 ghost use mathlib.Core.Path.{_≡_};
-ghost use mathlib.Core.Bool.{cond};
 ghost use mathlib.Core.List.{map};
 ghost use Prim.Native.Nat.{_<_};
 ghost use lib.ListN.{getD};
 ghost use Rattle.theory.specs.Term.{same-op};
-ghost use Rattle.theory.specs.Verdict.{held, wrong-form};
 ghost use Rattle.theory.specs.RuleTable.{by-symm, by-trans, by-cong};
 ghost use Rattle.terms.specs.Decoded.{words-in, op-of, numbers-of};
 ghost use Rattle.store.specs.Store.{listed};
-ghost use Rattle.operand_rules.specs.Rules.{tree, verdict-of};
+ghost use Rattle.operand_rules.specs.Rules.{tree};
 ghost use Rattle.chains.specs.Premises.{earlier-in, sides-in, is-equality, leads-in, argued, joins-in, Joining, Arguing};
 use crate::premises::Sides;
 use crate::premises::sides_at;
 use intern::arguments::count;
 use intern::arguments::operand;
-use operand_rules::Verdict;
 use store::terms_at::term_at;
 use terms::Args;
 use terms::Operands;
 use terms::Term;
-
-// Held where the premises join, wrong form where they do not.
-fn told(joins: bool) -> Verdict
-    ensures { λ v. ⌜ verdict-of v ≡ cond joins held wrong-form ⌝ }
-{
-    if joins {
-        Verdict::Held
-    } else {
-        Verdict::WrongForm
-    }
-}
 
 // Is premise i the equality of these two?
 fn shows(
@@ -66,14 +52,14 @@ pub fn symm(
     premises: Args,
     l: u32,
     r: u32,
-) -> Verdict
+) -> bool
     requires { ⌜ Joining (now job) (now work) (now answers) n answered premises l r ⌝ }
-    ensures { λ v. ⌜ verdict-of v ≡ cond (joins-in by-symm (earlier-in (now (job .entry)) (now (work .entry)) (now (answers .entry)) n answered) (listed (now (job .entry)) (now (work .entry)) n) (words-in (now (job .entry)) premises) (tree (now (job .entry)) (now (work .entry)) n l) (tree (now (job .entry)) (now (work .entry)) n r)) held wrong-form ⌝ }
+    ensures { λ t. ⌜ t ≡ joins-in by-symm (earlier-in (now (job .entry)) (now (work .entry)) (now (answers .entry)) n answered) (listed (now (job .entry)) (now (work .entry)) n) (words-in (now (job .entry)) premises) (tree (now (job .entry)) (now (work .entry)) n l) (tree (now (job .entry)) (now (work .entry)) n r) ⌝ }
 {
     if premises.count != 1 {
-        return Verdict::WrongForm;
+        return false;
     }
-    told(shows(job, work, answers, n, answered, premises, 0, r, l))
+    shows(job, work, answers, n, answered, premises, 0, r, l)
 }
 
 // Do the premises lead from l to r?
@@ -116,14 +102,14 @@ pub fn trans(
     premises: Args,
     l: u32,
     r: u32,
-) -> Verdict
+) -> bool
     requires { ⌜ Joining (now job) (now work) (now answers) n answered premises l r ⌝ }
-    ensures { λ v. ⌜ verdict-of v ≡ cond (joins-in by-trans (earlier-in (now (job .entry)) (now (work .entry)) (now (answers .entry)) n answered) (listed (now (job .entry)) (now (work .entry)) n) (words-in (now (job .entry)) premises) (tree (now (job .entry)) (now (work .entry)) n l) (tree (now (job .entry)) (now (work .entry)) n r)) held wrong-form ⌝ }
+    ensures { λ t. ⌜ t ≡ joins-in by-trans (earlier-in (now (job .entry)) (now (work .entry)) (now (answers .entry)) n answered) (listed (now (job .entry)) (now (work .entry)) n) (words-in (now (job .entry)) premises) (tree (now (job .entry)) (now (work .entry)) n l) (tree (now (job .entry)) (now (work .entry)) n r) ⌝ }
 {
     if premises.count < 2 {
-        return Verdict::WrongForm;
+        return false;
     }
-    told(leads(job, work, answers, n, answered, premises, l, r))
+    leads(job, work, answers, n, answered, premises, l, r)
 }
 
 // Are the two terms of one kind, with the same numbers in it?
@@ -192,16 +178,16 @@ pub fn cong(
     premises: Args,
     l: u32,
     r: u32,
-) -> Verdict
+) -> bool
     requires { ⌜ Joining (now job) (now work) (now answers) n answered premises l r ⌝ }
-    ensures { λ v. ⌜ verdict-of v ≡ cond (joins-in by-cong (earlier-in (now (job .entry)) (now (work .entry)) (now (answers .entry)) n answered) (listed (now (job .entry)) (now (work .entry)) n) (words-in (now (job .entry)) premises) (tree (now (job .entry)) (now (work .entry)) n l) (tree (now (job .entry)) (now (work .entry)) n r)) held wrong-form ⌝ }
+    ensures { λ t. ⌜ t ≡ joins-in by-cong (earlier-in (now (job .entry)) (now (work .entry)) (now (answers .entry)) n answered) (listed (now (job .entry)) (now (work .entry)) n) (words-in (now (job .entry)) premises) (tree (now (job .entry)) (now (work .entry)) n l) (tree (now (job .entry)) (now (work .entry)) n r) ⌝ }
 {
     let s = term_at(job, work, n, l);
     let t = term_at(job, work, n, r);
     if !same_kind(s, t) {
-        return Verdict::WrongForm;
+        return false;
     }
-    told(argument_wise(
+    argument_wise(
         job,
         work,
         answers,
@@ -210,5 +196,5 @@ pub fn cong(
         premises,
         s.operands(),
         t.operands(),
-    ))
+    )
 }

@@ -3,13 +3,16 @@ mod joining;
 pub mod premises;
 
 ghost use mathlib.Core.Path.{_≡_};
+ghost use mathlib.Core.Bool.{cond};
 ghost use mathlib.Core.Option.{some};
+ghost use Rattle.theory.specs.Optional.{is-some};
+ghost use Rattle.theory.specs.Verdict.{wrong-form, premise-broken};
 ghost use Rattle.theory.specs.RuleTable.{ChainRule, chain-rule-at};
 ghost use Rattle.theory.specs.Chain.{joined, premises-at};
-ghost use Rattle.terms.specs.Decoded.{words-in};
+ghost use Rattle.terms.specs.Decoded.{words-in, Inside};
 ghost use Rattle.store.specs.Store.{listed};
 ghost use Rattle.operand_rules.specs.Rules.{tree, verdict-of};
-ghost use Rattle.chains.specs.Premises.{earlier-in, Claimed};
+ghost use Rattle.chains.specs.Premises.{earlier-in, joins-in, Noted, Claimed, Joining};
 use crate::joining::cong;
 use crate::joining::symm;
 use crate::joining::trans;
@@ -24,7 +27,50 @@ const SYMM: u32 = 31;
 
 const TRANS: u32 = 32;
 
-// The verdict of a chain's rule on its literal: first the premises, then the joining.
+// Do the premises join to the claim (= l r), by the rule with that number?
+fn joins_by(
+    job: &[u8],
+    work: &[u8],
+    answers: &[u8],
+    n: usize,
+    answered: usize,
+    rule: u32,
+    premises: Args,
+    l: u32,
+    r: u32,
+) -> bool
+    requires { ⌜ Joining (now job) (now work) (now answers) n answered premises l r ⌝ }
+    ensures { λ t. ⌜ ((by : ChainRule) → chain-rule-at rule ≡ some by → t ≡ joins-in by (earlier-in (now (job .entry)) (now (work .entry)) (now (answers .entry)) n answered) (listed (now (job .entry)) (now (work .entry)) n) (words-in (now (job .entry)) premises) (tree (now (job .entry)) (now (work .entry)) n l) (tree (now (job .entry)) (now (work .entry)) n r)) ⌝ }
+{
+    if rule == SYMM {
+        return symm(job, work, answers, n, answered, premises, l, r);
+    }
+    if rule == TRANS {
+        return trans(job, work, answers, n, answered, premises, l, r);
+    }
+    cong(job, work, answers, n, answered, premises, l, r)
+}
+
+// Why a chain is not held: a premise is broken, or else its form is wrong.
+fn refused(
+    job: &[u8],
+    work: &[u8],
+    answers: &[u8],
+    n: usize,
+    answered: usize,
+    premises: Args,
+) -> Verdict
+    requires { ⌜ Noted (now job) (now work) (now answers) n answered × Inside (now job) premises ⌝ }
+    ensures { λ v. ⌜ verdict-of v ≡ cond (is-some (premises-at (earlier-in (now (job .entry)) (now (work .entry)) (now (answers .entry)) n answered) (listed (now (job .entry)) (now (work .entry)) n) (words-in (now (job .entry)) premises))) wrong-form premise-broken ⌝ }
+{
+    if all_stand(job, work, answers, n, answered, premises) {
+        Verdict::WrongForm
+    } else {
+        Verdict::PremiseBroken
+    }
+}
+
+// The verdict of a chain's rule on its literal. Premises that join all stand, so whether they do is asked only where the joining fails.
 pub fn chain_verdict(
     job: &[u8],
     work: &[u8],
@@ -38,17 +84,11 @@ pub fn chain_verdict(
     requires { ⌜ Claimed (now job) (now work) (now answers) n answered premises literal ⌝ }
     ensures { λ v. ⌜ ((by : ChainRule) → chain-rule-at rule ≡ some by → verdict-of v ≡ joined by (premises-at (earlier-in (now (job .entry)) (now (work .entry)) (now (answers .entry)) n answered) (listed (now (job .entry)) (now (work .entry)) n) (words-in (now (job .entry)) premises)) (tree (now (job .entry)) (now (work .entry)) n literal)) ⌝ }
 {
-    if !all_stand(job, work, answers, n, answered, premises) {
-        return Verdict::PremiseBroken;
-    }
     let Term::Equals(l, r) = term_at(job, work, n, literal) else {
-        return Verdict::WrongForm;
+        return refused(job, work, answers, n, answered, premises);
     };
-    if rule == SYMM {
-        return symm(job, work, answers, n, answered, premises, l, r);
+    if joins_by(job, work, answers, n, answered, rule, premises, l, r) {
+        return Verdict::Held;
     }
-    if rule == TRANS {
-        return trans(job, work, answers, n, answered, premises, l, r);
-    }
-    cong(job, work, answers, n, answered, premises, l, r)
+    refused(job, work, answers, n, answered, premises)
 }

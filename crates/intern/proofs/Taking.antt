@@ -24,7 +24,7 @@ use Rattle.theory.specs.Codes.{all-below, first-fault, well-sorted, room}
 use Rattle.theory.proofs.Run.{good-snoc}
 use Rattle.theory.proofs.Distinct.{has-at, snoc-well}
 use Rattle.theory.proofs.Bytes.{take-bytes, drop-bytes}
-use Rattle.theory.proofs.Bounds.{depth-step, deepest-le}
+use Rattle.theory.proofs.Bounds.{depth-step}
 use Rattle.theory.proofs.Basics.{some-inj, foldl-append, getElem-of, T-true}
 use Rattle.theory.proofs.Same.{same-numbers-eq}
 use Rattle.theory.proofs.Bytes.{Sound, says-term, term-kind}
@@ -32,7 +32,6 @@ use Rattle.theory.proofs.Sorts.{sized, sorts-sized}
 use Rattle.theory.proofs.Places.{entry-at, tree-at, tree-of, tree-at-old, term-of-is}
 use Rattle.theory.proofs.Run.{AllGood}
 use Rattle.theory.proofs.Distinct.{WellKept}
-use Rattle.theory.proofs.Bounds.{place-depth}
 use Rattle.terms.specs.Framing.{record-at}
 use Rattle.terms.proofs.Numbers.{length-of}
 use Rattle.rows.specs.Layout.{link-size, measure-at, missing, number-at}
@@ -53,6 +52,7 @@ use Rattle.intern.specs.Kinds.{Fitting}
 use Rattle.intern.specs.Interning.{Offered, Taken, code-of, rows-after, offsets-after, bytes-after, with-term, answer-for, list-after as list-after-of}
 use Rattle.store.proofs.Lookup.{says-count}
 use Rattle.intern.proofs.Asking.{tree-depth}
+use Rattle.intern.proofs.Bools.{deepest-small}
 use Rattle.store.proofs.Keeping.{records-at}
 use Rattle.intern.specs.declared.Interned.{Interned}
 use Rattle.intern.specs.declared.Interned.the-variants as I
@@ -293,12 +293,8 @@ module _ (limits : Limits) {job work : Bytes} {n at : ℕ} {t : Decoded} (o : Of
 
   depth-small : {d : ℕ} → d ≡ depth (tree-of (listed job work n) (op-of t) (arguments-of job t)) → d < 256 ^ link-size job
   depth-small e =
-      let s = o .arguments .store in
-      let c = s .count in
-      let few = s .table .rows .few in
-      let l : first-terms + n ≡ suc (n + 1) = omega arith in
-      let b = deepest-le (listed job work n) (n + 1) (λ k h. place-depth (listed job work n) (s .well) (suc k) k (omega arith) (omega arith)) (arguments-of job t)
-      (subst (λ (m : ℕ). T (all-below m (arguments-of job t))) (c ∙ l) all-low) in
+      let few = o .arguments .store .table .rows .few in
+      let b = deepest-small (o .arguments .store) (arguments-of job t) (o .arguments .below) in
       let q = depth-step (op-of t) (first (sorts-at (listed job work n) (arguments-of job t))) (deepest-at (listed job work n) (arguments-of job t)) in
       let z = tree-depth (listed job work n) (op-of t) (arguments-of job t) in
       omega arith
@@ -314,9 +310,9 @@ module _ (limits : Limits) {job work : Bytes} {n at : ℕ} {t : Decoded} (o : Of
   kind-is f = f ∙ kind-at job at (o .stands) ∙ term-kind (number-length job) (record-at job at) (op-of t) (arguments-of job t) says-it
 
   -- the measure that the code computes is the term's, and fits into a row
-  pub measured : {k d w m : ℕ} {s : Sort} → k ≡ number-at job (at + number-bytes) number-bytes → d ≡ depth (tree-of (listed job work n) (op-of t) (arguments-of job t)) → w ≡ sort-width s
+  pub measure-computed : {k d w m : ℕ} {s : Sort} → k ≡ number-at job (at + number-bytes) number-bytes → d ≡ depth (tree-of (listed job work n) (op-of t) (arguments-of job t)) → w ≡ sort-width s
       → s ≡ sort-of (tree-of (listed job work n) (op-of t) (arguments-of job t)) → m ≡ measure-in k d w → m ≡ measure (tree-of (listed job work n) (op-of t) (arguments-of job t))
-  measured {k} {d} {w} {m} {s} a b c e f = f ∙ rw (kind-is a, b, c, e) (measure-is (op-of t) (from-list (map (tree-at (listed job work n)) (arguments-of job t))))
+  measure-computed {k} {d} {w} {m} {s} a b c e f = f ∙ rw (kind-is a, b, c, e) (measure-is (op-of t) (from-list (map (tree-at (listed job work n)) (arguments-of job t))))
 
   pub measure-fits : (k : ℕ) {d w m : ℕ} {s : Sort} → d ≡ depth (tree-of (listed job work n) (op-of t) (arguments-of job t)) → w ≡ sort-width s
       → s ≡ sort-of (tree-of (listed job work n) (op-of t) (arguments-of job t)) → m ≡ measure-in k d w → m < 256 ^ link-size job

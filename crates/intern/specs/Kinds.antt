@@ -3,16 +3,23 @@ use mathlib.Core.Path.{_≡_}
 use mathlib.Core.Bool.{true, _&&_, cond}
 use mathlib.Core.List.{List}
 use Prim.Native.Nat.{ℕ, suc, _+_, _-_, _*_, _^_}
-use lib.Dec.{leb, ltb}
+use lib.Dec.{eqb, leb, ltb}
 use lib.ListN.{length}
 use Rattle.theory.specs.Limit.{max-width}
 use Rattle.theory.specs.Kind.{arity, takes}
-use Rattle.theory.specs.Sort.{Sort, bool, bv, guard, all-are, is-bv-sort, good, all-bv, sort-width, sum-widths, first, width, alike, same-sort}
+use Rattle.theory.specs.Sort.{Sort, bool, bv, guard, all-are, is-bv-sort, good, all-bv, sort-width, sum-widths, first, width, alike, same-sort, sort-of}
+use Rattle.theory.specs.Term as T
+use Rattle.theory.specs.Depth.{depth}
 use Rattle.theory.specs.Record.{Bytes}
+use Rattle.theory.specs.Plain.{Plain}
+use Rattle.rows.specs.Layout.{missing}
 use Rattle.terms.specs.declared.Term.{Term}
 use Rattle.terms.specs.declared.Term.the-variants as D
 use Rattle.terms.specs.Decoded.{op-of, operands-of, arguments-of}
-use Rattle.store.specs.Sorts.{Arguments}
+use Rattle.store.specs.declared.sorts.Sort.{Sort as Read}
+use Rattle.store.specs.declared.sorts.Sort.the-variants.{Bad}
+use Rattle.store.specs.Sorts.{sort-read, sorts-at, deepest-at, Arguments}
+use Rattle.intern.specs.declared.kinds.SortAndDepth.{SortAndDepth}
 use Rattle.intern.specs.declared.kinds.Asks.{Asks}
 use Rattle.intern.specs.declared.kinds.Asks.the-variants.{Nothing, Width, Value, Bools, Same, Bit, Bits, Alike, Order, Compare, Concat, Extract, Extend, Copies}
 
@@ -89,7 +96,25 @@ asked-depth (Extract i j) s d = 0
 asked-depth (Extend k) s d = 0
 asked-depth (Copies k) s d = 0
 
+-- of arguments of these sorts, a and b ask the same
+pub record SameAsked (a b : Asks) (ss : List Sort) : Type 0 where
+  pub sorts : asked-sort b ss ≡ asked-sort a ss
+  pub depths : (d : ℕ) → asked-depth b (first ss) d ≡ asked-depth a (first ss) d
+
 -- a term that may be kept: its arguments are kept, and as many as its kind takes
 pub record Fitting (job work : Bytes) (n : ℕ) (t : Term) : Type 0 where
   pub arguments : Arguments job work n (operands-of t)
   pub number : takes (arity (op-of t)) (length (arguments-of job t)) ≡ true
+
+-- the depth of the deepest of the terms at these places where all are Bools, else missing
+unfoldable pub deepest-bool : Plain → List ℕ → ℕ
+deepest-bool list ks = cond (all-are bool (sorts-at list ks)) (deepest-at list ks) missing
+
+-- the sort s of a term that asks for Bools, and its depth, `more` than that of its deepest argument, unless an argument is no Bool
+unfoldable pub of-bools : ℕ → Read → ℕ → SortAndDepth
+of-bools d s more = cond (eqb d missing) (record { sort = Bad; depth = 0 }) (record { sort = s; depth = d + more })
+
+-- the sort of a term, and its depth where it has a sort
+pub record SortDepthOf (t : T.Term) (m : SortAndDepth) : Type 0 where
+  pub sort-is : sort-read (m .sort) ≡ sort-of t
+  pub depth-is : good (sort-read (m .sort)) ≡ true → m .depth ≡ depth t

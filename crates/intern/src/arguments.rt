@@ -10,8 +10,10 @@ ghost use Rattle.rows.specs.Layout.{Bounded, place-end};
 ghost use Rattle.terms.specs.Decoded.{OperandsPlaced, numbers-of};
 ghost use Rattle.store.specs.Store.{listed};
 ghost use Rattle.store.specs.Sorts.{sort-read, sorts-at, deepest-at, count-of, Arguments};
+ghost use Rattle.intern.specs.Kinds.{deepest-bool};
 use super::guards::of_width;
 use super::guards::same_sort;
+use store::shelf::bool_depth;
 use store::sorts::Sort;
 use store::sorts::depth_at;
 use store::sorts::sort_at;
@@ -164,6 +166,27 @@ pub fn deepest(job: &[u8], work: &[u8], n: usize, ops: Operands) -> usize
     while i < end {
         let d = operand_depth(job, work, n, ops, i);
         most = larger(most, d);
+        i += 1;
+    }
+    most
+}
+
+// The depth of the deepest argument where all are Bools, else MISSING: one look at each argument.
+pub fn deepest_bool(job: &[u8], work: &[u8], n: usize, ops: Operands) -> u32
+    requires { ⌜ Arguments (now job) (now work) n ops ⌝ }
+    ensures { λ r. ⌜ r ≡ deepest-bool (listed (now (job .entry)) (now (work .entry)) n) (numbers-of (now (job .entry)) ops) ⌝ }
+{
+    let end = count(ops);
+    let mut most: u32 = 0;
+    let mut i: usize = 0;
+    while i < end {
+        let d = bool_depth(job, work, n, operand(job, ops, i));
+        if d == rows::MISSING {
+            return rows::MISSING;
+        }
+        if most < d {
+            most = d;
+        }
         i += 1;
     }
     most

@@ -1,16 +1,17 @@
 // What each kind of term asks of its arguments, and the sort and depth that come of it.
 ghost use mathlib.Core.Path.{_≡_};
-ghost use Rattle.theory.specs.Sort.{sort-of, first};
-ghost use Rattle.theory.specs.Depth.{depth};
+ghost use Prim.Native.Nat.{_≤_};
+ghost use Rattle.theory.specs.Sort.{first};
 ghost use Rattle.theory.specs.Places.{tree-of};
 ghost use Rattle.terms.specs.Decoded.{op-of, numbers-of, arguments-of};
 ghost use Rattle.store.specs.Store.{listed};
 ghost use Rattle.store.specs.Sorts.{sort-read, sorts-at, deepest-at, Arguments};
-ghost use Rattle.intern.specs.Kinds.{asks-of, asked-sort, asked-depth, Fitting};
+ghost use Rattle.intern.specs.Kinds.{asks-of, asked-sort, asked-depth, of-bools, Fitting, SameAsked, SortDepthOf};
 use super::arguments::all_alike;
 use super::arguments::all_are;
 use super::arguments::count;
 use super::arguments::deepest;
+use super::arguments::deepest_bool;
 use super::arguments::first_sort;
 use super::arguments::joined;
 use super::arguments::one_sort;
@@ -55,6 +56,12 @@ pub enum Asks {
     Extend(u32),
     // a bit-vector; one of k times its bits
     Copies(u32),
+}
+
+// The sort of a term, and its depth where it has a sort.
+pub struct SortAndDepth {
+    pub sort: Sort,
+    pub depth: usize,
 }
 
 // What a term asks.
@@ -127,14 +134,6 @@ pub fn asked_sort(job: &[u8], work: &[u8], n: usize, ops: Operands, asks: Asks) 
     }
 }
 
-// The sort of a term.
-pub fn sort_of(job: &[u8], work: &[u8], n: usize, term: Term) -> Sort
-    requires { ⌜ Fitting (now job) (now work) n term ⌝ }
-    ensures { λ r. ⌜ sort-read r ≡ sort-of (tree-of (listed (now (job .entry)) (now (work .entry)) n) (op-of term) (arguments-of (now (job .entry)) term)) ⌝ }
-{
-    asked_sort(job, work, n, term.operands(), asked_by(term))
-}
-
 // The depth of a term that asks this of these arguments: gates are one deeper than the deepest, a BvBbTerm as deep, any other has 0.
 pub fn asked_depth(job: &[u8], work: &[u8], n: usize, ops: Operands, asks: Asks) -> usize
     requires { ⌜ Arguments (now job) (now work) n ops ⌝ }
@@ -165,10 +164,54 @@ pub fn asked_depth(job: &[u8], work: &[u8], n: usize, ops: Operands, asks: Asks)
     }
 }
 
-// The depth of a term.
-pub fn depth_of(job: &[u8], work: &[u8], n: usize, term: Term) -> usize
-    requires { ⌜ Fitting (now job) (now work) n term ⌝ }
-    ensures { λ r. ⌜ r ≡ depth (tree-of (listed (now (job .entry)) (now (work .entry)) n) (op-of term) (arguments-of (now (job .entry)) term)) ⌝ }
+// The sort s of a term that asks for Bools, and its depth, so much more than its deepest argument's; Bad where that is MISSING.
+fn of_bools(deepest: u32, s: Sort, more: usize) -> SortAndDepth
+    requires { ⌜ more ≤ 1 ⌝ }
+    ensures { λ r. ⌜ r ≡ of-bools deepest s more ⌝ }
 {
-    asked_depth(job, work, n, term.operands(), asked_by(term))
+    if deepest == rows::MISSING {
+        return SortAndDepth {
+            sort: Sort::Bad,
+            depth: 0,
+        };
+    }
+    SortAndDepth {
+        sort: s,
+        depth: deepest as usize + more,
+    }
+}
+
+// What comes to the same for these arguments: an equality whose first side is a Bool asks for Bools.
+fn asked_of(job: &[u8], work: &[u8], n: usize, ops: Operands, asks: Asks) -> Asks
+    requires { ⌜ Arguments (now job) (now work) n ops ⌝ }
+    ensures { λ r. ⌜ SameAsked asks r (sorts-at (listed (now (job .entry)) (now (work .entry)) n) (numbers-of (now (job .entry)) ops)) ⌝ }
+{
+    let Asks::Same = asks else {
+        return asks;
+    };
+    let Sort::Bool = first_sort(job, work, n, ops) else {
+        return asks;
+    };
+    Asks::Bools
+}
+
+// The sort of a term, and its depth where it has a sort. Where it asks for Bools, each argument is looked at once for both.
+pub fn sort_and_depth(job: &[u8], work: &[u8], n: usize, term: Term) -> SortAndDepth
+    requires { ⌜ Fitting (now job) (now work) n term ⌝ }
+    ensures { λ r. ⌜ SortDepthOf (tree-of (listed (now (job .entry)) (now (work .entry)) n) (op-of term) (arguments-of (now (job .entry)) term)) r ⌝ }
+{
+    let ops = term.operands();
+    let asks = asked_of(job, work, n, ops, asked_by(term));
+    match asks {
+        Asks::Bools => of_bools(deepest_bool(job, work, n, ops), Sort::Bool, 1),
+        Asks::Bits => of_bools(
+            deepest_bool(job, work, n, ops),
+            Sort::Bv(count(ops) as u32),
+            0,
+        ),
+        _ => SortAndDepth {
+            sort: asked_sort(job, work, n, ops, asks),
+            depth: asked_depth(job, work, n, ops, asks),
+        },
+    }
 }

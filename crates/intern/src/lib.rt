@@ -9,8 +9,7 @@ ghost use Rattle.theory.specs.Limit.{first-terms, max-job};
 ghost use Rattle.store.specs.Store.{Store};
 ghost use Rattle.intern.specs.Interning.{Started, CutBack, limits-of, Offered, Taken};
 use crate::guards::fits_within;
-use crate::kinds::depth_of;
-use crate::kinds::sort_of;
+use crate::kinds::sort_and_depth;
 use rows::bytes::number;
 use store::measures::measure_in;
 use store::sorts::width_of;
@@ -61,14 +60,14 @@ pub fn intern(
     requires { ⌜ Offered (now job) (now work) n at term ⌝ }
     ensures { λ r. ⌜ Taken (limits-of limits) (now (job .entry)) (now (work .entry)) (now (work .exit)) n at term r ⌝ }
 {
-    let s = sort_of(job, work, n, term);
+    let found = sort_and_depth(job, work, n, term);
+    let s = found.sort;
     if !fits_within(s, limits.width) {
         return Interned::Unsorted;
     }
-    let depth = depth_of(job, work, n, term);
     let width = width_of(s) as usize;
     let kind = number(job, at + Term::NUMBER_BYTES, Term::NUMBER_BYTES);
-    let measure = measure_in(kind, depth, width);
+    let measure = measure_in(kind, found.depth, width);
     let added = table::add(job, work, n, limits.terms as usize, at, measure);
     match added {
         Added::Found(_) => Interned::Found(n),

@@ -12,6 +12,7 @@ ghost use Rattle.rows.specs.Rows.{stored-link};
 ghost use Rattle.marks.specs.Marks.{mark-of, Room, Rooms, Cleared, Set, SetAll, SetTerm, following, Linked, Threadable, Threaded, Reaches, Marks};
 use rows::FIRST_PLACE;
 use rows::bytes::put_number;
+use rows::layout::LONG_LINK_BYTES;
 use rows::layout::OFFSET_BYTES;
 use rows::link_at;
 use rows::link_bytes;
@@ -159,13 +160,16 @@ fn thread(job: &[u8], work: &mut [u8], asked: u32)
     link(job, work, asked, next);
 }
 
-// The number in the link of a row's place.
+// The number in the link of a row's place. A call for each number length: each is then compiled for its length.
 fn linked(job: &[u8], work: &[u8], place: u32) -> u32
     requires { ⌜ (first-terms ≤ place) × Room (now job) (now work) place ⌝ }
     ensures { λ r. ⌜ r ≡ link-at (link-size (now (job .entry))) (now (work .entry)) (place - first-terms) ⌝ }
 {
-    let link = link_bytes(Term::number_length(job));
-    link_at(work, link, place as usize - FIRST_PLACE) as u32
+    let k = place as usize - FIRST_PLACE;
+    if Term::number_length(job) == Term::NUMBER_BYTES {
+        return link_at(work, Term::NUMBER_BYTES, k) as u32;
+    }
+    link_at(work, LONG_LINK_BYTES, k) as u32
 }
 
 // The next marked place after a marked one, up to the asked one.

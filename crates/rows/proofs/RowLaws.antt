@@ -13,15 +13,15 @@ use lib.ListN.{length-set, length-append, length-take, length-drop, List·getD-a
 use lib.Seq.{sets, drop-cons, getD-take, getD-drop, getD-at, getD-set-same, getD-set-other, ext-getD, length-sets, sets-eq, take-all, take-at, take-nil, drop-at, drop-drop, take-append-le}
 use borrow.Author.Tests.{eq-eqb, eqb-true, ne-eqb}
 use borrow.Author.Count.{below-more}
-use Rattle.theory.specs.Record.{Bytes, extent, little-endian, bytes-of}
+use Rattle.theory.specs.Record.{Bytes, extent, little-endian, bytes-of, number-length}
 use Rattle.terms.specs.Framing.{record-at}
-use Rattle.rows.specs.Layout.{link-at, link-bytes, measure-at, missing, number-at, offset-at, offset-bytes, row-size}
-use Rattle.rows.specs.Rows.{Rows, column, kept-as, place-from, place-of, row-bytes, row-record, stored-link, stored-row}
+use Rattle.rows.specs.Layout.{link-at, link-bytes, link-size, measure-at, missing, number-at, offset-at, offset-bytes, row-size}
+use Rattle.rows.specs.Rows.{Rows, column, kept-as, place-from, row-bytes, row-record, stored-link, stored-row}
 use Rattle.theory.specs.Term.{same-numbers}
 use Rattle.theory.specs.Limit.{first-terms}
 use Rattle.theory.proofs.Written.{number-exact}
 use Rattle.terms.specs.Bodies.{Length}
-use Rattle.terms.proofs.Numbers.{place-small}
+use Rattle.terms.proofs.Numbers.{place-small, short-length, long-length}
 
 -- ---- numbers in bytes
 
@@ -270,6 +270,15 @@ pub link-whole : {b : ℕ} → Length b → Length (link-bytes b)
 link-whole {b} l =
     let s = l .some-bytes in let f = l .few-bytes in
     record { some-bytes = ⊎-elim (λ w. omega arith) (λ w. omega arith) (link-cases b); few-bytes = omega (arith, link-least b) }
+
+-- a link has two bytes where a term's number has two, else three
+pub short-link : (job : Bytes) {r : ℕ} → r ≡ number-length job → r ≡ 2 → 2 ≡ link-size job
+unfolding link-bytes
+short-link job e f = ap link-bytes (short-length job e f)
+
+pub long-link : (job : Bytes) {r : ℕ} → r ≡ number-length job → (r ≡ 2 → ⊥) → 3 ≡ link-size job
+unfolding link-bytes
+long-link job e f = ap link-bytes (long-length job e f)
 
 pub link-back : {b : ℕ} → Length (link-bytes b) → Length b
 link-back {b} l =

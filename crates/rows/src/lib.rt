@@ -73,20 +73,13 @@ pub fn put_row(work: &mut [u8], bytes: usize, n: usize, offset: usize, measure: 
     put_number(work, at + OFFSET_BYTES + bytes, bytes, link);
 }
 
-// Where row k's record stands, in the job's own number length.
+// Where row k's record stands, in the job's own number length. A call for each of the two: each is then compiled for its length.
 pub fn offset_at(job: &[u8], work: &[u8], k: usize) -> usize
     requires { ⌜ k * row-size (link-size (now job)) + row-size (link-size (now job)) ≤ length (now work) ⌝ }
     ensures { λ r. ⌜ Bounded r (offset-at (link-size (now (job .entry))) (now (work .entry)) k) max-job ⌝ }
 {
-    let link = link_bytes(Term::number_length(job));
-    offset_as(work, link, k)
-}
-
-// The measure of row k, in the job's own number length.
-pub fn measure_at(job: &[u8], work: &[u8], k: usize) -> usize
-    requires { ⌜ k * row-size (link-size (now job)) + row-size (link-size (now job)) ≤ length (now work) ⌝ }
-    ensures { λ r. ⌜ Bounded r (measure-at (link-size (now (job .entry))) (now (work .entry)) k) (256 ^ link-size (now (job .entry))) ⌝ }
-{
-    let link = link_bytes(Term::number_length(job));
-    measure_as(work, link, k)
+    if Term::number_length(job) == Term::NUMBER_BYTES {
+        return offset_as(work, Term::NUMBER_BYTES, k);
+    }
+    offset_as(work, LONG_LINK_BYTES, k)
 }

@@ -19,9 +19,10 @@ use Rattle.theory.proofs.Bytes.{Sound, says-term}
 use Rattle.theory.specs.Places.{entry-at, tree-at, tree-of}
 use Rattle.theory.proofs.Distinct.{Entered, tree-0, tree-1}
 use Rattle.theory.proofs.Distinct as T
+use Rattle.terms.specs.Bodies.{Length}
 use Rattle.terms.specs.Framing.{record-at}
 use Rattle.terms.proofs.Numbers.{length-of}
-use Rattle.rows.specs.Layout.{link-size, offset-at, row-size}
+use Rattle.rows.specs.Layout.{link-bytes, link-size, offset-at, row-size}
 use Rattle.rows.proofs.RowLaws.{row-room}
 use Rattle.table.proofs.Face.{kept-at}
 use Rattle.terms.specs.declared.Term.{Term as Decoded}
@@ -63,6 +64,10 @@ module _ {job work : Bytes} {n : ℕ} (s : Shelf job work n) where
   -- a row lies in the work memory
   pub row-lies : {k : ℕ} → k < n → k * row-size (link-size job) + row-size (link-size job) ≤ length work
   row-lies h = row-room (s .rows) h
+
+  -- the same by the bytes of a link, once it is known that they are the job's
+  pub row-lies-as : {b l k : ℕ} → b ≡ number-length job → l ≡ link-bytes b → k < n → (k * row-size l + row-size l ≤ length work) × Length l
+  row-lies-as {b} {l} {k} e f h = rw (f, e) (row-lies h, s .rows .link-length)
 
   pub row-bytes : (k : ℕ) → k < n → entry-at (listed job work n) (first-terms + k) .bytes ≡ record-at job (offset-at (link-size job) work k)
   row-bytes k h =

@@ -1,21 +1,24 @@
 -- The measure of a term gives its depth and its width.
-use mathlib.Core.Path.{_≡_, refl, sym, ap, _∙_, subst}
-use mathlib.Core.Bool.{Bool, true, false, true≢false, _&&_, _||_, cond}
+use mathlib.Core.Path.{_≡_, refl, sym, ap, ap₂, _∙_, subst}
+use mathlib.Core.Bool.{Bool, true, false, true≢false, _||_, cond}
 use mathlib.Core.List.{List, [], _∷_, map}
 use mathlib.Core.Option.{some}
-use Prim.Native.Nat.{ℕ, zero, suc, _+_, _-_, _/_, _<_, _≤_}
+use Prim.Native.Nat.{ℕ, suc, _-_, _/_, _<_, _≤_}
 use native.Mathlib.Omega.{arith}
-use lib.Dec.{T, eqb, eqb→eq, leb}
+use lib.Dec.{T, eqb, eqb→eq, leb, leb→le}
+use lib.Ieee.Fits.{and-l}
 use lib.ListN.{length, length-drop}
 use borrow.Author.Tests.{eq-eqb, ne-eqb}
-use Rattle.theory.specs.Kind.{Op, True, False, Not, And, Or, Xor, Equals, Ite, BvBbTerm, kind}
-use Rattle.theory.specs.Term.{Term, Terms, node, nil, cons, fold, folds, from-list}
-use Rattle.theory.specs.Sort.{Sort, bool, bv, guard, good, first, same-sort, sort-op, sort-of, sort-width, sorts-of}
+use Rattle.theory.specs.Kind.{Op, Not, And, Or, Xor, Equals, Ite, BvBbTerm, kind}
+use Rattle.theory.specs.Term.{Term, Terms, node, fold, folds, from-list}
+use Rattle.theory.specs.Sort.{Sort, bool, bv, guard, good, first, same-sort, sort-of, sort-width, sorts-of}
 use Rattle.theory.specs.Depth.{depth, gate-kind}
 use Rattle.theory.specs.Record.{Bytes, word, kind-of, body-of, front, shape-of, Shape, plain, read, term}
 use Rattle.theory.proofs.Basics.{some-inj}
 use Rattle.theory.proofs.Bytes.{Sound, says-term, term-kind, words-length}
-use Rattle.store.specs.Measure.{is-gate, has-depth, measure, measure-in, depth-in, width-in}
+use Rattle.theory.proofs.Sorts.{sized, sorts-sized}
+use Rattle.rows.specs.Layout.{missing}
+use Rattle.store.specs.Measure.{is-gate, has-depth, measure, measure-in, depth-in, width-in, bool-depth, bool-in}
 
 -- ---- widths
 no-width : (b : Bool) → sort-width (guard b bool) ≡ 0
@@ -101,7 +104,58 @@ module _ (b : ℕ) (r : Bytes) (o : Op) (ks : List ℕ) (f : ℕ → Term) (says
   unfolding width-in measure
   width-is = width-by (is-gate (kind o)) (eqb (kind o) 31) refl refl
 
+-- ---- Bools by rows
+-- a sort that fits is Bool if it has no width
+bool-told : (s : Sort) → T (good s) → T (sized s) → same-sort bool s ≡ eqb (sort-width s) 0
+bool-told bool g z = refl
+bool-told (bv n) g z = sym (ne-eqb n 0 (λ e. let h = leb→le 1 n (and-l (leb 1 n) _ z) in omega arith))
+
+no-bool : (b : Bool) (n : ℕ) → same-sort bool (guard b (bv n)) ≡ false
+unfolding guard
+no-bool true n = refl
+no-bool false n = refl
+
+bb-no-bool : (o : Op) (ts : Terms) → T (eqb (kind o) 31) → same-sort bool (sort-of (node o ts)) ≡ false
+unfolding fold
+bb-no-bool BvBbTerm ts h = no-bool _ (length (sorts-of ts))
+
+module _ (o : Op) (ts : Terms) (fine : T (good (sort-of (node o ts)))) where
+  abbrev w : ℕ
+  w = sort-width (sort-of (node o ts))
+
+  told : same-sort bool (sort-of (node o ts)) ≡ eqb w 0
+  told = bool-told (sort-of (node o ts)) fine (sorts-sized (node o ts))
+
+  bool-by : (g c : Bool) → is-gate (kind o) ≡ g → eqb (kind o) 31 ≡ c
+      → cond g (cond (g || c) (depth (node o ts)) w) (cond c missing (cond (eqb (cond (g || c) (depth (node o ts)) w) 0) 0 missing))
+      ≡ cond (same-sort bool (sort-of (node o ts))) (depth (node o ts)) missing
+  bool-by true c x y = rw (told, gate-width o ts (subst T (sym x) tt))
+  bool-by false true x y = rw (bb-no-bool o ts (subst T (sym y) tt))
+  bool-by false false x y = rw (told, depth-none o ts (ap₂ (λ (p q : Bool). p || q) x y))
+
+  -- the depth that a row says where its term is a Bool
+  pub bool-is : bool-in (kind o) (measure (node o ts)) ≡ bool-depth (node o ts)
+  unfolding bool-in measure bool-depth
+  bool-is = bool-by (is-gate (kind o)) (eqb (kind o) 31) refl refl
+
 -- ---- the tests of the code
+module _ (k m : ℕ) where
+  pub bool-gate : is-gate k ≡ true → bool-in k m ≡ m
+  unfolding bool-in
+  bool-gate e = rw e
+
+  pub bool-bb : is-gate k ≡ false → k ≡ 31 → bool-in k m ≡ missing
+  unfolding bool-in
+  bool-bb e f = rw (e, eq-eqb k 31 f)
+
+  pub bool-none : is-gate k ≡ false → (k ≡ 31 → ⊥) → m ≡ 0 → bool-in k m ≡ 0
+  unfolding bool-in
+  bool-none e f g = rw (e, ne-eqb k 31 f, eq-eqb m 0 g)
+
+  pub bool-wide : is-gate k ≡ false → (k ≡ 31 → ⊥) → (m ≡ 0 → ⊥) → bool-in k m ≡ missing
+  unfolding bool-in
+  bool-wide e f g = rw (e, ne-eqb k 31 f, ne-eqb m 0 g)
+
 module _ (b k size m : ℕ) where
   pub width-gate : is-gate k ≡ true → width-in b k size m ≡ 0
   unfolding width-in

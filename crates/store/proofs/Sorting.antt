@@ -2,7 +2,7 @@
 use mathlib.Core.Path.{_≡_, refl, sym, ap, subst, _∙_}
 use mathlib.Core.List.{[], map}
 use native.Mathlib.Nat.{add-zero}
-use Prim.Native.Nat.{ℕ, zero, suc, _+_, _-_, _*_, _<_, _≤_}
+use Prim.Native.Nat.{ℕ, zero, suc, _+_, _-_, _^_, _<_, _≤_}
 use native.Mathlib.Omega.{arith}
 use lib.Dec.{T, leb, leb→le}
 use lib.Ieee.Fits.{and-l, and-r}
@@ -20,12 +20,13 @@ use Rattle.theory.proofs.Bytes.{Sound, term-kind}
 use Rattle.theory.proofs.Run.{good-at}
 use Rattle.theory.proofs.Sorts.{sized, sorts-sized}
 use Rattle.theory.proofs.Distinct.{tree-0, tree-1}
-use Rattle.rows.specs.Layout.{Bounded, link-size, measure-at, number-at, offset-at}
+use Rattle.rows.specs.Layout.{Bounded, link-bytes, link-size, measure-at, number-at, offset-at, place-end}
 use Rattle.terms.specs.Framing.{record-at}
-use Rattle.store.specs.Measure.{measure, depth-in, width-in}
+use Rattle.terms.proofs.Numbers.{place-small}
+use Rattle.store.specs.Measure.{measure, depth-in, width-in, bool-depth, bool-in}
 use Rattle.store.specs.Store.{listed}
-use Rattle.store.specs.Shelf.{Shelf}
-use Rattle.store.proofs.Measuring.{depth-is, width-is}
+use Rattle.store.specs.Shelf.{Shelf, root-kind}
+use Rattle.store.proofs.Measuring.{depth-is, depth-least, width-is, bool-is}
 use Rattle.store.proofs.Keeping.{row-kept, row-says, row-sound}
 
 -- ---- the sort of a term, by its width
@@ -55,14 +56,29 @@ module _ {job work : Bytes} {n : ℕ} (s : Shelf job work n) where
   low-depth (suc zero) h = ap depth (sym (tree-1 (listed job work n) (s .well)))
   low-depth (suc (suc p)) h = absurd (omega arith)
 
-  -- the term of row k, and what stands in its record
-  module _ (k : ℕ) (h : k < n) {at : ℕ} (e : at ≡ offset-at (link-size job) work k) where
+  pub low-root : (p : ℕ) → p < first-terms → p ≡ root-kind (tree-at (listed job work n) p)
+  low-root zero h = ap root-kind (sym (tree-0 (listed job work n) (s .well)))
+  low-root (suc zero) h = ap root-kind (sym (tree-1 (listed job work n) (s .well)))
+  low-root (suc (suc p)) h = absurd (omega arith)
+
+  pub low-bool : (p : ℕ) → p < first-terms → 0 ≡ bool-depth (tree-at (listed job work n) p)
+  unfolding bool-depth
+  low-bool p h = rw (← low-sort p h) (low-depth p h)
+
+  -- the term of row k, and what stands in its record, where a link has l bytes, as the job's links have
+  module _ (k : ℕ) (h : k < n) {b l : ℕ} (be : b ≡ number-length job) (le : l ≡ link-bytes b) {at : ℕ} (ae : at ≡ offset-at l work k) where
+    own-link : l ≡ link-size job
+    own-link = le ∙ ap link-bytes be
+
+    own-offset : at ≡ offset-at (link-size job) work k
+    own-offset = ae ∙ ap (λ (i : ℕ). offset-at i work k) own-link
+
     -- the record lies in the job, and has a length and a kind
     pub row-stands : (at + extent (drop at job) ≤ length job) × (4 ≤ extent (drop at job))
-    row-stands = (inside, let z = row-sound s k h .long in let l = length-record job [] (offset-at (link-size job) work k) (s .rows .inside k h) in rw e (omega arith))
+    row-stands = (inside, let z = row-sound s k h .long in let l = length-record job [] (offset-at (link-size job) work k) (s .rows .inside k h) in rw own-offset (omega arith))
       where
         inside : at + extent (drop at job) ≤ length job
-        inside = rw e (s .rows .inside k h)
+        inside = rw own-offset (s .rows .inside k h)
 
     record-number : (i : ℕ) → i + 2 ≤ 4 → number-at (record-at job at) i 2 ≡ number-at job (at + i) 2
     record-number i l =
@@ -72,40 +88,61 @@ module _ {job work : Bytes} {n : ℕ} (s : Shelf job work n) where
     row-tree : tree-at (listed job work n) (first-terms + k) ≡ tree-of (listed job work n) (row-kept s k h .op) (row-kept s k h .args)
     row-tree = row-kept s k h .made
 
+    row-fine : T (good (sort-of (tree-of (listed job work n) (row-kept s k h .op) (row-kept s k h .args))))
+    row-fine = subst (λ (t : Term). T (good (sort-of t))) row-tree (good-at (listed job work n) (first-terms + k) (s .sorted) (omega (arith, s .count)))
+
     row-read : read (number-length job) (record-at job at) ≡ term (row-kept s k h .op) (row-kept s k h .args)
-    row-read = ap (λ (o : ℕ). read (number-length job) (record-at job o)) e ∙ row-says s k h
+    row-read = ap (λ (o : ℕ). read (number-length job) (record-at job o)) own-offset ∙ row-says s k h
 
     row-sound-at : Sound (record-at job at)
-    row-sound-at = subst (λ (o : ℕ). Sound (record-at job o)) (sym e) (row-sound s k h)
+    row-sound-at = subst (λ (o : ℕ). Sound (record-at job o)) (sym own-offset) (row-sound s k h)
 
     kind-is : {c : ℕ} → c ≡ number-at job (at + 2) 2 → c ≡ kind (row-kept s k h .op)
     kind-is f = f ∙ sym (record-number 2 (omega arith)) ∙ term-kind (number-length job) (record-at job at) (row-kept s k h .op) (row-kept s k h .args) row-read
 
+    pub row-root : {c : ℕ} → c ≡ number-at job (at + 2) 2 → c ≡ root-kind (tree-at (listed job work n) (first-terms + k))
+    row-root f = kind-is f ∙ sym (ap root-kind row-tree)
+
     size-is : {z : ℕ} → z ≡ number-at job at 2 → z ≡ word (record-at job at)
     size-is f = f ∙ ap (λ (i : ℕ). number-at job i 2) (sym (add-zero at)) ∙ sym (record-number 0 (omega arith))
 
-    row-width-in : {b c z m : ℕ} → b ≡ number-length job → c ≡ number-at job (at + 2) 2 → z ≡ number-at job at 2 → m ≡ measure-at (link-size job) work k
+    row-measure : {m : ℕ} → m ≡ measure-at l work k → m ≡ measure (tree-of (listed job work n) (row-kept s k h .op) (row-kept s k h .args))
+    row-measure f = f ∙ ap (λ (i : ℕ). measure-at i work k) own-link ∙ s .measures-are k h ∙ ap measure row-tree
+
+    -- a measure fits into a number
+    pub row-measure-fits : {m : ℕ} → m < 256 ^ l → m < place-end
+    row-measure-fits f = place-small l _ (rw own-link (s .rows .link-length .few-bytes)) f
+
+    row-width-in : {c z m : ℕ} → c ≡ number-at job (at + 2) 2 → z ≡ number-at job at 2 → m ≡ measure-at l work k
         → width-in b c z m ≡ sort-width (sort-of (tree-at (listed job work n) (first-terms + k)))
-    row-width-in {b} {c} {z} {m} be ce ze me =
+    row-width-in {c} {z} {m} ce ze me =
         let q = row-kept s k h in
         let list = listed job work n in
-        let fine = subst (λ (t : Term). T (good (sort-of t))) row-tree (good-at list (first-terms + k) (s .sorted) (omega (arith, s .count))) in
-        rw (be, kind-is ce, size-is ze, me ∙ s .measures-are k h ∙ ap measure row-tree, row-tree)
-        (width-is (number-length job) (record-at job at) (q .op) (q .args) (tree-at list) row-read row-sound-at fine)
+        rw (be, kind-is ce, size-is ze, row-measure me, row-tree)
+        (width-is (number-length job) (record-at job at) (q .op) (q .args) (tree-at list) row-read row-sound-at row-fine)
 
-    pub row-width : {w b c z m : ℕ} → w ≡ width-in b c z m → b ≡ number-length job → c ≡ number-at job (at + 2) 2 → z ≡ number-at job at 2
-        → m ≡ measure-at (link-size job) work k → Bounded w (sort-width (sort-of (tree-at (listed job work n) (first-terms + k)))) 256
-    row-width {w} we be ce ze me =
+    pub row-width : {w c z m : ℕ} → w ≡ width-in b c z m → c ≡ number-at job (at + 2) 2 → z ≡ number-at job at 2
+        → m ≡ measure-at l work k → Bounded w (sort-width (sort-of (tree-at (listed job work n) (first-terms + k)))) 256
+    row-width {w} we ce ze me =
         let t = tree-at (listed job work n) (first-terms + k) in
-        let e = we ∙ row-width-in be ce ze me in
+        let e = we ∙ row-width-in ce ze me in
         record { value = e; below = let z = width-least (sort-of t) (sorts-sized t) in omega arith }
 
-    pub row-depth : {c m : ℕ} → c ≡ number-at job (at + 2) 2 → m ≡ measure-at (link-size job) work k
-        → depth-in c m ≡ depth (tree-at (listed job work n) (first-terms + k))
-    row-depth {c} {m} ce me =
+    row-depth-in : {c m : ℕ} → c ≡ number-at job (at + 2) 2 → m ≡ measure-at l work k → depth-in c m ≡ depth (tree-at (listed job work n) (first-terms + k))
+    row-depth-in {c} {m} ce me =
         let q = row-kept s k h in
-        rw (kind-is ce, me ∙ s .measures-are k h ∙ ap measure row-tree, row-tree)
-        (depth-is (q .op) (from-list (map (tree-at (listed job work n)) (q .args))))
+        rw (kind-is ce, row-measure me, row-tree) (depth-is (q .op) (from-list (map (tree-at (listed job work n)) (q .args))))
+
+    pub row-depth : {d c m : ℕ} → d ≡ depth-in c m → c ≡ number-at job (at + 2) 2 → Bounded m (measure-at l work k) (256 ^ l)
+        → Bounded d (depth (tree-at (listed job work n) (first-terms + k))) place-end
+    row-depth {d} {c} {m} de ce me =
+        record { value = de ∙ row-depth-in ce (me .value); below = omega (arith, de, depth-least c m, row-measure-fits (me .below)) }
+
+    pub row-bool-depth : {c m : ℕ} → c ≡ number-at job (at + 2) 2 → m ≡ measure-at l work k → bool-in c m ≡ bool-depth (tree-at (listed job work n) (first-terms + k))
+    row-bool-depth {c} {m} ce me =
+        let q = row-kept s k h in
+        rw (kind-is ce, row-measure me, row-tree)
+        (bool-is (q .op) (from-list (map (tree-at (listed job work n)) (q .args))) row-fine)
 
   -- the sort of a row's term, by its width
   module _ (p : ℕ) (h : first-terms ≤ p) (l : p < first-terms + n) where
@@ -127,3 +164,9 @@ module _ {job work : Bytes} {n : ℕ} (s : Shelf job work n) where
 
     pub row-deep : {d : ℕ} → d ≡ depth (tree-at (listed job work n) (first-terms + (p - first-terms))) → d ≡ depth (tree-at (listed job work n) p)
     row-deep e = e ∙ ap (λ (i : ℕ). depth (tree-at (listed job work n) i)) row-place
+
+    pub row-bool-deep : {d : ℕ} → d ≡ bool-depth (tree-at (listed job work n) (first-terms + (p - first-terms))) → d ≡ bool-depth (tree-at (listed job work n) p)
+    row-bool-deep e = e ∙ ap (λ (i : ℕ). bool-depth (tree-at (listed job work n) i)) row-place
+
+    pub row-kind : {d : ℕ} → d ≡ root-kind (tree-at (listed job work n) (first-terms + (p - first-terms))) → d ≡ root-kind (tree-at (listed job work n) p)
+    row-kind e = e ∙ ap (λ (i : ℕ). root-kind (tree-at (listed job work n) i)) row-place

@@ -6,8 +6,9 @@ use lib.Dec.{leb, eqb}
 use Rattle.theory.specs.Limit.{number-bytes}
 use Rattle.theory.specs.Kind.{Not, Ite, BvBbTerm, kind}
 use Rattle.theory.specs.Term.{Term, node}
-use Rattle.theory.specs.Sort.{sort-of, sort-width}
+use Rattle.theory.specs.Sort.{bool, same-sort, sort-of, sort-width}
 use Rattle.theory.specs.Depth.{depth}
+use Rattle.rows.specs.Layout.{missing}
 
 -- the kinds from Not to Ite
 abbrev pub is-gate : ℕ → Bool
@@ -32,3 +33,11 @@ depth-in k m = cond (has-depth k) m 0
 -- the width, by the record's kind and length too, where numbers of terms have b bytes
 unfoldable pub width-in : ℕ → ℕ → ℕ → ℕ → ℕ
 width-in b k size m = cond (is-gate k) 0 (cond (eqb k (kind BvBbTerm)) ((size - number-bytes) / b) m)
+
+-- the depth of a term where it is a Bool, else missing
+unfoldable pub bool-depth : Term → ℕ
+bool-depth t = cond (same-sort bool (sort-of t)) (depth t) missing
+
+-- the same, by the record's kind and the measure
+unfoldable pub bool-in : ℕ → ℕ → ℕ
+bool-in k m = cond (is-gate k) m (cond (eqb k (kind BvBbTerm)) missing (cond (eqb m 0) 0 missing))

@@ -4,6 +4,8 @@ use mathlib.Core.List.{List, []}
 use Prim.Native.Nat.{ℕ, _+_, _<_}
 use lib.ListN.{length}
 use Rattle.theory.specs.Limit.{first-terms}
+use Rattle.theory.specs.Kind.{kind}
+use Rattle.theory.specs.Term as T
 use Rattle.theory.specs.Record.{Bytes, Item, term, step, chain, back, unknown, misfit, read, number-length}
 use Rattle.theory.specs.Plain.{Plain}
 use Rattle.theory.specs.Places.{entry-at, tree-at}
@@ -42,3 +44,7 @@ args-at b list k = item-args (read b (entry-at list k .bytes))
 pub record TermOn (job work : Bytes) (n place : ℕ) (t : Term) : Type 0 where
   pub term-at : TermAt job work n place t
   pub args-are : arguments-of job t ≡ args-at (number-length job) (listed job work n) place
+
+-- the number of the kind of a term
+abbrev pub root-kind : T.Term → ℕ
+root-kind (T.node o ts) = kind o

@@ -2,7 +2,8 @@
 ghost use mathlib.Core.Path.{_≡_};
 ghost use Prim.Native.Nat.{_<_, _≤_};
 ghost use Rattle.theory.specs.Limit.{number-bytes};
-ghost use Rattle.store.specs.Measure.{is-gate, has-depth, measure-in, depth-in, width-in};
+ghost use Rattle.rows.specs.Layout.{place-end};
+ghost use Rattle.store.specs.Measure.{is-gate, has-depth, measure-in, depth-in, width-in, bool-in};
 use terms::Term;
 
 // The first and the last kind of a gate, Not and Ite.
@@ -59,4 +60,18 @@ pub fn width_in(bytes: usize, kind: usize, size: usize, measure: usize) -> usize
         return (size - Term::NUMBER_BYTES) / bytes;
     }
     measure
+}
+
+// The depth that a row says where its term is a Bool, else MISSING.
+pub fn bool_in(kind: usize, measure: usize) -> u32
+    requires { ⌜ measure < place-end ⌝ }
+    ensures { λ r. ⌜ r ≡ bool-in kind measure ⌝ }
+{
+    if is_gate(kind) {
+        return measure as u32;
+    }
+    if kind == BB_TERM {
+        return rows::MISSING;
+    }
+    if measure == 0 { 0 } else { rows::MISSING }
 }

@@ -1,16 +1,16 @@
 -- Laws of the buckets: the newest row of each, and the walk through one. Assumes nothing.
-use mathlib.Core.Path.{_≡_, refl, sym, ap, ap₂, subst, _∙_}
+use mathlib.Core.Path.{_≡_, refl, sym, ap, _∙_}
 use mathlib.Core.Bool.{Bool, true, false, cond}
-use Prim.Native.Nat.{ℕ, zero, suc, _+_, _*_, _-_, _/_, _%_, _^_, _≤_, _<_}
-use native.Mathlib.Nat.{not-suc-le-zero, mod-lt, sub-zero}
+use Prim.Native.Nat.{ℕ, zero, suc, _+_, _*_, _-_, _/_, _%_, _≤_, _<_}
+use native.Mathlib.Nat.{not-suc-le-zero, mod-lt}
 use native.Mathlib.Decide.{decLt, decLe, ℕ-discrete}
 use native.Mathlib.Numerals.{add-one}
 use native.Mathlib.Omega.{arith}
-use lib.Dec.{eqb}
-use lib.ListN.{drop, drop-of-length-le, length, length-drop, take}
-use lib.Seq.{drop-drop, take-all}
+use lib.Dec.{eqb, ltb}
+use lib.ListN.{drop, getD, length}
+use lib.Seq.{drop-drop}
 use borrow.Author.Tests.{eq-eqb, le-ltb, lt-ltb, ne-eqb}
-use Rattle.theory.specs.Record.{Bytes, extent, little-endian}
+use Rattle.theory.specs.Record.{Bytes, extent}
 use Rattle.terms.specs.Framing.{record-at}
 use Rattle.rows.specs.Layout.{link-at, missing, number-at, offset-at}
 use Rattle.rows.specs.Rows.{kept-as, place-from, place-of, row-record}
@@ -79,45 +79,27 @@ newest-same f g j (suc n) h = rw (h n (omega arith), newest-same f g j n (λ k l
 
 -- ---- the buckets
 
--- a byte is below 2 ^ 16
-pub byte-small : {b x : ℕ} → b ≡ 1 → x < 256 ^ b → x < 65536
-byte-small {b} {x} e h = let z : x < 256 ^ 1 = subst (λ (k : ℕ). x < 256 ^ k) e h in omega arith
-
 -- a word more
-pub hash-turn : (m h i size w : ℕ) (s : Bytes) → i < length s → size ≤ 2 → size ≤ length s - i → length s - i - size ≡ length s - i - 2 → w ≡ number-at s i size → w < 65536
-    → hash-from m ((length s - i + 1) / 2) h (drop i s) ≡ hash-from m ((length s - (i + size) + 1) / 2) (fold ((h + w) * m)) (drop (i + size) s)
+pub hash-turn : (m h i w : ℕ) (s : Bytes) → i + 2 ≤ length s → w ≡ number-at s i 2
+    → hash-from m ((length s - i) / 2) h (drop i s) ≡ hash-from m ((length s - (i + 2)) / 2) (fold ((h + w) * m)) (drop (i + 2) s)
 unfolding hash-from
-hash-turn m h i size w s below few left same e small =
-    let q : (length s - i + 1) / 2 ≡ suc ((length s - (i + size) + 1) / 2) = omega arith in
-    rw q
-    (ap₂ (λ (y : ℕ) (z : Bytes). hash-from m ((length s - (i + size) + 1) / 2) y z)
-    (ap (λ (v : ℕ). fold ((h + v) * m)) (ap (λ (v : ℕ). v % 65536) (ap little-endian word-is ∙ sym e) ∙ (let z : w % 65536 ≡ w = omega arith in z))) rest-is)
-  where
-    short : (n k : ℕ) (xs : Bytes) → length xs ≤ n → length xs ≤ k → take n xs ≡ take k xs
-    short n k xs a b = take-all n xs a ∙ sym (take-all k xs b)
+hash-turn m h i w s l e =
+    let q : (length s - i) / 2 ≡ suc ((length s - (i + 2)) / 2) = omega arith in
+    rw (q, e)
+    (ap (λ (x : Bytes). hash-from m ((length s - (i + 2)) / 2) (fold ((h + number-at s i 2) * m)) x) (drop-drop 2 i s))
 
-    word-is : take 2 (drop i s) ≡ take size (drop i s)
-    word-is = go (decLe 2 (length s - i))
-      where
-        go : Dec (2 ≤ length s - i) → take 2 (drop i s) ≡ take size (drop i s)
-        go (yes l) = let z : 2 ≡ size = omega arith in ap (λ (n : ℕ). take n (drop i s)) z
-        go (no l) = let d = length-drop i s in short 2 size (drop i s) (omega arith) (omega arith)
-
-    rest-is : drop 2 (drop i s) ≡ drop (i + size) s
-    rest-is = go (decLe 2 (length s - i))
-      where
-        go : Dec (2 ≤ length s - i) → drop 2 (drop i s) ≡ drop (i + size) s
-        go (yes l) = let z : i + 2 ≡ i + size = omega arith in drop-drop 2 i s ∙ ap (λ (n : ℕ). drop n s) z
-        go (no l) = let d = length-drop i s in drop-of-length-le (drop i s) {i = 2} (omega arith) ∙ sym (drop-of-length-le s {i = i + size} (omega arith))
-
-pub hash-start : (m : ℕ) (s : Bytes) → hash-of m s ≡ hash-from m ((length s - 0 + 1) / 2) 0 (drop 0 s)
+pub hash-short : (m : ℕ) (s : Bytes) → length s < 4 → 0 ≡ hash-of m s
 unfolding hash-of
-hash-start m s = rw sub-zero
+hash-short m s h = sym (rw (lt-ltb (length s) 4 h))
 
-pub hash-last : (m h i : ℕ) (s : Bytes) → length s ≤ i → hash-from m ((length s - i + 1) / 2) h (drop i s) ≡ fold h
+pub hash-start : (m : ℕ) (s : Bytes) {k : ℕ} → 4 ≤ length s → k ≡ getD s 2 0 → hash-of m s ≡ hash-from m ((length s - 4) / 2) (k * 65536) (drop 4 s)
+unfolding hash-of
+hash-start m s h e = rw (le-ltb (length s) 4 h, e)
+
+pub hash-last : (m h i : ℕ) (s : Bytes) → length s < i + 2 → hash-from m ((length s - i) / 2) h (drop i s) ≡ h % 2147483648
 unfolding hash-from
 hash-last m h i s l =
-    let q : (length s - i + 1) / 2 ≡ 0 = omega arith in
+    let q : (length s - i) / 2 ≡ 0 = omega arith in
     rw q
 
 -- the products of the hash fit, and what they are folded to stays small
@@ -129,30 +111,25 @@ hash-fits h w m a b c =
 pub fold-low : (h w m : ℕ) → h ≤ 4295032832 → w < 65536 → m ≤ 1073741824 → fold ((h + w) * m) ≤ 4295032832
 fold-low h w m a b c = let q = hash-fits h w m a b c in let d = mod-lt ((h + w) * m) (let z : 0 < 2147483648 = omega arith in z) in omega arith
 
-pub fold-end : (h : ℕ) → h ≤ 4295032832 → fold h < 2147483650
-fold-end h a = let d = mod-lt h (let z : 0 < 2147483648 = omega arith in z) in omega arith
-
-hash-low-from : (m q h : ℕ) (x : Bytes) → m ≤ 1073741824 → h ≤ 4295032832 → hash-from m q h x < 2147483650
+hash-low-from : (m q h : ℕ) (x : Bytes) → hash-from m q h x < 2147483648
 unfolding hash-from
-hash-low-from m zero h x c l = fold-end h l
-hash-low-from m (suc q) h x c l =
-    hash-low-from m q (fold ((h + little-endian (take 2 x) % 65536) * m)) (drop 2 x) c
-    (fold-low h (little-endian (take 2 x) % 65536) m l (mod-lt (little-endian (take 2 x)) (omega arith)) c)
+hash-low-from m zero h x = mod-lt h (omega arith)
+hash-low-from m (suc q) h x = hash-low-from m q (fold ((h + number-at x 0 2) * m)) (drop 2 x)
 
-pub hash-low : (m : ℕ) (x : Bytes) → m ≤ 1073741824 → hash-of m x < 2147483650
+hash-low : (m : ℕ) (x : Bytes) → hash-of m x < 2147483648
 unfolding hash-of
-hash-low m x c = hash-low-from m ((length x + 1) / 2) 0 x c (omega arith)
+hash-low m x = go (ltb (length x) 4)
+  where
+    go : (b : Bool) → cond b 0 (hash-from m ((length x - 4) / 2) (getD x 2 0 * 65536) (drop 4 x)) < 2147483648
+    go true = omega arith
+    go false = hash-low-from m ((length x - 4) / 2) (getD x 2 0 * 65536) (drop 4 x)
 
-multiplier-low : (seed : ℕ) → multiplier seed ≤ 1073741824
-unfolding multiplier
-multiplier-low seed = let d = mod-lt (seed + 668265263) (let z : 0 < 1073741824 = omega arith in z) in omega arith
-
-scaled : (h c : ℕ) → h < 2147483650 → 0 < c → h * c / 2147483650 < c
-scaled h c a b = let r : h * c + c ≤ 2147483650 * c = row-before c a in omega arith
+scaled : (h c : ℕ) → h < 2147483648 → 0 < c → h * c / 2147483648 < c
+scaled h c a b = let r : h * c + c ≤ 2147483648 * c = row-before c a in omega arith
 
 pub bucket-below : (work : Bytes) (c : ℕ) (x : Bytes) → 0 < c → bucket-of work c x < c
 unfolding bucket-of
-bucket-below work c x h = scaled (hash-of (multiplier (seed-in work)) x) c (hash-low (multiplier (seed-in work)) x (multiplier-low (seed-in work))) h
+bucket-below work c x h = scaled (hash-of (multiplier (seed-in work)) x) c (hash-low (multiplier (seed-in work)) x) h
 
 pub bucket-none : (work : Bytes) (c : ℕ) (x : Bytes) → c ≡ 0 → bucket-of work c x ≡ 0
 unfolding bucket-of

@@ -2,8 +2,8 @@
 use mathlib.Core.Path.{_≡_, refl, sym, ap, subst, _∙_}
 use mathlib.Core.Bool.{Bool, true, false, _&&_, and-false, cond}
 use mathlib.Core.List.{List, [], _∷_, _++_, append-assoc, append-nil}
-use Prim.Native.Nat.{ℕ, zero, suc, _+_, _-_, _*_, _/_, _^_, _≤_, _<_}
-use native.Mathlib.Nat.{not-suc-le-zero, le-of-suc-le-suc, mul-le-mul-right, pow-succ', pow-le-pow-right}
+use Prim.Native.Nat.{ℕ, zero, suc, _+_, _-_, _*_, _≤_, _<_}
+use native.Mathlib.Nat.{not-suc-le-zero, le-of-suc-le-suc, mul-le-mul-right}
 use native.Mathlib.Numerals.{add-one}
 use native.Mathlib.Omega.{arith}
 use lib.Dec.{ltb}
@@ -13,10 +13,10 @@ use borrow.Author.Tests.{le-ltb, lt-ltb}
 use Rattle.theory.specs.Record.{Bytes, bytes-of, number-length}
 use Rattle.rows.specs.Layout.{missing}
 use Rattle.rows.specs.Rows.{place-of}
-use Rattle.table.specs.Keys.{few-arguments, key-bytes, list-bytes, Roomy, last-number, all-places, words-bytes, place-constant, place-indexed, place-list, record-of}
+use Rattle.table.specs.Keys.{few-arguments, list-bytes, key-bytes, Roomy, last-number, all-places, words-bytes, place-constant, place-indexed, place-list, record-of}
 use Rattle.rows.proofs.RowLaws.{and-first, and-second, length-bytes}
-use Rattle.theory.specs.Limit.{number-bytes, value-bytes, max-arguments}
-use Rattle.theory.proofs.Lengths.{either-length, length-most}
+use Rattle.theory.proofs.Lengths.{length-most}
+use Rattle.theory.specs.Limit.{number-bytes, value-bytes, max-arguments, long-bytes}
 
 -- ---- the first `at` bytes of the array are p
 
@@ -94,8 +94,8 @@ room-for-words {nb} {count} i r h = let p : i * nb ≤ count * nb = mul-le-mul-r
 pub list-room : (job : Bytes) {b count : ℕ} → b ≡ number-length job → count ≤ max-arguments → Roomy b count list-bytes
 list-room job {b} {count} e h = let l = length-most job in record { few = h; room = let p = few-words {nb = b} {m = count} (omega arith) h in omega (arith, p) }
 
-pub few-room : (job : Bytes) {b count : ℕ} → b ≡ number-length job → count ≤ few-arguments → Roomy b count key-bytes
-few-room job {b} {count} e h = let l = length-most job in record { few = omega arith; room = let p : count * b ≤ 3 * b = mul-le-mul-right b h in omega arith }
+pub few-room : {b count : ℕ} → b ≤ long-bytes → count ≤ few-arguments → Roomy b count key-bytes
+few-room {b} {count} e h = record { few = omega arith; room = let p : count * b ≤ 3 * b = mul-le-mul-right b h in omega arith }
 
 -- ---- the loop over the numbers: the array has the record's head and the first i of them
 
@@ -165,10 +165,3 @@ pub constant-end : {size : ℕ} {key : Bytes} (kind width value : ℕ)
     → (rows : List Bytes) → place-of (take 14 key) rows ≡ place-constant kind width value rows
 unfolding place-constant record-of
 constant-end kind width value w rows = ap (λ (x : Bytes). place-of x rows) (w .bytes)
-
--- ---- a job's number length is two, or else four
-pub short-length : (job : Bytes) {r : ℕ} → r ≡ number-length job → r ≡ 2 → 2 ≡ number-length job
-short-length job e f = sym f ∙ e
-
-pub long-length : (job : Bytes) {r : ℕ} → r ≡ number-length job → (r ≡ 2 → ⊥) → 4 ≡ number-length job
-long-length job e f = either-length (λ b. (b ≡ 2 → ⊥) → 4 ≡ b) (λ g. absurd (g refl)) (λ g. refl) job (λ g. f (e ∙ g))

@@ -6,11 +6,11 @@
 use mathlib.Core.Path.{_≡_}
 use mathlib.Core.Bool.{cond}
 use Prim.Native.Nat.{ℕ, zero, suc, _+_, _*_, _-_, _/_, _%_, _≤_, _<_}
-use lib.ListN.{length, take, drop}
+use lib.ListN.{length, take, drop, getD}
 use lib.Seq.{sets}
 use lib.Dec.{eqb, ltb}
 use Rattle.theory.specs.Limit.{term-bytes}
-use Rattle.theory.specs.Record.{Bytes, little-endian, bytes-of, number-length}
+use Rattle.theory.specs.Record.{Bytes, bytes-of, number-length}
 use Rattle.rows.specs.Layout.{link-bytes, row-size, number-at, link-at}
 use Rattle.rows.specs.Rows.{row-record, Rows, stored-row}
 
@@ -48,18 +48,19 @@ multiplier seed = (seed + 668265263) % 1073741824 + 1
 abbrev pub fold : ℕ → ℕ
 fold x = x % 2147483648 + x / 2147483648
 
--- a number made of q words of two bytes, the last of which may be shorter: the value of a polynomial, whose coefficients they are, at m
-unfoldable pub hash-from : ℕ → ℕ → ℕ → Bytes → ℕ
-hash-from m zero h x = fold h
-hash-from m (suc q) h x = hash-from m q (fold ((h + little-endian (take 2 x) % 65536) * m)) (drop 2 x)
-
--- a number made of all bytes of a record
-unfoldable pub hash-of : ℕ → Bytes → ℕ
-hash-of m x = hash-from m ((length x + 1) / 2) 0 x
-
--- what is above every such number
+-- what is above every hash
 abbrev pub hash-end : ℕ
-hash-end = 2147483650
+hash-end = 2147483648
+
+-- a number made of h and q words of two bytes: the value of a polynomial, whose coefficients they are, at m
+unfoldable pub hash-from : ℕ → ℕ → ℕ → Bytes → ℕ
+hash-from m zero h x = h % hash-end
+hash-from m (suc q) h x = hash-from m q (fold ((h + number-at x 0 2) * m)) (drop 2 x)
+
+-- a number made of a record's kind and body: the whole words of the body, with the kind's low byte above the first of them. The number of words says
+-- the record's length, which is left out
+unfoldable pub hash-of : ℕ → Bytes → ℕ
+hash-of m x = cond (ltb (length x) 4) 0 (hash-from m ((length x - 4) / 2) (getD x 2 0 * 65536) (drop 4 x))
 
 -- the bucket of a record, of c buckets; 0 where there are none
 unfoldable pub bucket-of : Bytes → ℕ → Bytes → ℕ

@@ -3,12 +3,13 @@
 ghost use mathlib.Core.Path.{_≡_};
 ghost use Prim.Native.Nat.{_+_, _*_, _-_, _/_, _≤_, _<_};
 ghost use lib.ListN.{length};
-ghost use Rattle.rows.specs.Layout.{Bounded, link-bytes, row-size};
+ghost use Rattle.rows.specs.Layout.{Bounded, link-bytes};
 ghost use Rattle.rows.specs.Rows.{kept-as, place-of};
 ghost use Rattle.terms.specs.Bodies.{Length};
-ghost use Rattle.table.specs.Buckets.{most-heads, seed-bytes, fold, hash-end, heads-start, head-count, multiplier, hash-of, bucket-of, head-at, first-in, stored-head, Sought};
+ghost use Rattle.table.specs.Buckets.{most-heads, seed-bytes, fold, hash-end, heads-start, head-count, hash-of, bucket-of, first-in, stored-head, Sought};
 use rows::bytes::number;
 use rows::bytes::put_number;
+use rows::bytes::wide;
 use rows::layout::FIRST_PLACE;
 use rows::layout::FIXED_BYTES;
 use rows::layout::MISSING;
@@ -20,11 +21,19 @@ use terms::Term;
 // The most heads that a table has: about twice the most terms.
 const MOST_HEADS: usize = 2097152;
 
-// The bytes of a word of the hash.
+// A record is its length, then its kind ..
+pub const KIND_AT: usize = Term::NUMBER_BYTES;
+
+// .. then its body.
+pub const BODY_AT: usize = KIND_AT + Term::NUMBER_BYTES;
+
+// The bytes of a word of the hash, and what is above every word.
 const WORD_BYTES: usize = 2;
 
+const WORD_END: usize = 65536;
+
 // What is above every hash.
-const HASH_END: usize = 2147483650;
+const HASH_END: usize = 2147483648;
 
 // The bytes of the seed.
 pub const SEED_BYTES: usize = 4;
@@ -74,24 +83,25 @@ pub fn head_count(len: usize, start: usize, link: usize) -> usize
 fn fold(x: usize) -> usize
     ensures { λ r. ⌜ r ≡ fold x ⌝ }
 {
-    x % 2147483648 + x / 2147483648
+    x % HASH_END + x / HASH_END
 }
 
-// A number made of all bytes of a record: the value at m of the polynomial that its words of two bytes are. The last word may be shorter.
+// A number made of a record's kind and body: the value at m of the polynomial that the whole words of the body are, with the kind's low byte above the
+// first of them. The record's length is left out, since the number of words says it.
 pub fn hash(m: usize, s: &[u8]) -> usize
     requires { ⌜ m ≤ 1073741824 ⌝ }
     ensures { λ r. ⌜ Bounded r (hash-of m (now (s .entry))) hash-end ⌝ }
 {
-    let mut h: usize = 0;
-    let mut i: usize = 0;
+    if s.len() < BODY_AT {
+        return 0;
+    }
+    let mut h: usize = wide(s[KIND_AT]) * WORD_END;
+    let mut i: usize = BODY_AT;
     while i + WORD_BYTES <= s.len() {
         h = fold((h + number(s, i, WORD_BYTES)) * m);
         i += WORD_BYTES;
     }
-    if i == s.len() {
-        return fold(h);
-    }
-    fold(fold((h + number(s, i, s.len() - i)) * m))
+    h % HASH_END
 }
 
 // The bucket of a record, of c buckets.

@@ -10,16 +10,12 @@ ghost use Rattle.rows.specs.Layout.{link-bytes};
 ghost use Rattle.rows.specs.Rows.{kept-as, kept, place-of};
 ghost use Rattle.table.specs.Buckets.{TableAs, Table};
 ghost use Rattle.table.specs.Keys.{few-arguments, key-bytes, Roomy, last-number, place-list, place-indexed, place-constant};
+use super::buckets::BODY_AT;
+use super::buckets::KIND_AT;
 use super::kept::find_record;
 use rows::bytes::put_number;
 use rows::layout::MISSING;
 use terms::Term;
-
-// A record is its length, then its kind ..
-const KIND_AT: usize = Term::NUMBER_BYTES;
-
-// .. then its body.
-const BODY_AT: usize = KIND_AT + Term::NUMBER_BYTES;
 
 // So few arguments fit into a short array ..
 const FEW_ARGUMENTS: usize = 3;
@@ -103,13 +99,16 @@ pub fn find_list(job: &[u8], work: &[u8], n: usize, kind: u32, args: &[u32]) -> 
     find_built(job, work, Term::number_length(job), n, kind, args, &mut key)
 }
 
-// The same of up to three, in a shorter array.
+// The same of up to three, in a shorter array. A call for each of the two lengths: each is then compiled for its length.
 fn find_few(job: &[u8], work: &[u8], n: usize, kind: u32, args: &[u32]) -> u32
     requires { ⌜ Table (now job) (now work) n × (length (now args) ≤ few-arguments) ⌝ }
     ensures { λ r. ⌜ r ≡ place-list (number-length (now (job .entry))) kind (now (args .entry)) (kept (now (job .entry)) (now (work .entry)) n) ⌝ }
 {
     let mut key = [0u8; KEY_BYTES];
-    find_built(job, work, Term::number_length(job), n, kind, args, &mut key)
+    if Term::number_length(job) == Term::NUMBER_BYTES {
+        return find_built(job, work, Term::NUMBER_BYTES, n, kind, args, &mut key);
+    }
+    find_built(job, work, Term::LONG_BYTES, n, kind, args, &mut key)
 }
 
 // The place of the record of a kind with one argument.

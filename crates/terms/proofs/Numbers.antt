@@ -98,6 +98,13 @@ is-long (a ∷ b ∷ c ∷ d ∷ rest) h p q r s = first a b c d p q r s
     first : (a b c d : ℕ) → a ≡ 2 → b ≡ 0 → c ≡ 103 → d ≡ 0 → 4 ≡ number-length (a ∷ b ∷ c ∷ d ∷ rest)
     first a b c d p q r s = rw (p, q, r, s)
 
+-- it is two, or else four
+pub short-length : (job : Bytes) {r : ℕ} → r ≡ number-length job → r ≡ 2 → 2 ≡ number-length job
+short-length job e f = sym f ∙ e
+
+pub long-length : (job : Bytes) {r : ℕ} → r ≡ number-length job → (r ≡ 2 → ⊥) → 4 ≡ number-length job
+long-length job e f = either-length (λ b. (b ≡ 2 → ⊥) → 4 ≡ b) (λ g. absurd (g refl)) (λ g. refl) job (λ g. f (e ∙ g))
+
 -- it is one of those that reading is proved for
 pub length-of : (job : Bytes) → Length (number-length job)
 length-of = either-length Length (record { some-bytes = omega arith; few-bytes = omega arith }) (record { some-bytes = omega arith; few-bytes = omega arith })

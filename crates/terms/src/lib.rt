@@ -175,7 +175,14 @@ impl Term {
         ensures value { λ r. ⌜ r ≡ word (drop at (now (s .entry))) ⌝ }
         ensures bound { λ r. ⌜ r < 256 ^ number-bytes ⌝ }
     {
-        Term::bytes(s, at, Term::NUMBER_BYTES) as u32
+        // Two bytes that are there are read at once, since every record is read by this; the others one by one.
+        if s.len() < Term::NUMBER_BYTES {
+            return Term::bytes(s, at, Term::NUMBER_BYTES) as u32;
+        }
+        if s.len() - Term::NUMBER_BYTES < at {
+            return Term::bytes(s, at, Term::NUMBER_BYTES) as u32;
+        }
+        (wide(s[at]) + 256 * wide(s[at + 1])) as u32
     }
 
     // The term's number at `at`, of so many bytes.

@@ -5,6 +5,7 @@ use std::{
     collections::HashMap,
     hint::black_box,
     io::{self, Write},
+    iter,
 };
 
 /// The formats and numbers of terms that are measured.
@@ -19,29 +20,38 @@ const SIZES: [(Format, usize); 5] = [
 /// The lookups whose time is taken; with a million terms the job has then just below 16 MiB.
 const LOOKUPS: usize = 1_000_000;
 
+/// The places from one lookup to the next: in the order in which the terms were entered, as a circuit asks for its gates, and scattered over all of them,
+/// where each lookup waits for memory that no cache holds. A prime, so that all of them have their turn.
+const NEXT: usize = 1;
+const FAR: usize = 40_503;
+
 /// A million terms are to be entered in less than so many seconds.
 const MOST_SECONDS: f64 = 0.5;
 
-/// A lookup among the most terms may cost so many times one among the fewest of the same format.
+/// A lookup among the most terms may cost so many times one among the fewest of the same format, where they are asked for in their order.
 const MOST_TIMES: f64 = 4.0;
 
-/// A measured row: the seconds in which all terms are entered, and those of a lookup.
+/// A measured row: the seconds in which all terms are entered, and those of a lookup in their order and of one that is scattered, of the latter also in
+/// a hash table of Rust's.
 struct Times {
     entering: f64,
-    lookup: f64,
+    near: f64,
+    far: f64,
+    plain: f64,
 }
 
 /// Measures each size, with exactly the work memory that its terms need and with twice that; fails where one takes longer than it may.
 pub fn measure_all(out: &mut impl Write) -> Result<Status, Failure> {
     writeln!(
         out,
-        "Terms entered, each the Not of the one before, and then looked up by {} records that repeat them in scattered order.",
+        "Terms entered, each the Not of the one before, and then looked up by {} records that repeat them: in their order, and scattered, the\n\
+         latter also in a HashMap of Rust's over the same records.",
         grouped(LOOKUPS as u64)
     )?;
     writeln!(
         out,
-        "{:<20}{:>10}{:>14}{:>14}{:>12}{:>14}{:>12}",
-        "number bytes", "terms", "work bytes", "ms entering", "ns/record", "ms lookups", "ns/lookup"
+        "{:<20}{:>10}{:>14}{:>14}{:>12}{:>12}{:>12}{:>12}",
+        "number bytes", "terms", "work bytes", "ms entering", "ns/record", "ns/lookup", "scattered", "HashMap"
     )?;
     let (mut status, mut progress) = (Status::Fine, Progress::new());
     // The lookups among the fewest terms, by the format and how much memory there is.
@@ -57,7 +67,7 @@ pub fn measure_all(out: &mut impl Write) -> Result<Status, Failure> {
             status = Status::Failed;
             continue;
         };
-        let least = *fewest.entry((format, times)).or_insert(found.lookup);
+        let least = *fewest.entry((format, times)).or_insert(found.near);
         status = status.max(row(format, terms, room, &found, least, out)?);
     }
     Ok(status)
@@ -72,19 +82,20 @@ fn row(
     fewest: f64,
     out: &mut impl Write,
 ) -> io::Result<Status> {
-    let Times { entering, lookup } = *times;
+    let Times { entering, near, far, plain } = *times;
     write!(
         out,
-        "{:<20}{:>10}{:>14}{:>14.2}{:>12.1}{:>14.2}{:>12.1}",
+        "{:<20}{:>10}{:>14}{:>14.2}{:>12.1}{:>12.1}{:>12.1}{:>12.1}",
         format!("{} bytes", format.number_bytes()),
         grouped(terms as u64),
         grouped(room as u64),
         entering * 1e3,
         entering * 1e9 / terms as f64,
-        lookup * 1e3 * LOOKUPS as f64,
-        lookup * 1e9
+        near * 1e9,
+        far * 1e9,
+        plain * 1e9
     )?;
-    let (slow, dear) = (entering >= MOST_SECONDS, lookup > MOST_TIMES * fewest);
+    let (slow, dear) = (entering >= MOST_SECONDS, near > MOST_TIMES * fewest);
     if slow {
         write!(out, "  NOT IN {MOST_SECONDS} SECONDS")?;
     }
@@ -100,13 +111,35 @@ fn row(
 fn measure(format: Format, terms: usize, room: usize) -> Option<Times> {
     let mut work = vec![0; room];
     let entered = jobs::many_terms_in(format, terms - 2);
-    let repeated = jobs::many_repeats_in(format, terms - 2, LOOKUPS);
+    let [near, far] = [NEXT, FAR].map(|step| jobs::many_repeats_in(format, terms - 2, LOOKUPS, step));
     let mut run = |job: &[u8]| run_job(black_box(job), black_box(&mut work), &mut []);
-    let (first, second) = (run(&entered), run(&repeated));
-    if (first.stop, first.terms as usize, second.stop, second.repeats as usize) != (0, terms, 0, LOOKUPS) {
+    let first = run(&entered);
+    if (first.stop, first.terms as usize) != (0, terms) {
         return None;
     }
-    let (entering, both) = (bench::fastest(|| run(&entered)).0, bench::fastest(|| run(&repeated)).0);
+    if [&near, &far].map(|job| run(job)).iter().any(|last| (last.stop, last.repeats as usize) != (0, LOOKUPS)) {
+        return None;
+    }
+    let entering = bench::fastest(|| run(&entered)).0;
     // What the repeats add is their lookups, and the reading of their records.
-    Some(Times { entering, lookup: (both - entering).max(0.0) / LOOKUPS as f64 })
+    let [near, far_lookup] =
+        [&near, &far].map(|job| (bench::fastest(|| run(job)).0 - entering).max(0.0) / LOOKUPS as f64);
+    Some(Times { entering, near, far: far_lookup, plain: in_a_map(&entered, &far[entered.len()..]) })
+}
+
+/// The seconds of a lookup in a map from the records of a job to their places; the records stand in the job, as they do for the library.
+fn in_a_map(entered: &[u8], repeats: &[u8]) -> f64 {
+    let places: HashMap<&[u8], usize> = records(entered).zip(0..).collect();
+    let look = || records(repeats).map(|record| places[record]).fold(0, usize::wrapping_add);
+    bench::fastest(look).0 / LOOKUPS as f64
+}
+
+/// The records of a job.
+fn records(mut job: &[u8]) -> impl Iterator<Item = &[u8]> {
+    iter::from_fn(move || {
+        let size = usize::from(u16::from_le_bytes(*job.first_chunk()?));
+        let (record, rest) = job.split_at_checked(2 + size)?;
+        job = rest;
+        Some(record)
+    })
 }

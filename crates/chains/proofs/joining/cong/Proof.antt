@@ -1,11 +1,9 @@
 -- `cong`: one kind on both sides, and a premise for each argument.
 use borrow.Author.Needs.{needs}
-use mathlib.Core.Path.{sym, ap, ap₂, subst, _∙_}
-use mathlib.Core.Bool.{Bool, cond}
+use mathlib.Core.Path.{sym, ap₂, subst, _∙_}
 use mathlib.Core.List.{map}
 use borrow.Author.Tests.{not-true, not-false}
 use denote.Ref.{now}
-use Rattle.theory.specs.Verdict.{held, wrong-form}
 use Rattle.terms.specs.declared.Operands.{Operands}
 use Rattle.terms.specs.Decoded.{OperandsPlaced, words-in, op-of, numbers-of, arguments-of}
 use Rattle.store.specs.Store.{listed}
@@ -20,10 +18,9 @@ returns c =
     let t₂ = k .before in
     let t₁ = t₂ .before in
     let a = t₁ .before .before .before .before .args in
-    ap (λ (b : Bool). cond b held wrong-form)
-    (cong-other (earlier-in (now (a .job)) (now (a .work)) (now (a .answers)) (a .n) (a .answered)) (listed (now (a .job)) (now (a .work)) (a .n)) (words-in (now (a .job)) (a .premises))
+    cong-other (earlier-in (now (a .job)) (now (a .work)) (now (a .answers)) (a .n) (a .answered)) (listed (now (a .job)) (now (a .work)) (a .n)) (words-in (now (a .job)) (a .premises))
     (op-of (t₁ .term-at .result)) (op-of (t₂ .term-at2 .result)) (arguments-of (now (a .job)) (t₁ .term-at .result)) (arguments-of (now (a .job)) (t₂ .term-at2 .result))
-    (t₁ .term-at .ensures .made) (t₂ .term-at2 .ensures .made) (sym (k .same-kind .ensures) ∙ not-true _ (c .if1 .taken)))
+    (t₁ .term-at .ensures .made) (t₂ .term-at2 .ensures .made) (sym (k .same-kind .ensures) ∙ not-true _ (c .if1 .taken))
 
 argument-wise-requires : tie.Need-argument-wise-requires
 argument-wise-requires c κs =
@@ -43,8 +40,7 @@ argument-wise-requires c κs =
 
 returns-2 : tie.Need-returns-2
 returns-2 c =
-    let w = c .before in
-    let o₂ = w .before in
+    let o₂ = c .before in
     let o₁ = o₂ .before in
     let k = o₁ .before .before in
     let t₂ = k .before in
@@ -53,11 +49,10 @@ returns-2 c =
     let E = earlier-in (now (a .job)) (now (a .work)) (now (a .answers)) (a .n) (a .answered) in
     let L = listed (now (a .job)) (now (a .work)) (a .n) in
     let ks = words-in (now (a .job)) (a .premises) in
-    c .told .ensures ∙ ap (λ (b : Bool). cond b held wrong-form)
-    (w .argument-wise .ensures
+    c .argument-wise .ensures
     ∙ ap₂ (λ (x y : Operands). argued L (map (sides-in E L) ks) (numbers-of (now (a .job)) x) (numbers-of (now (a .job)) y)) (o₁ .operands .ensures) (o₂ .operands2 .ensures)
     ∙ cong-is E L ks (op-of (t₁ .term-at .result)) (op-of (t₂ .term-at2 .result)) (arguments-of (now (a .job)) (t₁ .term-at .result)) (arguments-of (now (a .job)) (t₂ .term-at2 .result))
-    (t₁ .term-at .ensures .made) (t₂ .term-at2 .ensures .made) (sym (k .same-kind .ensures) ∙ not-false _ (o₁ .before .if1 .left)))
+    (t₁ .term-at .ensures .made) (t₂ .term-at2 .ensures .made) (sym (k .same-kind .ensures) ∙ not-false _ (o₁ .before .if1 .left))
 
 pub cong-spec : {M : Type 1} → statement M
 cong-spec =
@@ -70,5 +65,4 @@ cong-spec =
     (λ c κs. search needs)
     (λ c κs. search needs)
     argument-wise-requires
-    (λ c κs. search needs)
     returns-2)

@@ -1,10 +1,7 @@
 -- `symm`: one premise, turned round.
-use borrow.Author.Needs.{needs}
-use mathlib.Core.Path.{ap, _∙_}
-use mathlib.Core.Bool.{Bool, cond}
+use mathlib.Core.Path.{_∙_}
 use native.Mathlib.Omega.{arith}
 use denote.Ref.{now}
-use Rattle.theory.specs.Verdict.{held, wrong-form}
 use Rattle.terms.specs.Decoded.{words-in}
 use Rattle.terms.proofs.Lists.{words-in-length}
 use Rattle.store.specs.Store.{listed}
@@ -17,9 +14,8 @@ use Rattle.chains.proofs.joining.symm.Tie as tie
 returns : tie.Need-returns
 returns c =
     let a = c .before .before .before .before .before .args in
-    ap (λ (b : Bool). cond b held wrong-form)
-    (symm-other (earlier-in (now (a .job)) (now (a .work)) (now (a .answers)) (a .n) (a .answered)) (listed (now (a .job)) (now (a .work)) (a .n)) (words-in (now (a .job)) (a .premises))
-    (tree (now (a .job)) (now (a .work)) (a .n) (a .l)) (tree (now (a .job)) (now (a .work)) (a .n) (a .r)) (λ e. c .if1 .taken (omega (arith, words-in-length (now (a .job)) (a .premises)))))
+    symm-other (earlier-in (now (a .job)) (now (a .work)) (now (a .answers)) (a .n) (a .answered)) (listed (now (a .job)) (now (a .work)) (a .n)) (words-in (now (a .job)) (a .premises))
+    (tree (now (a .job)) (now (a .work)) (a .n) (a .l)) (tree (now (a .job)) (now (a .work)) (a .n) (a .r)) (λ e. c .if1 .taken (omega (arith, words-in-length (now (a .job)) (a .premises))))
 
 shows-requires : tie.Need-shows-requires
 shows-requires c κs =
@@ -29,12 +25,10 @@ shows-requires c κs =
 
 returns-2 : tie.Need-returns-2
 returns-2 c =
-    let h = c .before in
-    let a = h .before .before .before .before .before .before .args in
-    c .told .ensures ∙ ap (λ (b : Bool). cond b held wrong-form)
-    (h .shows .ensures
+    let a = c .before .before .before .before .before .before .args in
+    c .shows .ensures
     ∙ symm-one (earlier-in (now (a .job)) (now (a .work)) (now (a .answers)) (a .n) (a .answered)) (listed (now (a .job)) (now (a .work)) (a .n)) (words-in (now (a .job)) (a .premises))
-    (tree (now (a .job)) (now (a .work)) (a .n) (a .l)) (tree (now (a .job)) (now (a .work)) (a .n) (a .r)) (words-in-length (now (a .job)) (a .premises) ∙ h .before .if1 .left))
+    (tree (now (a .job)) (now (a .work)) (a .n) (a .l)) (tree (now (a .job)) (now (a .work)) (a .n) (a .r)) (words-in-length (now (a .job)) (a .premises) ∙ c .before .if1 .left)
 
 pub symm-spec : {M : Type 1} → statement M
-symm-spec = tie.close (tie.spec returns shows-requires (λ c κs. search needs) returns-2)
+symm-spec = tie.close (tie.spec returns shows-requires returns-2)

@@ -1,48 +1,16 @@
--- `row_depth`: what the row's record and its measure say.
-use mathlib.Core.Path.{_∙_}
-use native.Mathlib.Omega.{arith}
+-- `row_depth`: the job's number length, and the depth for any.
 use borrow.Author.Needs.{needs}
-use Rattle.terms.proofs.Numbers.{place-small}
-use Rattle.store.proofs.Keeping.{row-lies}
-use Rattle.store.proofs.Measuring.{depth-least}
-use Rattle.store.proofs.Sorting.{row-depth, row-stands}
+use Rattle.terms.proofs.Numbers.{short-length, long-length}
 use Rattle.store.proofs.shelf.row_depth.Statement.{statement}
 use Rattle.store.proofs.shelf.row_depth.Tie as tie
 
-offset-at-requires : tie.Need-offset-at-requires
-offset-at-requires c κs = let s = c .before .before in row-lies (s .pre .0) (s .pre .1)
+row-depth-as-requires : tie.Need-row-depth-as-requires
+row-depth-as-requires c κs = let p = c .before .before .before .before .pre in (p .0, p .1, short-length _ (c .before .number-length .ensures) (c .if1 .taken))
 
-add-number : tie.Need-add-number
-add-number c =
-    let s = c .before .before .before in
-    let r = row-stands (s .pre .0) (s .args .k) (s .pre .1) (c .offset-at .ensures .value) in
-    omega (arith, r .0, r .1)
-
-number-requires : tie.Need-number-requires
-number-requires c κs =
-    let s = c .before .before .before in
-    let r = row-stands (s .pre .0) (s .args .k) (s .pre .1) (c .offset-at .ensures .value) in
-    (omega (arith, r .0, r .1), omega arith)
-
-measure-at-requires : tie.Need-measure-at-requires
-measure-at-requires c κs = let s = c .before .before .before .before in row-lies (s .pre .0) (s .pre .1)
-
-returns : tie.Need-returns
-returns c =
-    let s = c .before .before .before .before .before .before in
-    record {
-      value = c .depth-in .ensures
-          ∙ row-depth (s .pre .0) (s .args .k) (s .pre .1) (c .before .before .before .offset-at .ensures .value) (c .before .before .number .ensures .value)
-          (c .before .measure-at .ensures .value);
-      below = omega (
-        arith,
-        c .depth-in .ensures,
-        depth-least (c .before .before .number .result) (c .before .measure-at .result),
-        place-small _ _ (s .pre .0 .rows .link-length .few-bytes) (c .before .measure-at .ensures .below),
-      );
-    }
+row-depth-as-requires-2 : tie.Need-row-depth-as-requires-2
+row-depth-as-requires-2 c κs = let p = c .before .before .before .before .pre in (p .0, p .1, long-length _ (c .before .number-length .ensures) (c .if1 .left))
 
 pub row-depth-spec : {M : Type 1} → statement M
 row-depth-spec =
     tie.close
-    (tie.spec offset-at-requires add-number number-requires measure-at-requires (λ c κs. search needs) returns)
+    (tie.spec (λ c κs. search needs) row-depth-as-requires (λ c. c .row-depth-as .ensures) row-depth-as-requires-2 (λ c. c .row-depth-as2 .ensures))

@@ -1,4 +1,4 @@
-use mathlib.Core.Path.{_≡_, sym, ap, ap₂, _∙_}
+use mathlib.Core.Path.{sym, ap, _∙_}
 use Prim.Native.Nat.{ℕ, _≤_, _+_, _*_, _/_, _%_}
 use native.Mathlib.Omega.{arith}
 use borrow.Author.Needs.{needs}
@@ -19,7 +19,7 @@ number-requires c κs = let p = c .before .before .before .pre .1 (omega (arith,
 
 mul-result : tie.Need-mul-result
 mul-result c =
-    let r = row-least (c .before .before .before .before .before .args .c) (let z : c .hash .result ≤ 2147483650 = omega (arith, c .hash .ensures .below) in z) in
+    let r = row-least (c .before .before .before .before .before .args .c) (let z : c .hash .result ≤ 2147483648 = omega (arith, c .hash .ensures .below) in z) in
     let s = c .before .before .before .before .before .pre .0 in
     omega arith
 
@@ -27,7 +27,7 @@ returns-2 : tie.Need-returns-2
 unfolding bucket-of multiplier seed-in
 returns-2 c =
     let a = c .before .before .before .before .before .args in
-    ap (λ (h : ℕ). h * a .c / 2147483650) (c .hash .ensures .value ∙ ap (λ (s : ℕ). hash-of ((s + 668265263) % 1073741824 + 1) (a .wanted .now)) (c .before .number .ensures .value))
+    ap (λ (h : ℕ). h * a .c / 2147483648) (c .hash .ensures .value ∙ ap (λ (s : ℕ). hash-of ((s + 668265263) % 1073741824 + 1) (a .wanted .now)) (c .before .number .ensures .value))
 
 pub bucket-spec : {M : Type 1} → statement M
 bucket-spec =

@@ -9,7 +9,7 @@ use Rattle.rows.specs.Layout.{link-bytes}
 use Rattle.table.specs.Buckets.{TableAs}
 use Rattle.table.specs.Promise.{TermLimit}
 use Rattle.table.proofs.AddLaws.{term-limit, grown-as}
-use Rattle.table.proofs.KeyLaws.{short-length, long-length}
+use Rattle.terms.proofs.Numbers.{short-length, long-length}
 use Rattle.table.proofs.kept.add.Statement.{statement}
 use Rattle.table.proofs.kept.add.Tie as tie
 

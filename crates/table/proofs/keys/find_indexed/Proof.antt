@@ -7,7 +7,7 @@ use Rattle.rows.specs.Layout.{link-bytes}
 use Rattle.rows.specs.Rows.{kept-as}
 use Rattle.table.specs.Buckets.{TableAs}
 use Rattle.table.specs.Keys.{place-indexed}
-use Rattle.table.proofs.KeyLaws.{short-length, long-length}
+use Rattle.terms.proofs.Numbers.{short-length, long-length}
 use Rattle.table.proofs.keys.find_indexed.Statement.{statement}
 use Rattle.table.proofs.keys.find_indexed.Tie as tie
 
