@@ -4,3 +4,4 @@ pub mod Store
 pub mod Sorts
 pub mod Terms
 pub mod Shelf
+pub mod Lent

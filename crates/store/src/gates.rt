@@ -3,10 +3,8 @@ ghost use mathlib.Core.Path.{_≡_};
 ghost use Prim.Native.Nat.{_≤_};
 ghost use lib.ListN.{length};
 ghost use Rattle.theory.specs.Limit.{max-arguments};
-ghost use Rattle.theory.specs.Record.{number-length};
-ghost use Rattle.rows.specs.Rows.{kept};
 ghost use Rattle.table.specs.Buckets.{Table};
-ghost use Rattle.store.specs.Numbers.{numbers-in, bit-number, bb-number, constant-number};
+ghost use Rattle.store.specs.Lent.{gates, bit-gate, bb-gate, constant-gate};
 
 // The numbers of the terms `true` and `false`.
 pub const TRUE: u32 = 0;
@@ -34,42 +32,42 @@ const CONSTANT: u32 = 12;
 
 pub fn not1(job: &[u8], work: &[u8], n: usize, x: u32) -> u32
     requires { ⌜ Table (now job) (now work) n ⌝ }
-    ensures { λ r. ⌜ r ≡ numbers-in (now (job .entry)) (now (work .entry)) n .not-gate x ⌝ }
+    ensures { λ r. ⌜ r ≡ gates job work n .not-gate x ⌝ }
 {
     table::find_one(job, work, n, NOT, x)
 }
 
 pub fn and2(job: &[u8], work: &[u8], n: usize, x: u32, y: u32) -> u32
     requires { ⌜ Table (now job) (now work) n ⌝ }
-    ensures { λ r. ⌜ r ≡ numbers-in (now (job .entry)) (now (work .entry)) n .and-gate x y ⌝ }
+    ensures { λ r. ⌜ r ≡ gates job work n .and-gate x y ⌝ }
 {
     table::find_two(job, work, n, AND, x, y)
 }
 
 pub fn or2(job: &[u8], work: &[u8], n: usize, x: u32, y: u32) -> u32
     requires { ⌜ Table (now job) (now work) n ⌝ }
-    ensures { λ r. ⌜ r ≡ numbers-in (now (job .entry)) (now (work .entry)) n .or-gate x y ⌝ }
+    ensures { λ r. ⌜ r ≡ gates job work n .or-gate x y ⌝ }
 {
     table::find_two(job, work, n, OR, x, y)
 }
 
 pub fn xor2(job: &[u8], work: &[u8], n: usize, x: u32, y: u32) -> u32
     requires { ⌜ Table (now job) (now work) n ⌝ }
-    ensures { λ r. ⌜ r ≡ numbers-in (now (job .entry)) (now (work .entry)) n .xor-gate x y ⌝ }
+    ensures { λ r. ⌜ r ≡ gates job work n .xor-gate x y ⌝ }
 {
     table::find_two(job, work, n, XOR, x, y)
 }
 
 pub fn eq2(job: &[u8], work: &[u8], n: usize, x: u32, y: u32) -> u32
     requires { ⌜ Table (now job) (now work) n ⌝ }
-    ensures { λ r. ⌜ r ≡ numbers-in (now (job .entry)) (now (work .entry)) n .eq-gate x y ⌝ }
+    ensures { λ r. ⌜ r ≡ gates job work n .eq-gate x y ⌝ }
 {
     table::find_two(job, work, n, EQUALS, x, y)
 }
 
 pub fn ite3(job: &[u8], work: &[u8], n: usize, c: u32, x: u32, y: u32) -> u32
     requires { ⌜ Table (now job) (now work) n ⌝ }
-    ensures { λ r. ⌜ r ≡ numbers-in (now (job .entry)) (now (work .entry)) n .ite-gate c x y ⌝ }
+    ensures { λ r. ⌜ r ≡ gates job work n .ite-gate c x y ⌝ }
 {
     table::find_three(job, work, n, ITE, c, x, y)
 }
@@ -77,7 +75,7 @@ pub fn ite3(job: &[u8], work: &[u8], n: usize, c: u32, x: u32, y: u32) -> u32
 // An And of any number of arguments.
 pub fn all_of(job: &[u8], work: &[u8], n: usize, xs: &[u32]) -> u32
     requires { ⌜ Table (now job) (now work) n × (length (now xs) ≤ max-arguments) ⌝ }
-    ensures { λ r. ⌜ r ≡ numbers-in (now (job .entry)) (now (work .entry)) n .all-gate (now (xs .entry)) ⌝ }
+    ensures { λ r. ⌜ r ≡ gates job work n .all-gate (now (xs .entry)) ⌝ }
 {
     table::find_list(job, work, n, AND, xs)
 }
@@ -85,7 +83,7 @@ pub fn all_of(job: &[u8], work: &[u8], n: usize, xs: &[u32]) -> u32
 // Bit i of term x.
 pub fn bit_of(job: &[u8], work: &[u8], n: usize, i: u32, x: u32) -> u32
     requires { ⌜ Table (now job) (now work) n ⌝ }
-    ensures { λ r. ⌜ r ≡ bit-number (number-length (now (job .entry))) (kept (now (job .entry)) (now (work .entry)) n) i x ⌝ }
+    ensures { λ r. ⌜ r ≡ bit-gate job work n i x ⌝ }
 {
     table::find_indexed(job, work, n, BV_BIT_OF, i, x)
 }
@@ -93,7 +91,7 @@ pub fn bit_of(job: &[u8], work: &[u8], n: usize, i: u32, x: u32) -> u32
 // The BvBbTerm of these bits.
 pub fn bb_term(job: &[u8], work: &[u8], n: usize, xs: &[u32]) -> u32
     requires { ⌜ Table (now job) (now work) n × (length (now xs) ≤ max-arguments) ⌝ }
-    ensures { λ r. ⌜ r ≡ bb-number (number-length (now (job .entry))) (kept (now (job .entry)) (now (work .entry)) n) (now (xs .entry)) ⌝ }
+    ensures { λ r. ⌜ r ≡ bb-gate job work n (now (xs .entry)) ⌝ }
 {
     table::find_list(job, work, n, BV_BB_TERM, xs)
 }
@@ -101,7 +99,7 @@ pub fn bb_term(job: &[u8], work: &[u8], n: usize, xs: &[u32]) -> u32
 // The constant of this width and value.
 pub fn constant(job: &[u8], work: &[u8], n: usize, width: u32, value: u64) -> u32
     requires { ⌜ Table (now job) (now work) n ⌝ }
-    ensures { λ r. ⌜ r ≡ constant-number (kept (now (job .entry)) (now (work .entry)) n) width value ⌝ }
+    ensures { λ r. ⌜ r ≡ constant-gate job work n width value ⌝ }
 {
     table::find_constant(job, work, n, CONSTANT, width, value)
 }

@@ -3,14 +3,12 @@
 ghost use mathlib.Core.Path.{_≡_};
 ghost use Prim.Native.Nat.{_+_, _<_};
 ghost use Rattle.theory.specs.Limit.{first-terms};
-ghost use Rattle.theory.specs.Sort.{sort-width, sort-of};
-ghost use Rattle.theory.specs.Places.{tree-at};
 ghost use Rattle.theory.specs.Depth.{depth};
 ghost use Rattle.theory.specs.Record.{number-length};
 ghost use Rattle.rows.specs.Layout.{Bounded, place-end};
 ghost use Rattle.store.specs.Measure.{bool-depth};
-ghost use Rattle.store.specs.Store.{listed};
 ghost use Rattle.store.specs.Shelf.{Shelf, TermOn, root-kind};
+ghost use Rattle.store.specs.Lent.{kept-term, kept-width};
 use super::gates::FALSE;
 use super::gates::TRUE;
 use super::measures::bool_in;
@@ -47,7 +45,7 @@ pub fn term_on(job: &[u8], work: &[u8], n: usize, place: u32) -> Term
 // The width of row k's term, 0 for a Bool, where the numbers of terms have so many bytes.
 fn row_width_as(job: &[u8], work: &[u8], bytes: usize, n: usize, k: usize) -> usize
     requires { ⌜ Shelf (now job) (now work) n × (k < n) × (bytes ≡ number-length (now job)) ⌝ }
-    ensures { λ r. ⌜ Bounded r (sort-width (sort-of (tree-at (listed (now (job .entry)) (now (work .entry)) n) (first-terms + k)))) 256 ⌝ }
+    ensures { λ r. ⌜ Bounded r (kept-width job work n (first-terms + k)) 256 ⌝ }
 {
     let link = rows::link_bytes(bytes);
     let at = rows::offset_as(work, link, k);
@@ -60,7 +58,7 @@ fn row_width_as(job: &[u8], work: &[u8], bytes: usize, n: usize, k: usize) -> us
 // The same in the job's own number length. A call for each of the two: each is then compiled for its length.
 pub fn row_width(job: &[u8], work: &[u8], n: usize, k: usize) -> usize
     requires { ⌜ Shelf (now job) (now work) n × (k < n) ⌝ }
-    ensures { λ r. ⌜ Bounded r (sort-width (sort-of (tree-at (listed (now (job .entry)) (now (work .entry)) n) (first-terms + k)))) 256 ⌝ }
+    ensures { λ r. ⌜ Bounded r (kept-width job work n (first-terms + k)) 256 ⌝ }
 {
     if Term::number_length(job) == Term::NUMBER_BYTES {
         return row_width_as(job, work, Term::NUMBER_BYTES, n, k);
@@ -71,7 +69,7 @@ pub fn row_width(job: &[u8], work: &[u8], n: usize, k: usize) -> usize
 // The depth of row k's term, where the numbers of terms have so many bytes.
 fn row_depth_as(job: &[u8], work: &[u8], bytes: usize, n: usize, k: usize) -> usize
     requires { ⌜ Shelf (now job) (now work) n × (k < n) × (bytes ≡ number-length (now job)) ⌝ }
-    ensures { λ r. ⌜ Bounded r (depth (tree-at (listed (now (job .entry)) (now (work .entry)) n) (first-terms + k))) place-end ⌝ }
+    ensures { λ r. ⌜ Bounded r (depth (kept-term job work n (first-terms + k))) place-end ⌝ }
 {
     let link = rows::link_bytes(bytes);
     let at = rows::offset_as(work, link, k);
@@ -83,7 +81,7 @@ fn row_depth_as(job: &[u8], work: &[u8], bytes: usize, n: usize, k: usize) -> us
 // The same in the job's own number length.
 pub fn row_depth(job: &[u8], work: &[u8], n: usize, k: usize) -> usize
     requires { ⌜ Shelf (now job) (now work) n × (k < n) ⌝ }
-    ensures { λ r. ⌜ Bounded r (depth (tree-at (listed (now (job .entry)) (now (work .entry)) n) (first-terms + k))) place-end ⌝ }
+    ensures { λ r. ⌜ Bounded r (depth (kept-term job work n (first-terms + k))) place-end ⌝ }
 {
     if Term::number_length(job) == Term::NUMBER_BYTES {
         return row_depth_as(job, work, Term::NUMBER_BYTES, n, k);
@@ -94,7 +92,7 @@ pub fn row_depth(job: &[u8], work: &[u8], n: usize, k: usize) -> usize
 // The depth of row k's term where it is a Bool, else MISSING, where the numbers of terms have so many bytes.
 fn bool_depth_as(job: &[u8], work: &[u8], bytes: usize, n: usize, k: usize) -> u32
     requires { ⌜ Shelf (now job) (now work) n × (k < n) × (bytes ≡ number-length (now job)) ⌝ }
-    ensures { λ r. ⌜ r ≡ bool-depth (tree-at (listed (now (job .entry)) (now (work .entry)) n) (first-terms + k)) ⌝ }
+    ensures { λ r. ⌜ r ≡ bool-depth (kept-term job work n (first-terms + k)) ⌝ }
 {
     let link = rows::link_bytes(bytes);
     let at = rows::offset_as(work, link, k);
@@ -106,7 +104,7 @@ fn bool_depth_as(job: &[u8], work: &[u8], bytes: usize, n: usize, k: usize) -> u
 // The depth of the term at a place where it is a Bool, else MISSING: its sort and its depth from one look at its row.
 pub fn bool_depth(job: &[u8], work: &[u8], n: usize, place: u32) -> u32
     requires { ⌜ Shelf (now job) (now work) n × (place < first-terms + n) ⌝ }
-    ensures { λ r. ⌜ r ≡ bool-depth (tree-at (listed (now (job .entry)) (now (work .entry)) n) place) ⌝ }
+    ensures { λ r. ⌜ r ≡ bool-depth (kept-term job work n place) ⌝ }
 {
     let k = place as usize;
     if k < rows::FIRST_PLACE {
@@ -121,7 +119,7 @@ pub fn bool_depth(job: &[u8], work: &[u8], n: usize, place: u32) -> u32
 // The width of the term at a place, 0 for a Bool.
 pub fn width_on(job: &[u8], work: &[u8], n: usize, place: u32) -> u32
     requires { ⌜ Shelf (now job) (now work) n × (place < first-terms + n) ⌝ }
-    ensures { λ r. ⌜ r ≡ sort-width (sort-of (tree-at (listed (now (job .entry)) (now (work .entry)) n) place)) ⌝ }
+    ensures { λ r. ⌜ r ≡ kept-width job work n place ⌝ }
 {
     let k = place as usize;
     if k < rows::FIRST_PLACE {
@@ -133,7 +131,7 @@ pub fn width_on(job: &[u8], work: &[u8], n: usize, place: u32) -> u32
 // The number of the kind of the term at a place: `true` has 0, `false` 1, and a row the one in its record.
 pub fn kind_on(job: &[u8], work: &[u8], n: usize, place: u32) -> u32
     requires { ⌜ Shelf (now job) (now work) n × (place < first-terms + n) ⌝ }
-    ensures { λ r. ⌜ r ≡ root-kind (tree-at (listed (now (job .entry)) (now (work .entry)) n) place) ⌝ }
+    ensures { λ r. ⌜ r ≡ root-kind (kept-term job work n place) ⌝ }
 {
     let k = place as usize;
     if k < rows::FIRST_PLACE {

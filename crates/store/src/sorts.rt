@@ -4,10 +4,10 @@ ghost use Prim.Native.Nat.{_+_, _<_};
 ghost use Rattle.theory.specs.Limit.{first-terms};
 ghost use Rattle.theory.specs.Sort.{sort-width, sort-of};
 ghost use Rattle.theory.specs.Depth.{depth};
-ghost use Rattle.theory.specs.Places.{tree-at};
 ghost use Rattle.rows.specs.Layout.{Bounded, place-end};
-ghost use Rattle.store.specs.Store.{Store, listed};
+ghost use Rattle.store.specs.Store.{Store};
 ghost use Rattle.store.specs.Sorts.{sort-read};
+ghost use Rattle.store.specs.Lent.{kept-term};
 use super::shelf::row_depth;
 use super::shelf::row_width;
 
@@ -32,7 +32,7 @@ pub fn width_of(s: Sort) -> u32
 // The sort of the term at a place: `true` and `false` are Bools, and a row has its term's width, 0 for a Bool.
 pub fn sort_at(job: &[u8], work: &[u8], n: usize, place: u32) -> Sort
     requires { ⌜ Store (now job) (now work) n × (place < first-terms + n) ⌝ }
-    ensures { λ r. ⌜ sort-read r ≡ sort-of (tree-at (listed (now (job .entry)) (now (work .entry)) n) place) ⌝ }
+    ensures { λ r. ⌜ sort-read r ≡ sort-of (kept-term job work n place) ⌝ }
 {
     let k = place as usize;
     if k < rows::FIRST_PLACE {
@@ -48,7 +48,7 @@ pub fn sort_at(job: &[u8], work: &[u8], n: usize, place: u32) -> Sort
 // The depth of the term at a place: `true` and `false` have depth 0, and a row has its term's.
 pub fn depth_at(job: &[u8], work: &[u8], n: usize, place: u32) -> usize
     requires { ⌜ Store (now job) (now work) n × (place < first-terms + n) ⌝ }
-    ensures { λ r. ⌜ Bounded r (depth (tree-at (listed (now (job .entry)) (now (work .entry)) n) place)) place-end ⌝ }
+    ensures { λ r. ⌜ Bounded r (depth (kept-term job work n place)) place-end ⌝ }
 {
     let k = place as usize;
     if k < rows::FIRST_PLACE {
