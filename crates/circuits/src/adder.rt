@@ -1,4 +1,5 @@
 // Addition, and what is built of it.
+use crate::bits::Bits;
 use crate::bits::MAX_BITS;
 use crate::bits::nots;
 use store::gates::FALSE;
@@ -12,12 +13,12 @@ ghost use lib.ListN.{take};
 ghost use Rattle.theory.specs.Limit.{max-width};
 ghost use Rattle.theory.specs.Circuit.{sum-bit, next-carry, ripple-carry-adder, last-carry, negate};
 ghost use Rattle.table.specs.Buckets.{Table};
-ghost use Rattle.store.specs.Numbers.{numbers-in};
+ghost use Rattle.store.specs.Lent.{gates};
 
 // ripple_carry_adder, one bit of the sum: x, y and the carry into it.
 pub fn sum_bit(job: &[u8], work: &[u8], n: usize, x: u32, y: u32, carry: u32) -> u32
     requires { ⌜ Table (now job) (now work) n ⌝ }
-    ensures { λ r. ⌜ r ≡ sum-bit (numbers-in (now (job .entry)) (now (work .entry)) n) x y carry ⌝ }
+    ensures { λ r. ⌜ r ≡ sum-bit (gates job work n) x y carry ⌝ }
 {
     xor2(job, work, n, xor2(job, work, n, x, y), carry)
 }
@@ -25,7 +26,7 @@ pub fn sum_bit(job: &[u8], work: &[u8], n: usize, x: u32, y: u32, carry: u32) ->
 // ripple_carry_adder, the carry out of a bit.
 pub fn carry_bit(job: &[u8], work: &[u8], n: usize, x: u32, y: u32, carry: u32) -> u32
     requires { ⌜ Table (now job) (now work) n ⌝ }
-    ensures { λ r. ⌜ r ≡ next-carry (numbers-in (now (job .entry)) (now (work .entry)) n) x y carry ⌝ }
+    ensures { λ r. ⌜ r ≡ next-carry (gates job work n) x y carry ⌝ }
 {
     let both = and2(job, work, n, x, y);
     let one = xor2(job, work, n, x, y);
@@ -34,7 +35,7 @@ pub fn carry_bit(job: &[u8], work: &[u8], n: usize, x: u32, y: u32, carry: u32) 
 
 // A sum's bits, and the carry into the last of them.
 pub struct Sum {
-    pub bits: [u32; MAX_BITS],
+    pub bits: Bits,
     pub carry: u32,
 }
 
@@ -44,15 +45,15 @@ pub fn ripple_carry_adder(
     job: &[u8],
     work: &[u8],
     n: usize,
-    x: [u32; MAX_BITS],
-    y: [u32; MAX_BITS],
+    x: Bits,
+    y: Bits,
     w: usize,
     carry: u32,
 ) -> Sum
     requires { ⌜ Table (now job) (now work) n ⌝ }
     requires { ⌜ (1 ≤ w) × (w ≤ max-width) ⌝ }
-    ensures { λ r. ⌜ take w (r .bits) ≡ ripple-carry-adder (numbers-in (now (job .entry)) (now (work .entry)) n) carry (take w x) (take w y) ⌝ }
-    ensures { λ r. ⌜ r .carry ≡ last-carry (numbers-in (now (job .entry)) (now (work .entry)) n) carry (take w x) (take w y) ⌝ }
+    ensures { λ r. ⌜ take w (r .bits) ≡ ripple-carry-adder (gates job work n) carry (take w x) (take w y) ⌝ }
+    ensures { λ r. ⌜ r .carry ≡ last-carry (gates job work n) carry (take w x) (take w y) ⌝ }
 {
     let mut bits = [0u32; MAX_BITS];
     let mut last = carry;
@@ -68,10 +69,10 @@ pub fn ripple_carry_adder(
 }
 
 // neg: the bits inverted and `false` added, with the carry `true`.
-pub fn negate(job: &[u8], work: &[u8], n: usize, x: [u32; MAX_BITS], w: usize) -> [u32; MAX_BITS]
+pub fn negate(job: &[u8], work: &[u8], n: usize, x: Bits, w: usize) -> Bits
     requires { ⌜ Table (now job) (now work) n ⌝ }
     requires { ⌜ (1 ≤ w) × (w ≤ max-width) ⌝ }
-    ensures { λ r. ⌜ take w r ≡ negate (numbers-in (now (job .entry)) (now (work .entry)) n) (take w x) ⌝ }
+    ensures { λ r. ⌜ take w r ≡ negate (gates job work n) (take w x) ⌝ }
 {
     let inverted = nots(job, work, n, x, w);
     let falses = [FALSE; MAX_BITS];

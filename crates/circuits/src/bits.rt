@@ -14,19 +14,20 @@ ghost use lib.ListN.{take};
 ghost use Rattle.theory.specs.Limit.{max-width};
 ghost use Rattle.theory.specs.Move.{bits};
 ghost use Rattle.theory.specs.Circuit.{zip-with, choose};
-ghost use Rattle.rows.specs.Rows.{kept};
 ghost use Rattle.table.specs.Buckets.{Table};
-ghost use Rattle.store.specs.Numbers.{bit-number, numbers-in};
-ghost use Rattle.theory.specs.Record.{number-length};
+ghost use Rattle.store.specs.Lent.{gates, bit-gate};
 
 // The most bits that a bit-vector has: an array of bits is so long, whatever its width.
 pub const MAX_BITS: usize = Term::MAX_WIDTH as usize;
 
+// The numbers of the bits of a bit-vector, bit 0 first; those past its width have no meaning.
+pub type Bits = [u32; MAX_BITS];
+
 // get_term_bits: the bits 0 to w - 1 of term t, for a term that is no BvBbTerm.
-pub fn select_bits(job: &[u8], work: &[u8], n: usize, t: u32, w: usize) -> [u32; MAX_BITS]
+pub fn select_bits(job: &[u8], work: &[u8], n: usize, t: u32, w: usize) -> Bits
     requires { ⌜ Table (now job) (now work) n ⌝ }
     requires { ⌜ w ≤ max-width ⌝ }
-    ensures { λ r. ⌜ take w r ≡ bits w (λ i. bit-number (number-length (now (job .entry))) (kept (now (job .entry)) (now (work .entry)) n) i t) ⌝ }
+    ensures { λ r. ⌜ take w r ≡ bits w (λ i. bit-gate job work n i t) ⌝ }
 {
     let mut out = [0u32; MAX_BITS];
     let mut i = 0;
@@ -38,10 +39,10 @@ pub fn select_bits(job: &[u8], work: &[u8], n: usize, t: u32, w: usize) -> [u32;
 }
 
 // not: each bit inverted.
-pub fn nots(job: &[u8], work: &[u8], n: usize, x: [u32; MAX_BITS], w: usize) -> [u32; MAX_BITS]
+pub fn nots(job: &[u8], work: &[u8], n: usize, x: Bits, w: usize) -> Bits
     requires { ⌜ Table (now job) (now work) n ⌝ }
     requires { ⌜ w ≤ max-width ⌝ }
-    ensures { λ r. ⌜ take w r ≡ map (numbers-in (now (job .entry)) (now (work .entry)) n .not-gate) (take w x) ⌝ }
+    ensures { λ r. ⌜ take w r ≡ map (gates job work n .not-gate) (take w x) ⌝ }
 {
     let mut out = [0u32; MAX_BITS];
     let mut i = 0;
@@ -53,17 +54,10 @@ pub fn nots(job: &[u8], work: &[u8], n: usize, x: [u32; MAX_BITS], w: usize) -> 
 }
 
 // and, of two: bit by bit.
-pub fn ands(
-    job: &[u8],
-    work: &[u8],
-    n: usize,
-    x: [u32; MAX_BITS],
-    y: [u32; MAX_BITS],
-    w: usize,
-) -> [u32; MAX_BITS]
+pub fn ands(job: &[u8], work: &[u8], n: usize, x: Bits, y: Bits, w: usize) -> Bits
     requires { ⌜ Table (now job) (now work) n ⌝ }
     requires { ⌜ w ≤ max-width ⌝ }
-    ensures { λ r. ⌜ take w r ≡ zip-with (numbers-in (now (job .entry)) (now (work .entry)) n .and-gate) (take w x) (take w y) ⌝ }
+    ensures { λ r. ⌜ take w r ≡ zip-with (gates job work n .and-gate) (take w x) (take w y) ⌝ }
 {
     let mut out = [0u32; MAX_BITS];
     let mut i = 0;
@@ -75,17 +69,10 @@ pub fn ands(
 }
 
 // or, of two: bit by bit.
-pub fn ors(
-    job: &[u8],
-    work: &[u8],
-    n: usize,
-    x: [u32; MAX_BITS],
-    y: [u32; MAX_BITS],
-    w: usize,
-) -> [u32; MAX_BITS]
+pub fn ors(job: &[u8], work: &[u8], n: usize, x: Bits, y: Bits, w: usize) -> Bits
     requires { ⌜ Table (now job) (now work) n ⌝ }
     requires { ⌜ w ≤ max-width ⌝ }
-    ensures { λ r. ⌜ take w r ≡ zip-with (numbers-in (now (job .entry)) (now (work .entry)) n .or-gate) (take w x) (take w y) ⌝ }
+    ensures { λ r. ⌜ take w r ≡ zip-with (gates job work n .or-gate) (take w x) (take w y) ⌝ }
 {
     let mut out = [0u32; MAX_BITS];
     let mut i = 0;
@@ -97,17 +84,10 @@ pub fn ors(
 }
 
 // xor, of two: bit by bit.
-pub fn xors(
-    job: &[u8],
-    work: &[u8],
-    n: usize,
-    x: [u32; MAX_BITS],
-    y: [u32; MAX_BITS],
-    w: usize,
-) -> [u32; MAX_BITS]
+pub fn xors(job: &[u8], work: &[u8], n: usize, x: Bits, y: Bits, w: usize) -> Bits
     requires { ⌜ Table (now job) (now work) n ⌝ }
     requires { ⌜ w ≤ max-width ⌝ }
-    ensures { λ r. ⌜ take w r ≡ zip-with (numbers-in (now (job .entry)) (now (work .entry)) n .xor-gate) (take w x) (take w y) ⌝ }
+    ensures { λ r. ⌜ take w r ≡ zip-with (gates job work n .xor-gate) (take w x) (take w y) ⌝ }
 {
     let mut out = [0u32; MAX_BITS];
     let mut i = 0;
@@ -119,17 +99,10 @@ pub fn xors(
 }
 
 // xnor, and the equations of `equality`: whether the bits are equal, bit by bit.
-pub fn eqs(
-    job: &[u8],
-    work: &[u8],
-    n: usize,
-    x: [u32; MAX_BITS],
-    y: [u32; MAX_BITS],
-    w: usize,
-) -> [u32; MAX_BITS]
+pub fn eqs(job: &[u8], work: &[u8], n: usize, x: Bits, y: Bits, w: usize) -> Bits
     requires { ⌜ Table (now job) (now work) n ⌝ }
     requires { ⌜ w ≤ max-width ⌝ }
-    ensures { λ r. ⌜ take w r ≡ zip-with (numbers-in (now (job .entry)) (now (work .entry)) n .eq-gate) (take w x) (take w y) ⌝ }
+    ensures { λ r. ⌜ take w r ≡ zip-with (gates job work n .eq-gate) (take w x) (take w y) ⌝ }
 {
     let mut out = [0u32; MAX_BITS];
     let mut i = 0;
@@ -141,18 +114,10 @@ pub fn eqs(
 }
 
 // Bit by bit: x where c is true, else y. The shifts and the divider end in this.
-pub fn ites(
-    job: &[u8],
-    work: &[u8],
-    n: usize,
-    c: u32,
-    x: [u32; MAX_BITS],
-    y: [u32; MAX_BITS],
-    w: usize,
-) -> [u32; MAX_BITS]
+pub fn ites(job: &[u8], work: &[u8], n: usize, c: u32, x: Bits, y: Bits, w: usize) -> Bits
     requires { ⌜ Table (now job) (now work) n ⌝ }
     requires { ⌜ w ≤ max-width ⌝ }
-    ensures { λ r. ⌜ take w r ≡ choose (numbers-in (now (job .entry)) (now (work .entry)) n) c (take w x) (take w y) ⌝ }
+    ensures { λ r. ⌜ take w r ≡ choose (gates job work n) c (take w x) (take w y) ⌝ }
 {
     let mut out = [0u32; MAX_BITS];
     let mut i = 0;

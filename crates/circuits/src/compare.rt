@@ -1,5 +1,5 @@
 // Comparisons of two bit-vectors.
-use crate::bits::MAX_BITS;
+use crate::bits::Bits;
 use crate::bits::eqs;
 use store::gates::all_of;
 use store::gates::and2;
@@ -12,12 +12,12 @@ ghost use lib.ListN.{take};
 ghost use Rattle.theory.specs.Limit.{max-width};
 ghost use Rattle.theory.specs.Circuit.{less-step, sign-step, bitblast-ult, slt, equality};
 ghost use Rattle.table.specs.Buckets.{Table};
-ghost use Rattle.store.specs.Numbers.{numbers-in};
+ghost use Rattle.store.specs.Lent.{gates};
 
 // bitblast_ult, bit 0 alone: x is 0 and y is 1.
 pub fn less_bit(job: &[u8], work: &[u8], n: usize, x: u32, y: u32) -> u32
     requires { ⌜ Table (now job) (now work) n ⌝ }
-    ensures { λ r. ⌜ r ≡ numbers-in (now (job .entry)) (now (work .entry)) n .and-gate (numbers-in (now (job .entry)) (now (work .entry)) n .not-gate x) y ⌝ }
+    ensures { λ r. ⌜ r ≡ gates job work n .and-gate (gates job work n .not-gate x) y ⌝ }
 {
     and2(job, work, n, not1(job, work, n, x), y)
 }
@@ -25,7 +25,7 @@ pub fn less_bit(job: &[u8], work: &[u8], n: usize, x: u32, y: u32) -> u32
 // slt, the sign bits alone: x is 1 and y is 0.
 pub fn sign_bit(job: &[u8], work: &[u8], n: usize, x: u32, y: u32) -> u32
     requires { ⌜ Table (now job) (now work) n ⌝ }
-    ensures { λ r. ⌜ r ≡ numbers-in (now (job .entry)) (now (work .entry)) n .and-gate x (numbers-in (now (job .entry)) (now (work .entry)) n .not-gate y) ⌝ }
+    ensures { λ r. ⌜ r ≡ gates job work n .and-gate x (gates job work n .not-gate y) ⌝ }
 {
     and2(job, work, n, x, not1(job, work, n, y))
 }
@@ -33,7 +33,7 @@ pub fn sign_bit(job: &[u8], work: &[u8], n: usize, x: u32, y: u32) -> u32
 // bitblast_ult, one more bit, where `below` is what the bits below say: equal and below, or x 0 and y 1.
 pub fn less_step(job: &[u8], work: &[u8], n: usize, x: u32, y: u32, below: u32) -> u32
     requires { ⌜ Table (now job) (now work) n ⌝ }
-    ensures { λ r. ⌜ r ≡ less-step (numbers-in (now (job .entry)) (now (work .entry)) n) x y below ⌝ }
+    ensures { λ r. ⌜ r ≡ less-step (gates job work n) x y below ⌝ }
 {
     let equal = and2(job, work, n, eq2(job, work, n, x, y), below);
     or2(job, work, n, equal, less_bit(job, work, n, x, y))
@@ -42,24 +42,17 @@ pub fn less_step(job: &[u8], work: &[u8], n: usize, x: u32, y: u32, below: u32) 
 // slt, the sign bit, where `below` is what the bits below say: equal and below, or x negative and y not.
 pub fn sign_step(job: &[u8], work: &[u8], n: usize, x: u32, y: u32, below: u32) -> u32
     requires { ⌜ Table (now job) (now work) n ⌝ }
-    ensures { λ r. ⌜ r ≡ sign-step (numbers-in (now (job .entry)) (now (work .entry)) n) x y below ⌝ }
+    ensures { λ r. ⌜ r ≡ sign-step (gates job work n) x y below ⌝ }
 {
     let equal = and2(job, work, n, eq2(job, work, n, x, y), below);
     or2(job, work, n, equal, sign_bit(job, work, n, x, y))
 }
 
 // bitblast_ult: x < y, from bit 0 up.
-pub fn bitblast_ult(
-    job: &[u8],
-    work: &[u8],
-    n: usize,
-    x: [u32; MAX_BITS],
-    y: [u32; MAX_BITS],
-    w: usize,
-) -> u32
+pub fn bitblast_ult(job: &[u8], work: &[u8], n: usize, x: Bits, y: Bits, w: usize) -> u32
     requires { ⌜ Table (now job) (now work) n ⌝ }
     requires { ⌜ (1 ≤ w) × (w ≤ max-width) ⌝ }
-    ensures { λ r. ⌜ r ≡ bitblast-ult (numbers-in (now (job .entry)) (now (work .entry)) n) (take w x) (take w y) ⌝ }
+    ensures { λ r. ⌜ r ≡ bitblast-ult (gates job work n) (take w x) (take w y) ⌝ }
 {
     let mut res = less_bit(job, work, n, x[0], y[0]);
     let mut i = 1;
@@ -71,17 +64,10 @@ pub fn bitblast_ult(
 }
 
 // slt: x < y as signed numbers. The bits below the sign go as in bitblast_ult, and at width 1 there are none.
-pub fn slt(
-    job: &[u8],
-    work: &[u8],
-    n: usize,
-    x: [u32; MAX_BITS],
-    y: [u32; MAX_BITS],
-    w: usize,
-) -> u32
+pub fn slt(job: &[u8], work: &[u8], n: usize, x: Bits, y: Bits, w: usize) -> u32
     requires { ⌜ Table (now job) (now work) n ⌝ }
     requires { ⌜ (1 ≤ w) × (w ≤ max-width) ⌝ }
-    ensures { λ r. ⌜ r ≡ slt (numbers-in (now (job .entry)) (now (work .entry)) n) (take w x) (take w y) ⌝ }
+    ensures { λ r. ⌜ r ≡ slt (gates job work n) (take w x) (take w y) ⌝ }
 {
     let top = w - 1;
     if top == 0 {
@@ -92,17 +78,10 @@ pub fn slt(
 }
 
 // equality: the bits' equations, one alone, several under an And.
-pub fn equality(
-    job: &[u8],
-    work: &[u8],
-    n: usize,
-    x: [u32; MAX_BITS],
-    y: [u32; MAX_BITS],
-    w: usize,
-) -> u32
+pub fn equality(job: &[u8], work: &[u8], n: usize, x: Bits, y: Bits, w: usize) -> u32
     requires { ⌜ Table (now job) (now work) n ⌝ }
     requires { ⌜ (1 ≤ w) × (w ≤ max-width) ⌝ }
-    ensures { λ r. ⌜ r ≡ equality (numbers-in (now (job .entry)) (now (work .entry)) n) (take w x) (take w y) ⌝ }
+    ensures { λ r. ⌜ r ≡ equality (gates job work n) (take w x) (take w y) ⌝ }
 {
     let bits = eqs(job, work, n, x, y, w);
     if 1 < w {
