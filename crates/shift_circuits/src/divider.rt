@@ -1,6 +1,7 @@
 // Division, bit by bit; `standard` is false for the circuit as Rust has it, and true for the standard's division.
 use circuits::adder::carry_bit;
 use circuits::adder::ripple_carry_adder;
+use circuits::bits::Bits;
 use circuits::bits::MAX_BITS;
 use circuits::bits::eqs;
 use circuits::bits::ites;
@@ -19,10 +20,11 @@ ghost use lib.ListN.{take, drop, getD};
 ghost use Rattle.theory.specs.Limit.{max-width};
 ghost use Rattle.theory.specs.Circuit.{drop-top, next-carry, all-false, next-remainder, no-carry, reduced, divide-step, bitblast-udiv-urem-rec, is-zero, udiv, urem};
 ghost use Rattle.table.specs.Buckets.{Table};
-ghost use Rattle.store.specs.Numbers.{numbers, false-number, is-false-number, numbers-in};
+ghost use Rattle.store.specs.Numbers.{numbers, false-number, is-false-number};
+ghost use Rattle.store.specs.Lent.{gates};
 
 // Whether every bit of x is literally `false`, where bitblast_udiv_urem_rec stops. No gate is read.
-fn all_false(x: [u32; MAX_BITS], w: usize) -> bool
+fn all_false(x: Bits, w: usize) -> bool
     requires { ⌜ w ≤ max-width ⌝ }
     ensures { λ r. ⌜ r ≡ all-false (numbers 0 []) is-false-number (take w x) ⌝ }
 {
@@ -37,7 +39,7 @@ fn all_false(x: [u32; MAX_BITS], w: usize) -> bool
 }
 
 // shift_left, with a bit coming in below: the top bit falls out.
-fn shift_left(x: [u32; MAX_BITS], w: usize, low: u32) -> [u32; MAX_BITS]
+fn shift_left(x: Bits, w: usize, low: u32) -> Bits
     requires { ⌜ (1 ≤ w) × (w ≤ max-width) ⌝ }
     ensures { λ r. ⌜ take w r ≡ low ∷ drop-top (take w x) ⌝ }
 {
@@ -51,7 +53,7 @@ fn shift_left(x: [u32; MAX_BITS], w: usize, low: u32) -> [u32; MAX_BITS]
 }
 
 // shift_right, `false` coming in above: bit 0 falls out.
-fn shift_right(x: [u32; MAX_BITS], w: usize) -> [u32; MAX_BITS]
+fn shift_right(x: Bits, w: usize) -> Bits
     requires { ⌜ (1 ≤ w) × (w ≤ max-width) ⌝ }
     ensures { λ r. ⌜ take w r ≡ drop 1 (take w x) ++ (false-number ∷ []) ⌝ }
 {
@@ -66,17 +68,10 @@ fn shift_right(x: [u32; MAX_BITS], w: usize) -> [u32; MAX_BITS]
 }
 
 // bitblast_udiv_urem_rec: the remainder shifted left, with bit 0 of the dividend added.
-fn next_remainder(
-    job: &[u8],
-    work: &[u8],
-    n: usize,
-    low: u32,
-    r: [u32; MAX_BITS],
-    w: usize,
-) -> [u32; MAX_BITS]
+fn next_remainder(job: &[u8], work: &[u8], n: usize, low: u32, r: Bits, w: usize) -> Bits
     requires { ⌜ Table (now job) (now work) n ⌝ }
     requires { ⌜ (1 ≤ w) × (w ≤ max-width) ⌝ }
-    ensures { λ s. ⌜ take w s ≡ next-remainder (numbers-in (now (job .entry)) (now (work .entry)) n) low (take w r) ⌝ }
+    ensures { λ s. ⌜ take w s ≡ next-remainder (gates job work n) low (take w r) ⌝ }
 {
     let one_if_odd = ite3(job, work, n, eq2(job, work, n, low, TRUE), TRUE, FALSE);
     let shifted = shift_left(r, w, FALSE);
@@ -88,7 +83,7 @@ fn next_remainder(
 // The last carry, as Rust takes it, or by the standard the carry out of the bits x and y that it goes into.
 fn used_carry(job: &[u8], work: &[u8], n: usize, x: u32, y: u32, last: u32, standard: bool) -> u32
     requires { ⌜ Table (now job) (now work) n ⌝ }
-    ensures { λ r. ⌜ r ≡ cond standard (next-carry (numbers-in (now (job .entry)) (now (work .entry)) n) x y last) last ⌝ }
+    ensures { λ r. ⌜ r ≡ cond standard (next-carry (gates job work n) x y last) last ⌝ }
 {
     if standard {
         carry_bit(job, work, n, x, y, last)
@@ -99,18 +94,10 @@ fn used_carry(job: &[u8], work: &[u8], n: usize, x: u32, y: u32, last: u32, stan
 
 // bitblast_udiv_urem_rec: whether x is below y, which Rust takes from the carry into the top bit of x - y, and the standard from the
 // one out of it: there is none.
-fn no_carry(
-    job: &[u8],
-    work: &[u8],
-    n: usize,
-    x: [u32; MAX_BITS],
-    y: [u32; MAX_BITS],
-    w: usize,
-    standard: bool,
-) -> u32
+fn no_carry(job: &[u8], work: &[u8], n: usize, x: Bits, y: Bits, w: usize, standard: bool) -> u32
     requires { ⌜ Table (now job) (now work) n ⌝ }
     requires { ⌜ (1 ≤ w) × (w ≤ max-width) ⌝ }
-    ensures { λ r. ⌜ r ≡ no-carry (numbers-in (now (job .entry)) (now (work .entry)) n) standard (take w x) (take w y) ⌝ }
+    ensures { λ r. ⌜ r ≡ no-carry (gates job work n) standard (take w x) (take w y) ⌝ }
 {
     let not_y = nots(job, work, n, y, w);
     let sum = ripple_carry_adder(job, work, n, x, not_y, w, TRUE);
@@ -119,18 +106,10 @@ fn no_carry(
 }
 
 // bitblast_udiv_urem_rec: the remainder r where it is not below y. Rust does not subtract y: it makes every bit `true`.
-fn reduced(
-    job: &[u8],
-    work: &[u8],
-    n: usize,
-    r: [u32; MAX_BITS],
-    y: [u32; MAX_BITS],
-    w: usize,
-    standard: bool,
-) -> [u32; MAX_BITS]
+fn reduced(job: &[u8], work: &[u8], n: usize, r: Bits, y: Bits, w: usize, standard: bool) -> Bits
     requires { ⌜ Table (now job) (now work) n ⌝ }
     requires { ⌜ (1 ≤ w) × (w ≤ max-width) ⌝ }
-    ensures { λ s. ⌜ take w s ≡ reduced (numbers-in (now (job .entry)) (now (work .entry)) n) standard (take w r) (take w y) ⌝ }
+    ensures { λ s. ⌜ take w s ≡ reduced (gates job work n) standard (take w r) (take w y) ⌝ }
 {
     if standard {
         let not_y = nots(job, work, n, y, w);
@@ -142,8 +121,8 @@ fn reduced(
 
 // A quotient and a remainder.
 pub struct Division {
-    pub quot: [u32; MAX_BITS],
-    pub rem: [u32; MAX_BITS],
+    pub quot: Bits,
+    pub rem: Bits,
 }
 
 // bitblast_udiv_urem_rec, one step: from the quotient q and the remainder r of x shifted right.
@@ -151,16 +130,17 @@ fn divide_step(
     job: &[u8],
     work: &[u8],
     n: usize,
-    x: [u32; MAX_BITS],
-    y: [u32; MAX_BITS],
-    q: [u32; MAX_BITS],
-    r: [u32; MAX_BITS],
+    x: Bits,
+    y: Bits,
+    q: Bits,
+    r: Bits,
     w: usize,
     standard: bool,
 ) -> Division
     requires { ⌜ Table (now job) (now work) n ⌝ }
     requires { ⌜ (1 ≤ w) × (w ≤ max-width) ⌝ }
-    ensures { λ d. ⌜ (take w (d .quot), take w (d .rem)) ≡ divide-step (numbers-in (now (job .entry)) (now (work .entry)) n) standard (getD x 0 0) (drop 1 (take w x)) (take w y) (take w q, take w r) ⌝ }
+    ensures { λ d. ⌜ (take w (d .quot), take w (d .rem))
+        ≡ divide-step (gates job work n) standard (getD x 0 0) (drop 1 (take w x)) (take w y) (take w q, take w r) ⌝ }
 {
     let r1 = next_remainder(job, work, n, x[0], r, w);
     let sign = no_carry(job, work, n, r1, y, w, standard);
@@ -180,15 +160,16 @@ pub fn bitblast_udiv_urem_rec(
     job: &[u8],
     work: &[u8],
     n: usize,
-    x: [u32; MAX_BITS],
-    y: [u32; MAX_BITS],
+    x: Bits,
+    y: Bits,
     w: usize,
     left: usize,
     standard: bool,
 ) -> Division
     requires { ⌜ Table (now job) (now work) n ⌝ }
     requires { ⌜ (1 ≤ w) × (w ≤ max-width) ⌝ }
-    ensures { λ d. ⌜ (take w (d .quot), take w (d .rem)) ≡ bitblast-udiv-urem-rec (numbers-in (now (job .entry)) (now (work .entry)) n) standard is-false-number left (take w x) (take w y) ⌝ }
+    ensures { λ d. ⌜ (take w (d .quot), take w (d .rem))
+        ≡ bitblast-udiv-urem-rec (gates job work n) standard is-false-number left (take w x) (take w y) ⌝ }
 {
     if left == 0 {
         let zero = [FALSE; MAX_BITS];
@@ -212,10 +193,10 @@ pub fn bitblast_udiv_urem_rec(
 }
 
 // bitblast_udiv_urem: that every bit of y is false, an And of any number, one too.
-fn is_zero(job: &[u8], work: &[u8], n: usize, y: [u32; MAX_BITS], w: usize) -> u32
+fn is_zero(job: &[u8], work: &[u8], n: usize, y: Bits, w: usize) -> u32
     requires { ⌜ Table (now job) (now work) n ⌝ }
     requires { ⌜ (1 ≤ w) × (w ≤ max-width) ⌝ }
-    ensures { λ r. ⌜ r ≡ is-zero (numbers-in (now (job .entry)) (now (work .entry)) n) (take w y) ⌝ }
+    ensures { λ r. ⌜ r ≡ is-zero (gates job work n) (take w y) ⌝ }
 {
     let falses = [FALSE; MAX_BITS];
     let bits = eqs(job, work, n, y, falses, w);
@@ -223,18 +204,10 @@ fn is_zero(job: &[u8], work: &[u8], n: usize, y: [u32; MAX_BITS], w: usize) -> u
 }
 
 // bitblast_udiv_urem, the quotient: all `true` where y is zero.
-pub fn udiv(
-    job: &[u8],
-    work: &[u8],
-    n: usize,
-    x: [u32; MAX_BITS],
-    y: [u32; MAX_BITS],
-    w: usize,
-    standard: bool,
-) -> [u32; MAX_BITS]
+pub fn udiv(job: &[u8], work: &[u8], n: usize, x: Bits, y: Bits, w: usize, standard: bool) -> Bits
     requires { ⌜ Table (now job) (now work) n ⌝ }
     requires { ⌜ (1 ≤ w) × (w ≤ max-width) ⌝ }
-    ensures { λ r. ⌜ take w r ≡ udiv (numbers-in (now (job .entry)) (now (work .entry)) n) standard is-false-number (take w x) (take w y) ⌝ }
+    ensures { λ r. ⌜ take w r ≡ udiv (gates job work n) standard is-false-number (take w x) (take w y) ⌝ }
 {
     let d = bitblast_udiv_urem_rec(job, work, n, x, y, w, w, standard);
     let zero = is_zero(job, work, n, y, w);
@@ -244,18 +217,10 @@ pub fn udiv(
 }
 
 // bitblast_udiv_urem, the remainder: x where y is zero.
-pub fn urem(
-    job: &[u8],
-    work: &[u8],
-    n: usize,
-    x: [u32; MAX_BITS],
-    y: [u32; MAX_BITS],
-    w: usize,
-    standard: bool,
-) -> [u32; MAX_BITS]
+pub fn urem(job: &[u8], work: &[u8], n: usize, x: Bits, y: Bits, w: usize, standard: bool) -> Bits
     requires { ⌜ Table (now job) (now work) n ⌝ }
     requires { ⌜ (1 ≤ w) × (w ≤ max-width) ⌝ }
-    ensures { λ r. ⌜ take w r ≡ urem (numbers-in (now (job .entry)) (now (work .entry)) n) standard is-false-number (take w x) (take w y) ⌝ }
+    ensures { λ r. ⌜ take w r ≡ urem (gates job work n) standard is-false-number (take w x) (take w y) ⌝ }
 {
     let d = bitblast_udiv_urem_rec(job, work, n, x, y, w, w, standard);
     let zero = is_zero(job, work, n, y, w);

@@ -1,4 +1,5 @@
 // Shifts by a bit-vector: stage s shifts by 2^s places where bit s of y is set.
+use circuits::bits::Bits;
 use circuits::bits::MAX_BITS;
 use circuits::bits::ites;
 use circuits::compare::bitblast_ult;
@@ -12,21 +13,13 @@ ghost use lib.ListN.{take};
 ghost use Rattle.theory.specs.Limit.{max-width};
 ghost use Rattle.theory.specs.Circuit.{shl-stage, shl-stages, shr-stage, shr-stages, clog2, bounded, shl, lshr, ashr};
 ghost use Rattle.table.specs.Buckets.{Table};
-ghost use Rattle.store.specs.Numbers.{numbers-in};
+ghost use Rattle.store.specs.Lent.{gates};
 
 // bitblast_shift_op, stage s to the left: where y is true, bit i is bit i - 2^s of p, and `false` where there is none.
-fn shl_stage(
-    job: &[u8],
-    work: &[u8],
-    n: usize,
-    s: u32,
-    y: u32,
-    p: [u32; MAX_BITS],
-    w: usize,
-) -> [u32; MAX_BITS]
+fn shl_stage(job: &[u8], work: &[u8], n: usize, s: u32, y: u32, p: Bits, w: usize) -> Bits
     requires { ⌜ Table (now job) (now work) n ⌝ }
     requires { ⌜ (s ≤ 63) × (w ≤ max-width) ⌝ }
-    ensures { λ r. ⌜ take w r ≡ shl-stage (numbers-in (now (job .entry)) (now (work .entry)) n) s y (take w p) ⌝ }
+    ensures { λ r. ⌜ take w r ≡ shl-stage (gates job work n) s y (take w p) ⌝ }
 {
     let thresh = 1usize << s;
     let mut out = [0u32; MAX_BITS];
@@ -47,12 +40,12 @@ fn shr_stage(
     fill: u32,
     s: u32,
     y: u32,
-    p: [u32; MAX_BITS],
+    p: Bits,
     w: usize,
-) -> [u32; MAX_BITS]
+) -> Bits
     requires { ⌜ Table (now job) (now work) n ⌝ }
     requires { ⌜ (s ≤ 63) × (w ≤ max-width) ⌝ }
-    ensures { λ r. ⌜ take w r ≡ shr-stage (numbers-in (now (job .entry)) (now (work .entry)) n) fill s y (take w p) ⌝ }
+    ensures { λ r. ⌜ take w r ≡ shr-stage (gates job work n) fill s y (take w p) ⌝ }
 {
     let thresh = 1usize << s;
     let stays = not1(job, work, n, y);
@@ -71,17 +64,10 @@ fn shr_stage(
 }
 
 // bitblast_shift_op, all stages to the left.
-fn shl_stages(
-    job: &[u8],
-    work: &[u8],
-    n: usize,
-    x: [u32; MAX_BITS],
-    y: [u32; MAX_BITS],
-    w: usize,
-) -> [u32; MAX_BITS]
+fn shl_stages(job: &[u8], work: &[u8], n: usize, x: Bits, y: Bits, w: usize) -> Bits
     requires { ⌜ Table (now job) (now work) n ⌝ }
     requires { ⌜ (1 ≤ w) × (w ≤ max-width) ⌝ }
-    ensures { λ r. ⌜ take w r ≡ shl-stages (numbers-in (now (job .entry)) (now (work .entry)) n) 0 (take (clog2 w) (take w y)) (take w x) ⌝ }
+    ensures { λ r. ⌜ take w r ≡ shl-stages (gates job work n) 0 (take (clog2 w) (take w y)) (take w x) ⌝ }
 {
     let stages = shift_stages(w as u64);
     let mut res = x;
@@ -95,18 +81,10 @@ fn shl_stages(
 }
 
 // bitblast_shift_op, all stages to the right, `fill` coming in from above.
-fn shr_stages(
-    job: &[u8],
-    work: &[u8],
-    n: usize,
-    fill: u32,
-    x: [u32; MAX_BITS],
-    y: [u32; MAX_BITS],
-    w: usize,
-) -> [u32; MAX_BITS]
+fn shr_stages(job: &[u8], work: &[u8], n: usize, fill: u32, x: Bits, y: Bits, w: usize) -> Bits
     requires { ⌜ Table (now job) (now work) n ⌝ }
     requires { ⌜ (1 ≤ w) × (w ≤ max-width) ⌝ }
-    ensures { λ r. ⌜ take w r ≡ shr-stages (numbers-in (now (job .entry)) (now (work .entry)) n) fill 0 (take (clog2 w) (take w y)) (take w x) ⌝ }
+    ensures { λ r. ⌜ take w r ≡ shr-stages (gates job work n) fill 0 (take (clog2 w) (take w y)) (take w x) ⌝ }
 {
     let stages = shift_stages(w as u64);
     let mut res = x;
@@ -125,14 +103,14 @@ fn bounded(
     work: &[u8],
     n: usize,
     beyond: u32,
-    size: [u32; MAX_BITS],
-    y: [u32; MAX_BITS],
-    p: [u32; MAX_BITS],
+    size: Bits,
+    y: Bits,
+    p: Bits,
     w: usize,
-) -> [u32; MAX_BITS]
+) -> Bits
     requires { ⌜ Table (now job) (now work) n ⌝ }
     requires { ⌜ (1 ≤ w) × (w ≤ max-width) ⌝ }
-    ensures { λ r. ⌜ take w r ≡ bounded (numbers-in (now (job .entry)) (now (work .entry)) n) beyond (take w size) (take w y) (take w p) ⌝ }
+    ensures { λ r. ⌜ take w r ≡ bounded (gates job work n) beyond (take w size) (take w y) (take w p) ⌝ }
 {
     let below = bitblast_ult(job, work, n, y, size, w);
     let others = [beyond; MAX_BITS];
@@ -140,36 +118,20 @@ fn bounded(
 }
 
 // shl: x shifted left by y. `size` are the bits of the width as a constant of that width.
-pub fn shl(
-    job: &[u8],
-    work: &[u8],
-    n: usize,
-    size: [u32; MAX_BITS],
-    x: [u32; MAX_BITS],
-    y: [u32; MAX_BITS],
-    w: usize,
-) -> [u32; MAX_BITS]
+pub fn shl(job: &[u8], work: &[u8], n: usize, size: Bits, x: Bits, y: Bits, w: usize) -> Bits
     requires { ⌜ Table (now job) (now work) n ⌝ }
     requires { ⌜ (1 ≤ w) × (w ≤ max-width) ⌝ }
-    ensures { λ r. ⌜ take w r ≡ shl (numbers-in (now (job .entry)) (now (work .entry)) n) (take w size) (take w x) (take w y) ⌝ }
+    ensures { λ r. ⌜ take w r ≡ shl (gates job work n) (take w size) (take w x) (take w y) ⌝ }
 {
     let shifted = shl_stages(job, work, n, x, y, w);
     bounded(job, work, n, FALSE, size, y, shifted, w)
 }
 
 // lshr: x shifted right by y, `false` coming in.
-pub fn lshr(
-    job: &[u8],
-    work: &[u8],
-    n: usize,
-    size: [u32; MAX_BITS],
-    x: [u32; MAX_BITS],
-    y: [u32; MAX_BITS],
-    w: usize,
-) -> [u32; MAX_BITS]
+pub fn lshr(job: &[u8], work: &[u8], n: usize, size: Bits, x: Bits, y: Bits, w: usize) -> Bits
     requires { ⌜ Table (now job) (now work) n ⌝ }
     requires { ⌜ (1 ≤ w) × (w ≤ max-width) ⌝ }
-    ensures { λ r. ⌜ take w r ≡ lshr (numbers-in (now (job .entry)) (now (work .entry)) n) (take w size) (take w x) (take w y) ⌝ }
+    ensures { λ r. ⌜ take w r ≡ lshr (gates job work n) (take w size) (take w x) (take w y) ⌝ }
 {
     let shifted = shr_stages(job, work, n, FALSE, x, y, w);
     bounded(job, work, n, FALSE, size, y, shifted, w)
@@ -181,15 +143,15 @@ pub fn ashr(
     job: &[u8],
     work: &[u8],
     n: usize,
-    size: [u32; MAX_BITS],
-    x: [u32; MAX_BITS],
-    y: [u32; MAX_BITS],
+    size: Bits,
+    x: Bits,
+    y: Bits,
     w: usize,
     standard: bool,
-) -> [u32; MAX_BITS]
+) -> Bits
     requires { ⌜ Table (now job) (now work) n ⌝ }
     requires { ⌜ (1 ≤ w) × (w ≤ max-width) ⌝ }
-    ensures { λ r. ⌜ take w r ≡ ashr (numbers-in (now (job .entry)) (now (work .entry)) n) standard (take w size) (take w x) (take w y) ⌝ }
+    ensures { λ r. ⌜ take w r ≡ ashr (gates job work n) standard (take w size) (take w x) (take w y) ⌝ }
 {
     let sign = x[w - 1];
     let shifted = shr_stages(job, work, n, sign, x, y, w);
