@@ -6,17 +6,15 @@ ghost use Prim.Native.Nat.{_≤_};
 ghost use lib.Dec.{eqb};
 ghost use lib.ListN.{take};
 ghost use Rattle.theory.specs.Limit.{max-width};
-ghost use Rattle.theory.specs.Bits.{get-term-bits};
 ghost use Rattle.theory.specs.Verdict.{held, form-only, terms-differ};
-ghost use Rattle.terms.specs.Decoded.{Inside, words-in};
-ghost use Rattle.rows.specs.Rows.{kept};
+ghost use Rattle.terms.specs.Decoded.{Inside};
 ghost use Rattle.table.specs.Buckets.{Table};
-ghost use Rattle.store.specs.Numbers.{bb-number};
-ghost use Rattle.theory.specs.Record.{number-length};
-ghost use Rattle.operand_rules.specs.Rules.{Operand, width-in, number-in, tree, verdict-of};
+ghost use Rattle.store.specs.Lent.{bb-gate, kept-number, kept-bits, kept-width, words-of};
+ghost use Rattle.operand_rules.specs.Rules.{Operand, width-in, verdict-of};
 use crate::Verdict;
 use crate::compare;
 use crate::compare_form;
+use circuits::bits::Bits;
 use circuits::bits::MAX_BITS;
 use circuits::bits::select_bits;
 use store::gates::bb_term;
@@ -29,16 +27,16 @@ use terms::Term;
 // The width of the bit-vector at a place.
 pub fn width_at(job: &[u8], work: &[u8], n: usize, place: u32) -> usize
     requires { ⌜ Operand (now job) (now work) n place (width-in (now job) (now work) n place) ⌝ }
-    ensures value { λ r. ⌜ r ≡ width-in (now (job .entry)) (now (work .entry)) n place ⌝ }
+    ensures value { λ r. ⌜ r ≡ kept-width job work n place ⌝ }
     ensures bound { λ r. ⌜ (1 ≤ r) × (r ≤ max-width) ⌝ }
 {
     width_of(sort_at(job, work, n, place)) as usize
 }
 
 // The numbers of an argument list.
-fn argument_bits(job: &[u8], list: Args) -> [u32; MAX_BITS]
+fn argument_bits(job: &[u8], list: Args) -> Bits
     requires { ⌜ Inside (now job) list ⌝ }
-    ensures { λ r. ⌜ take (list .count) r ≡ words-in (now (job .entry)) list ⌝ }
+    ensures { λ r. ⌜ take (list .count) r ≡ words-of job list ⌝ }
 {
     let count = list.count;
     let mut out = [0u32; MAX_BITS];
@@ -51,9 +49,9 @@ fn argument_bits(job: &[u8], list: Args) -> [u32; MAX_BITS]
 }
 
 // get_term_bits: a BvBbTerm gives its arguments, any other bit-vector of width w its bits 0 to w - 1.
-pub fn get_term_bits(job: &[u8], work: &[u8], n: usize, place: u32, w: usize) -> [u32; MAX_BITS]
+pub fn get_term_bits(job: &[u8], work: &[u8], n: usize, place: u32, w: usize) -> Bits
     requires { ⌜ Operand (now job) (now work) n place w ⌝ }
-    ensures { λ r. ⌜ take w r ≡ map (number-in (now (job .entry)) (now (work .entry)) n) (get-term-bits (tree (now (job .entry)) (now (work .entry)) n place)) ⌝ }
+    ensures { λ r. ⌜ take w r ≡ map (kept-number job work n) (kept-bits job work n place) ⌝ }
 {
     let Term::BvBbTerm(list) = term_at(job, work, n, place) else {
         return select_bits(job, work, n, place, w);
@@ -62,17 +60,10 @@ pub fn get_term_bits(job: &[u8], work: &[u8], n: usize, place: u32, w: usize) ->
 }
 
 // The last test of a rule that expects a term of the first w of these bits.
-pub fn compare_bits(
-    job: &[u8],
-    work: &[u8],
-    n: usize,
-    bits: [u32; MAX_BITS],
-    w: usize,
-    claim: u32,
-) -> Verdict
+pub fn compare_bits(job: &[u8], work: &[u8], n: usize, bits: Bits, w: usize, claim: u32) -> Verdict
     requires { ⌜ Table (now job) (now work) n ⌝ }
     requires { ⌜ w ≤ max-width ⌝ }
-    ensures { λ v. ⌜ verdict-of v ≡ cond (eqb (bb-number (number-length (now (job .entry))) (kept (now (job .entry)) (now (work .entry)) n) (take w bits)) claim) held terms-differ ⌝ }
+    ensures { λ v. ⌜ verdict-of v ≡ cond (eqb (bb-gate job work n (take w bits)) claim) held terms-differ ⌝ }
 {
     compare(bb_term(job, work, n, &bits[..w]), claim)
 }
@@ -82,13 +73,13 @@ pub fn compare_bits_form(
     job: &[u8],
     work: &[u8],
     n: usize,
-    bits: [u32; MAX_BITS],
+    bits: Bits,
     w: usize,
     claim: u32,
 ) -> Verdict
     requires { ⌜ Table (now job) (now work) n ⌝ }
     requires { ⌜ w ≤ max-width ⌝ }
-    ensures { λ v. ⌜ verdict-of v ≡ cond (eqb (bb-number (number-length (now (job .entry))) (kept (now (job .entry)) (now (work .entry)) n) (take w bits)) claim) form-only terms-differ ⌝ }
+    ensures { λ v. ⌜ verdict-of v ≡ cond (eqb (bb-gate job work n (take w bits)) claim) form-only terms-differ ⌝ }
 {
     compare_form(bb_term(job, work, n, &bits[..w]), claim)
 }

@@ -1,6 +1,6 @@
 // Rules of bits: xnor, not and neg.
 ghost use mathlib.Core.Path.{_≡_};
-ghost use Rattle.theory.specs.Bits.{get-term-bits, bb, zipped};
+ghost use Rattle.theory.specs.Bits.{bb, zipped};
 ghost use Rattle.theory.specs.Verdict.{held};
 ghost use mathlib.Core.List.{map};
 ghost use Rattle.theory.specs.Term.{two};
@@ -12,7 +12,8 @@ ghost use Rattle.theory.specs.Circuit.{negate};
 ghost use Rattle.theory.specs.RuleTable.{by-xnor, by-not, by-neg};
 ghost use Rattle.theory.specs.Rule.{compare, verdict};
 ghost use Rattle.store.specs.Store.{Store};
-ghost use Rattle.operand_rules.specs.Rules.{One, Two, tree, verdict-of};
+ghost use Rattle.store.specs.Lent.{kept-term, kept-bits};
+ghost use Rattle.operand_rules.specs.Rules.{One, Two, verdict-of};
 use crate::Verdict;
 use crate::bits::compare_bits;
 use crate::bits::get_term_bits;
@@ -25,7 +26,8 @@ use terms::Term;
 // The claim is the term of the bits' equations.
 fn xnor_check(job: &[u8], work: &[u8], n: usize, x: u32, y: u32, claim: u32) -> Verdict
     requires { ⌜ Two (now job) (now work) n x y claim ⌝ }
-    ensures { λ v. ⌜ verdict-of v ≡ compare held (zipped (two Equals) (tree (now (job .entry)) (now (work .entry)) n x) (tree (now (job .entry)) (now (work .entry)) n y)) (tree (now (job .entry)) (now (work .entry)) n claim) ⌝ }
+    ensures { λ v. ⌜ verdict-of v ≡ compare held
+        (zipped (two Equals) (kept-term job work n x) (kept-term job work n y)) (kept-term job work n claim) ⌝ }
 {
     let w = width_at(job, work, n, x);
     let xs = get_term_bits(job, work, n, x, w);
@@ -37,7 +39,7 @@ fn xnor_check(job: &[u8], work: &[u8], n: usize, x: u32, y: u32, claim: u32) -> 
 // xnor: (= (bvxnor x y) claim).
 pub fn xnor(job: &[u8], work: &[u8], n: usize, literal: u32) -> Verdict
     requires { ⌜ Store (now job) (now work) n × (literal < first-terms + n) ⌝ }
-    ensures { λ v. ⌜ verdict-of v ≡ verdict by-xnor (tree (now (job .entry)) (now (work .entry)) n literal) ⌝ }
+    ensures { λ v. ⌜ verdict-of v ≡ verdict by-xnor (kept-term job work n literal) ⌝ }
 {
     let Term::Equals(l, r) = term_at(job, work, n, literal) else {
         return Verdict::WrongForm;
@@ -51,7 +53,8 @@ pub fn xnor(job: &[u8], work: &[u8], n: usize, literal: u32) -> Verdict
 // The claim is the term of the bits inverted.
 fn not_check(job: &[u8], work: &[u8], n: usize, x: u32, claim: u32) -> Verdict
     requires { ⌜ One (now job) (now work) n x claim ⌝ }
-    ensures { λ v. ⌜ verdict-of v ≡ compare held (bb (map (term-gates .not-gate) (get-term-bits (tree (now (job .entry)) (now (work .entry)) n x)))) (tree (now (job .entry)) (now (work .entry)) n claim) ⌝ }
+    ensures { λ v. ⌜ verdict-of v ≡ compare held
+        (bb (map (term-gates .not-gate) (kept-bits job work n x))) (kept-term job work n claim) ⌝ }
 {
     let w = width_at(job, work, n, x);
     let xs = get_term_bits(job, work, n, x, w);
@@ -62,7 +65,7 @@ fn not_check(job: &[u8], work: &[u8], n: usize, x: u32, claim: u32) -> Verdict
 // not: (= (bvnot x) claim).
 pub fn not(job: &[u8], work: &[u8], n: usize, literal: u32) -> Verdict
     requires { ⌜ Store (now job) (now work) n × (literal < first-terms + n) ⌝ }
-    ensures { λ v. ⌜ verdict-of v ≡ verdict by-not (tree (now (job .entry)) (now (work .entry)) n literal) ⌝ }
+    ensures { λ v. ⌜ verdict-of v ≡ verdict by-not (kept-term job work n literal) ⌝ }
 {
     let Term::Equals(l, r) = term_at(job, work, n, literal) else {
         return Verdict::WrongForm;
@@ -76,7 +79,8 @@ pub fn not(job: &[u8], work: &[u8], n: usize, literal: u32) -> Verdict
 // The claim is the term of the negated number's bits.
 fn neg_check(job: &[u8], work: &[u8], n: usize, x: u32, claim: u32) -> Verdict
     requires { ⌜ One (now job) (now work) n x claim ⌝ }
-    ensures { λ v. ⌜ verdict-of v ≡ compare held (bb (negate term-gates (get-term-bits (tree (now (job .entry)) (now (work .entry)) n x)))) (tree (now (job .entry)) (now (work .entry)) n claim) ⌝ }
+    ensures { λ v. ⌜ verdict-of v ≡ compare held
+        (bb (negate term-gates (kept-bits job work n x))) (kept-term job work n claim) ⌝ }
 {
     let w = width_at(job, work, n, x);
     let xs = get_term_bits(job, work, n, x, w);
@@ -87,7 +91,7 @@ fn neg_check(job: &[u8], work: &[u8], n: usize, x: u32, claim: u32) -> Verdict
 // neg: (= (bvneg x) claim).
 pub fn neg(job: &[u8], work: &[u8], n: usize, literal: u32) -> Verdict
     requires { ⌜ Store (now job) (now work) n × (literal < first-terms + n) ⌝ }
-    ensures { λ v. ⌜ verdict-of v ≡ verdict by-neg (tree (now (job .entry)) (now (work .entry)) n literal) ⌝ }
+    ensures { λ v. ⌜ verdict-of v ≡ verdict by-neg (kept-term job work n literal) ⌝ }
 {
     let Term::Equals(l, r) = term_at(job, work, n, literal) else {
         return Verdict::WrongForm;

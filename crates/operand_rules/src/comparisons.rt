@@ -1,6 +1,5 @@
 // The rules ult and slt.
 ghost use mathlib.Core.Path.{_≡_};
-ghost use Rattle.theory.specs.Bits.{get-term-bits};
 ghost use Rattle.theory.specs.Verdict.{held};
 ghost use Prim.Native.Nat.{_+_, _<_};
 ghost use Rattle.theory.specs.Limit.{first-terms};
@@ -9,7 +8,8 @@ ghost use Rattle.theory.specs.Circuit.{bitblast-ult, slt};
 ghost use Rattle.theory.specs.RuleTable.{by-ult, by-slt};
 ghost use Rattle.theory.specs.Rule.{compare, verdict};
 ghost use Rattle.store.specs.Store.{Store};
-ghost use Rattle.operand_rules.specs.Rules.{Two, tree, verdict-of};
+ghost use Rattle.store.specs.Lent.{kept-term, kept-bits};
+ghost use Rattle.operand_rules.specs.Rules.{Two, verdict-of};
 use crate::Verdict;
 use crate::bits::get_term_bits;
 use crate::bits::width_at;
@@ -20,7 +20,8 @@ use terms::Term;
 // The claim is the circuit of x < y.
 fn ult_check(job: &[u8], work: &[u8], n: usize, x: u32, y: u32, claim: u32) -> Verdict
     requires { ⌜ Two (now job) (now work) n x y claim ⌝ }
-    ensures { λ v. ⌜ verdict-of v ≡ compare held (bitblast-ult term-gates (get-term-bits (tree (now (job .entry)) (now (work .entry)) n x)) (get-term-bits (tree (now (job .entry)) (now (work .entry)) n y))) (tree (now (job .entry)) (now (work .entry)) n claim) ⌝ }
+    ensures { λ v. ⌜ verdict-of v ≡ compare held
+        (bitblast-ult term-gates (kept-bits job work n x) (kept-bits job work n y)) (kept-term job work n claim) ⌝ }
 {
     let w = width_at(job, work, n, x);
     let xs = get_term_bits(job, work, n, x, w);
@@ -31,7 +32,7 @@ fn ult_check(job: &[u8], work: &[u8], n: usize, x: u32, y: u32, claim: u32) -> V
 // ult: (= (bvult x y) claim).
 pub fn ult(job: &[u8], work: &[u8], n: usize, literal: u32) -> Verdict
     requires { ⌜ Store (now job) (now work) n × (literal < first-terms + n) ⌝ }
-    ensures { λ v. ⌜ verdict-of v ≡ verdict by-ult (tree (now (job .entry)) (now (work .entry)) n literal) ⌝ }
+    ensures { λ v. ⌜ verdict-of v ≡ verdict by-ult (kept-term job work n literal) ⌝ }
 {
     let Term::Equals(l, r) = term_at(job, work, n, literal) else {
         return Verdict::WrongForm;
@@ -45,7 +46,8 @@ pub fn ult(job: &[u8], work: &[u8], n: usize, literal: u32) -> Verdict
 // The claim is the circuit of x < y, of signed numbers.
 fn slt_check(job: &[u8], work: &[u8], n: usize, x: u32, y: u32, claim: u32) -> Verdict
     requires { ⌜ Two (now job) (now work) n x y claim ⌝ }
-    ensures { λ v. ⌜ verdict-of v ≡ compare held (slt term-gates (get-term-bits (tree (now (job .entry)) (now (work .entry)) n x)) (get-term-bits (tree (now (job .entry)) (now (work .entry)) n y))) (tree (now (job .entry)) (now (work .entry)) n claim) ⌝ }
+    ensures { λ v. ⌜ verdict-of v ≡ compare held
+        (slt term-gates (kept-bits job work n x) (kept-bits job work n y)) (kept-term job work n claim) ⌝ }
 {
     let w = width_at(job, work, n, x);
     let xs = get_term_bits(job, work, n, x, w);
@@ -56,7 +58,7 @@ fn slt_check(job: &[u8], work: &[u8], n: usize, x: u32, y: u32, claim: u32) -> V
 // slt: (= (bvslt x y) claim).
 pub fn slt(job: &[u8], work: &[u8], n: usize, literal: u32) -> Verdict
     requires { ⌜ Store (now job) (now work) n × (literal < first-terms + n) ⌝ }
-    ensures { λ v. ⌜ verdict-of v ≡ verdict by-slt (tree (now (job .entry)) (now (work .entry)) n literal) ⌝ }
+    ensures { λ v. ⌜ verdict-of v ≡ verdict by-slt (kept-term job work n literal) ⌝ }
 {
     let Term::Equals(l, r) = term_at(job, work, n, literal) else {
         return Verdict::WrongForm;

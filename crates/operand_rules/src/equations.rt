@@ -1,6 +1,6 @@
 // The rules of equations: comp and equality.
 ghost use mathlib.Core.Path.{_≡_};
-ghost use Rattle.theory.specs.Bits.{get-term-bits, bb};
+ghost use Rattle.theory.specs.Bits.{bb};
 ghost use Rattle.theory.specs.Verdict.{held};
 ghost use mathlib.Core.List.{_∷_, []};
 ghost use Prim.Native.Nat.{_+_, _<_};
@@ -10,7 +10,8 @@ ghost use Rattle.theory.specs.Circuit.{equality};
 ghost use Rattle.theory.specs.RuleTable.{by-comp, by-equality};
 ghost use Rattle.theory.specs.Rule.{compare, of-bits, verdict};
 ghost use Rattle.store.specs.Store.{Store};
-ghost use Rattle.operand_rules.specs.Rules.{Two, Same, tree, verdict-of};
+ghost use Rattle.store.specs.Lent.{kept-term, kept-bits};
+ghost use Rattle.operand_rules.specs.Rules.{Two, Same, verdict-of};
 use crate::Verdict;
 use crate::bits::compare_bits;
 use crate::bits::get_term_bits;
@@ -24,7 +25,9 @@ use terms::Term;
 // The claim is the term of one bit, whether all bits are equal.
 fn comp_check(job: &[u8], work: &[u8], n: usize, x: u32, y: u32, claim: u32) -> Verdict
     requires { ⌜ Two (now job) (now work) n x y claim ⌝ }
-    ensures { λ v. ⌜ verdict-of v ≡ compare held (bb (equality term-gates (get-term-bits (tree (now (job .entry)) (now (work .entry)) n x)) (get-term-bits (tree (now (job .entry)) (now (work .entry)) n y)) ∷ [])) (tree (now (job .entry)) (now (work .entry)) n claim) ⌝ }
+    ensures { λ v. ⌜ verdict-of v ≡ compare held
+        (bb (equality term-gates (kept-bits job work n x) (kept-bits job work n y) ∷ []))
+        (kept-term job work n claim) ⌝ }
 {
     let w = width_at(job, work, n, x);
     let xs = get_term_bits(job, work, n, x, w);
@@ -36,7 +39,7 @@ fn comp_check(job: &[u8], work: &[u8], n: usize, x: u32, y: u32, claim: u32) -> 
 // comp: (= (bvcomp x y) claim).
 pub fn comp(job: &[u8], work: &[u8], n: usize, literal: u32) -> Verdict
     requires { ⌜ Store (now job) (now work) n × (literal < first-terms + n) ⌝ }
-    ensures { λ v. ⌜ verdict-of v ≡ verdict by-comp (tree (now (job .entry)) (now (work .entry)) n literal) ⌝ }
+    ensures { λ v. ⌜ verdict-of v ≡ verdict by-comp (kept-term job work n literal) ⌝ }
 {
     let Term::Equals(l, r) = term_at(job, work, n, literal) else {
         return Verdict::WrongForm;
@@ -50,7 +53,8 @@ pub fn comp(job: &[u8], work: &[u8], n: usize, literal: u32) -> Verdict
 // The claim is whether all bits of x and y are equal.
 fn equality_check(job: &[u8], work: &[u8], n: usize, x: u32, y: u32, claim: u32) -> Verdict
     requires { ⌜ Same (now job) (now work) n x y claim ⌝ }
-    ensures { λ v. ⌜ verdict-of v ≡ of-bits (tree (now (job .entry)) (now (work .entry)) n x) (compare held (equality term-gates (get-term-bits (tree (now (job .entry)) (now (work .entry)) n x)) (get-term-bits (tree (now (job .entry)) (now (work .entry)) n y))) (tree (now (job .entry)) (now (work .entry)) n claim)) ⌝ }
+    ensures { λ v. ⌜ verdict-of v ≡ of-bits (kept-term job work n x) (compare held
+        (equality term-gates (kept-bits job work n x) (kept-bits job work n y)) (kept-term job work n claim)) ⌝ }
 {
     let Sort::Bv(width) = sort_at(job, work, n, x) else {
         return Verdict::NotBitVector;
@@ -64,7 +68,7 @@ fn equality_check(job: &[u8], work: &[u8], n: usize, x: u32, y: u32, claim: u32)
 // equality: (= (= x y) claim).
 pub fn equality(job: &[u8], work: &[u8], n: usize, literal: u32) -> Verdict
     requires { ⌜ Store (now job) (now work) n × (literal < first-terms + n) ⌝ }
-    ensures { λ v. ⌜ verdict-of v ≡ verdict by-equality (tree (now (job .entry)) (now (work .entry)) n literal) ⌝ }
+    ensures { λ v. ⌜ verdict-of v ≡ verdict by-equality (kept-term job work n literal) ⌝ }
 {
     let Term::Equals(l, r) = term_at(job, work, n, literal) else {
         return Verdict::WrongForm;
