@@ -7,11 +7,11 @@ ghost use Rattle.theory.specs.Limit.{max-width};
 ghost use Rattle.theory.specs.Verdict.{held};
 ghost use Rattle.theory.specs.Rule.{compare};
 ghost use Rattle.table.specs.Buckets.{Table};
-ghost use Rattle.store.specs.Numbers.{numbers-in};
-ghost use Rattle.operand_rules.specs.Rules.{number-in, tree, verdict-of};
-ghost use Rattle.list_rules.specs.Lists.{Alike, Many, circuit, least, folded-bits, expected, arguments};
+ghost use Rattle.store.specs.Lent.{gates, kept-number, kept-term, kept-arguments};
+ghost use Rattle.operand_rules.specs.Rules.{verdict-of};
+ghost use Rattle.list_rules.specs.Lists.{Alike, Many, circuit, least, folded-bits, expected};
 use circuits::adder::ripple_carry_adder;
-use circuits::bits::MAX_BITS;
+use circuits::bits::Bits;
 use circuits::bits::ands;
 use circuits::bits::ors;
 use circuits::bits::xors;
@@ -35,18 +35,10 @@ pub enum Operation {
 }
 
 // The circuit of an operation, on two bit-vectors of width w.
-fn combine(
-    job: &[u8],
-    work: &[u8],
-    n: usize,
-    op: Operation,
-    x: [u32; MAX_BITS],
-    y: [u32; MAX_BITS],
-    w: usize,
-) -> [u32; MAX_BITS]
+fn combine(job: &[u8], work: &[u8], n: usize, op: Operation, x: Bits, y: Bits, w: usize) -> Bits
     requires { ⌜ Table (now job) (now work) n ⌝ }
     requires { ⌜ (1 ≤ w) × (w ≤ max-width) ⌝ }
-    ensures { λ r. ⌜ take w r ≡ circuit (numbers-in (now (job .entry)) (now (work .entry)) n) op (take w x) (take w y) ⌝ }
+    ensures { λ r. ⌜ take w r ≡ circuit (gates job work n) op (take w x) (take w y) ⌝ }
 {
     match op {
         Operation::And => ands(job, work, n, x, y, w),
@@ -61,16 +53,9 @@ fn combine(
 }
 
 // The bits of the operation on all arguments, from the left.
-fn fold_arguments(
-    job: &[u8],
-    work: &[u8],
-    n: usize,
-    op: Operation,
-    list: Args,
-    w: usize,
-) -> [u32; MAX_BITS]
+fn fold_arguments(job: &[u8], work: &[u8], n: usize, op: Operation, list: Args, w: usize) -> Bits
     requires { ⌜ Alike (now job) (now work) n list w ⌝ }
-    ensures { λ r. ⌜ take w r ≡ map (number-in (now (job .entry)) (now (work .entry)) n) (folded-bits op (arguments (now (job .entry)) (now (work .entry)) n list)) ⌝ }
+    ensures { λ r. ⌜ take w r ≡ map (kept-number job work n) (folded-bits op (kept-arguments job work n list)) ⌝ }
 {
     let count = list.count;
     let mut bits = get_term_bits(job, work, n, Term::argument(job, list, 0), w);
@@ -107,7 +92,8 @@ pub fn folded_check(
     claim: u32,
 ) -> Verdict
     requires { ⌜ Many (now job) (now work) n list claim ⌝ }
-    ensures { λ v. ⌜ verdict-of v ≡ compare held (expected op (arguments (now (job .entry)) (now (work .entry)) n list)) (tree (now (job .entry)) (now (work .entry)) n claim) ⌝ }
+    ensures { λ v. ⌜ verdict-of v ≡ compare held
+        (expected op (kept-arguments job work n list)) (kept-term job work n claim) ⌝ }
 {
     let count = list.count;
     let first = Term::argument(job, list, 0);

@@ -8,7 +8,8 @@ ghost use Rattle.theory.specs.Limit.{first-terms};
 ghost use Rattle.theory.specs.RuleTable.{by-and, by-or, by-xor, by-mult, by-add};
 ghost use Rattle.theory.specs.Rule.{verdict};
 ghost use Rattle.store.specs.Store.{Store};
-ghost use Rattle.operand_rules.specs.Rules.{tree, verdict-of};
+ghost use Rattle.store.specs.Lent.{kept-term};
+ghost use Rattle.operand_rules.specs.Rules.{verdict-of};
 use folds::Operation;
 use folds::folded_check;
 use operand_rules::Verdict;
@@ -18,7 +19,7 @@ use terms::Term;
 // and: (= (bvand x ..) claim).
 pub fn and(job: &[u8], work: &[u8], n: usize, literal: u32) -> Verdict
     requires { ⌜ Store (now job) (now work) n × (literal < first-terms + n) ⌝ }
-    ensures { λ v. ⌜ verdict-of v ≡ verdict by-and (tree (now (job .entry)) (now (work .entry)) n literal) ⌝ }
+    ensures { λ v. ⌜ verdict-of v ≡ verdict by-and (kept-term job work n literal) ⌝ }
 {
     let Term::Equals(l, r) = term_at(job, work, n, literal) else {
         return Verdict::WrongForm;
@@ -32,7 +33,7 @@ pub fn and(job: &[u8], work: &[u8], n: usize, literal: u32) -> Verdict
 // or: (= (bvor x ..) claim).
 pub fn or(job: &[u8], work: &[u8], n: usize, literal: u32) -> Verdict
     requires { ⌜ Store (now job) (now work) n × (literal < first-terms + n) ⌝ }
-    ensures { λ v. ⌜ verdict-of v ≡ verdict by-or (tree (now (job .entry)) (now (work .entry)) n literal) ⌝ }
+    ensures { λ v. ⌜ verdict-of v ≡ verdict by-or (kept-term job work n literal) ⌝ }
 {
     let Term::Equals(l, r) = term_at(job, work, n, literal) else {
         return Verdict::WrongForm;
@@ -46,7 +47,7 @@ pub fn or(job: &[u8], work: &[u8], n: usize, literal: u32) -> Verdict
 // xor: (= (bvxor x ..) claim).
 pub fn xor(job: &[u8], work: &[u8], n: usize, literal: u32) -> Verdict
     requires { ⌜ Store (now job) (now work) n × (literal < first-terms + n) ⌝ }
-    ensures { λ v. ⌜ verdict-of v ≡ verdict by-xor (tree (now (job .entry)) (now (work .entry)) n literal) ⌝ }
+    ensures { λ v. ⌜ verdict-of v ≡ verdict by-xor (kept-term job work n literal) ⌝ }
 {
     let Term::Equals(l, r) = term_at(job, work, n, literal) else {
         return Verdict::WrongForm;
@@ -60,7 +61,7 @@ pub fn xor(job: &[u8], work: &[u8], n: usize, literal: u32) -> Verdict
 // mult: (= (bvmul x ..) claim).
 pub fn mult(job: &[u8], work: &[u8], n: usize, literal: u32) -> Verdict
     requires { ⌜ Store (now job) (now work) n × (literal < first-terms + n) ⌝ }
-    ensures { λ v. ⌜ verdict-of v ≡ verdict by-mult (tree (now (job .entry)) (now (work .entry)) n literal) ⌝ }
+    ensures { λ v. ⌜ verdict-of v ≡ verdict by-mult (kept-term job work n literal) ⌝ }
 {
     let Term::Equals(l, r) = term_at(job, work, n, literal) else {
         return Verdict::WrongForm;
@@ -74,7 +75,7 @@ pub fn mult(job: &[u8], work: &[u8], n: usize, literal: u32) -> Verdict
 // add: (= (bvadd x ..) claim).
 pub fn add(job: &[u8], work: &[u8], n: usize, literal: u32) -> Verdict
     requires { ⌜ Store (now job) (now work) n × (literal < first-terms + n) ⌝ }
-    ensures { λ v. ⌜ verdict-of v ≡ verdict by-add (tree (now (job .entry)) (now (work .entry)) n literal) ⌝ }
+    ensures { λ v. ⌜ verdict-of v ≡ verdict by-add (kept-term job work n literal) ⌝ }
 {
     let Term::Equals(l, r) = term_at(job, work, n, literal) else {
         return Verdict::WrongForm;

@@ -8,7 +8,8 @@ ghost use Rattle.theory.specs.Optional.{is-some};
 ghost use Rattle.theory.specs.RuleTable.{Rule, rule-at};
 ghost use Rattle.theory.specs.Rule.{verdict as verdict·of};
 ghost use Rattle.store.specs.Store.{Store};
-ghost use Rattle.operand_rules.specs.Rules.{tree, verdict-of};
+ghost use Rattle.store.specs.Lent.{kept-term};
+ghost use Rattle.operand_rules.specs.Rules.{verdict-of};
 pub use list_rules::add;
 pub use list_rules::and;
 pub use list_rules::mult;
@@ -44,7 +45,8 @@ pub use slice_rules::slicing::bitwise_slicing;
 // The verdict of a rule on a literal. There is such a rule, so the last arm is never taken.
 pub fn verdict(job: &[u8], work: &[u8], n: usize, rule: u32, literal: u32) -> Verdict
     requires { ⌜ Store (now job) (now work) n × (literal < first-terms + n) × (is-some (rule-at rule) ≡ true) ⌝ }
-    ensures { λ v. ⌜ ((by : Rule) → rule-at rule ≡ some by → verdict-of v ≡ verdict·of by (tree (now (job .entry)) (now (work .entry)) n literal)) ⌝ }
+    ensures { λ v. ⌜ ((by : Rule) → rule-at rule ≡ some by
+        → verdict-of v ≡ verdict·of by (kept-term job work n literal)) ⌝ }
 {
     match rule {
         1 => value(job, work, n, literal),

@@ -10,7 +10,8 @@ ghost use Rattle.theory.specs.Circuit.{udiv, urem};
 ghost use Rattle.theory.specs.RuleTable.{by-udiv, by-urem, by-udiv-standard, by-urem-standard};
 ghost use Rattle.theory.specs.Rule.{compare, verdict};
 ghost use Rattle.store.specs.Store.{Store};
-ghost use Rattle.operand_rules.specs.Rules.{Two, tree, verdict-of};
+ghost use Rattle.store.specs.Lent.{kept-term};
+ghost use Rattle.operand_rules.specs.Rules.{Two, verdict-of};
 use operand_rules::Verdict;
 use operand_rules::bits::compare_bits;
 use operand_rules::bits::compare_bits_form;
@@ -30,7 +31,9 @@ fn udiv_check(
     standard: bool,
 ) -> Verdict
     requires { ⌜ Two (now job) (now work) n x y claim ⌝ }
-    ensures { λ v. ⌜ verdict-of v ≡ compare (cond standard held form-only) (divided (udiv term-gates standard) (tree (now (job .entry)) (now (work .entry)) n x) (tree (now (job .entry)) (now (work .entry)) n y)) (tree (now (job .entry)) (now (work .entry)) n claim) ⌝ }
+    ensures { λ v. ⌜ verdict-of v ≡ compare (cond standard held form-only)
+        (divided (udiv term-gates standard) (kept-term job work n x) (kept-term job work n y))
+        (kept-term job work n claim) ⌝ }
 {
     let w = width_at(job, work, n, x);
     let xs = get_term_bits(job, work, n, x, w);
@@ -46,7 +49,7 @@ fn udiv_check(
 // udiv: (= (bvudiv x y) claim).
 pub fn udiv(job: &[u8], work: &[u8], n: usize, literal: u32) -> Verdict
     requires { ⌜ Store (now job) (now work) n × (literal < first-terms + n) ⌝ }
-    ensures { λ v. ⌜ verdict-of v ≡ verdict by-udiv (tree (now (job .entry)) (now (work .entry)) n literal) ⌝ }
+    ensures { λ v. ⌜ verdict-of v ≡ verdict by-udiv (kept-term job work n literal) ⌝ }
 {
     let Term::Equals(l, r) = term_at(job, work, n, literal) else {
         return Verdict::WrongForm;
@@ -60,7 +63,7 @@ pub fn udiv(job: &[u8], work: &[u8], n: usize, literal: u32) -> Verdict
 // The same by the standard.
 pub fn udiv_standard(job: &[u8], work: &[u8], n: usize, literal: u32) -> Verdict
     requires { ⌜ Store (now job) (now work) n × (literal < first-terms + n) ⌝ }
-    ensures { λ v. ⌜ verdict-of v ≡ verdict by-udiv-standard (tree (now (job .entry)) (now (work .entry)) n literal) ⌝ }
+    ensures { λ v. ⌜ verdict-of v ≡ verdict by-udiv-standard (kept-term job work n literal) ⌝ }
 {
     let Term::Equals(l, r) = term_at(job, work, n, literal) else {
         return Verdict::WrongForm;
@@ -82,7 +85,9 @@ fn urem_check(
     standard: bool,
 ) -> Verdict
     requires { ⌜ Two (now job) (now work) n x y claim ⌝ }
-    ensures { λ v. ⌜ verdict-of v ≡ compare (cond standard held form-only) (divided (urem term-gates standard) (tree (now (job .entry)) (now (work .entry)) n x) (tree (now (job .entry)) (now (work .entry)) n y)) (tree (now (job .entry)) (now (work .entry)) n claim) ⌝ }
+    ensures { λ v. ⌜ verdict-of v ≡ compare (cond standard held form-only)
+        (divided (urem term-gates standard) (kept-term job work n x) (kept-term job work n y))
+        (kept-term job work n claim) ⌝ }
 {
     let w = width_at(job, work, n, x);
     let xs = get_term_bits(job, work, n, x, w);
@@ -98,7 +103,7 @@ fn urem_check(
 // urem: (= (bvurem x y) claim).
 pub fn urem(job: &[u8], work: &[u8], n: usize, literal: u32) -> Verdict
     requires { ⌜ Store (now job) (now work) n × (literal < first-terms + n) ⌝ }
-    ensures { λ v. ⌜ verdict-of v ≡ verdict by-urem (tree (now (job .entry)) (now (work .entry)) n literal) ⌝ }
+    ensures { λ v. ⌜ verdict-of v ≡ verdict by-urem (kept-term job work n literal) ⌝ }
 {
     let Term::Equals(l, r) = term_at(job, work, n, literal) else {
         return Verdict::WrongForm;
@@ -112,7 +117,7 @@ pub fn urem(job: &[u8], work: &[u8], n: usize, literal: u32) -> Verdict
 // The same by the standard.
 pub fn urem_standard(job: &[u8], work: &[u8], n: usize, literal: u32) -> Verdict
     requires { ⌜ Store (now job) (now work) n × (literal < first-terms + n) ⌝ }
-    ensures { λ v. ⌜ verdict-of v ≡ verdict by-urem-standard (tree (now (job .entry)) (now (work .entry)) n literal) ⌝ }
+    ensures { λ v. ⌜ verdict-of v ≡ verdict by-urem-standard (kept-term job work n literal) ⌝ }
 {
     let Term::Equals(l, r) = term_at(job, work, n, literal) else {
         return Verdict::WrongForm;

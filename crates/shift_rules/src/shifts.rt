@@ -13,8 +13,9 @@ ghost use Rattle.theory.specs.Circuit.{shl, lshr, ashr};
 ghost use Rattle.theory.specs.RuleTable.{by-shl, by-lshr, by-ashr, by-ashr-standard};
 ghost use Rattle.theory.specs.Rule.{compare, ends-in-false, verdict};
 ghost use Rattle.store.specs.Store.{Store};
-ghost use Rattle.operand_rules.specs.Rules.{Two, number-in, width-bits, tree, verdict-of};
-use circuits::bits::MAX_BITS;
+ghost use Rattle.store.specs.Lent.{kept-number, kept-term};
+ghost use Rattle.operand_rules.specs.Rules.{Two, width-bits, verdict-of};
+use circuits::bits::Bits;
 use circuits::bits::select_bits;
 use operand_rules::Verdict;
 use operand_rules::bits::compare_bits;
@@ -27,10 +28,10 @@ use store::terms_at::term_at;
 use terms::Term;
 
 // The bits of the width w, as a constant of that width.
-fn width_bits(job: &[u8], work: &[u8], n: usize, w: usize) -> [u32; MAX_BITS]
+fn width_bits(job: &[u8], work: &[u8], n: usize, w: usize) -> Bits
     requires { ⌜ Store (now job) (now work) n ⌝ }
     requires { ⌜ (1 ≤ w) × (w ≤ max-width) ⌝ }
-    ensures { λ r. ⌜ take w r ≡ map (number-in (now (job .entry)) (now (work .entry)) n) (width-bits w) ⌝ }
+    ensures { λ r. ⌜ take w r ≡ map (kept-number job work n) (width-bits w) ⌝ }
 {
     let size = constant(job, work, n, w as u32, w as u64);
     select_bits(job, work, n, size, w)
@@ -39,7 +40,8 @@ fn width_bits(job: &[u8], work: &[u8], n: usize, w: usize) -> [u32; MAX_BITS]
 // The claim is the term of the circuit of x shifted left.
 fn shl_check(job: &[u8], work: &[u8], n: usize, x: u32, y: u32, claim: u32) -> Verdict
     requires { ⌜ Two (now job) (now work) n x y claim ⌝ }
-    ensures { λ v. ⌜ verdict-of v ≡ compare held (shifted (shl term-gates) (tree (now (job .entry)) (now (work .entry)) n x) (tree (now (job .entry)) (now (work .entry)) n y)) (tree (now (job .entry)) (now (work .entry)) n claim) ⌝ }
+    ensures { λ v. ⌜ verdict-of v ≡ compare held
+        (shifted (shl term-gates) (kept-term job work n x) (kept-term job work n y)) (kept-term job work n claim) ⌝ }
 {
     let w = width_at(job, work, n, x);
     let xs = get_term_bits(job, work, n, x, w);
@@ -52,7 +54,7 @@ fn shl_check(job: &[u8], work: &[u8], n: usize, x: u32, y: u32, claim: u32) -> V
 // shl: (= (bvshl x y) claim).
 pub fn shl(job: &[u8], work: &[u8], n: usize, literal: u32) -> Verdict
     requires { ⌜ Store (now job) (now work) n × (literal < first-terms + n) ⌝ }
-    ensures { λ v. ⌜ verdict-of v ≡ verdict by-shl (tree (now (job .entry)) (now (work .entry)) n literal) ⌝ }
+    ensures { λ v. ⌜ verdict-of v ≡ verdict by-shl (kept-term job work n literal) ⌝ }
 {
     let Term::Equals(l, r) = term_at(job, work, n, literal) else {
         return Verdict::WrongForm;
@@ -66,7 +68,8 @@ pub fn shl(job: &[u8], work: &[u8], n: usize, literal: u32) -> Verdict
 // The claim is the term of the circuit of x shifted right.
 fn lshr_check(job: &[u8], work: &[u8], n: usize, x: u32, y: u32, claim: u32) -> Verdict
     requires { ⌜ Two (now job) (now work) n x y claim ⌝ }
-    ensures { λ v. ⌜ verdict-of v ≡ compare held (shifted (lshr term-gates) (tree (now (job .entry)) (now (work .entry)) n x) (tree (now (job .entry)) (now (work .entry)) n y)) (tree (now (job .entry)) (now (work .entry)) n claim) ⌝ }
+    ensures { λ v. ⌜ verdict-of v ≡ compare held
+        (shifted (lshr term-gates) (kept-term job work n x) (kept-term job work n y)) (kept-term job work n claim) ⌝ }
 {
     let w = width_at(job, work, n, x);
     let xs = get_term_bits(job, work, n, x, w);
@@ -79,7 +82,7 @@ fn lshr_check(job: &[u8], work: &[u8], n: usize, x: u32, y: u32, claim: u32) -> 
 // lshr: (= (bvlshr x y) claim).
 pub fn lshr(job: &[u8], work: &[u8], n: usize, literal: u32) -> Verdict
     requires { ⌜ Store (now job) (now work) n × (literal < first-terms + n) ⌝ }
-    ensures { λ v. ⌜ verdict-of v ≡ verdict by-lshr (tree (now (job .entry)) (now (work .entry)) n literal) ⌝ }
+    ensures { λ v. ⌜ verdict-of v ≡ verdict by-lshr (kept-term job work n literal) ⌝ }
 {
     let Term::Equals(l, r) = term_at(job, work, n, literal) else {
         return Verdict::WrongForm;
@@ -93,9 +96,9 @@ pub fn lshr(job: &[u8], work: &[u8], n: usize, literal: u32) -> Verdict
 // The claim is the term of the circuit of x shifted right, the top bit coming in. Only a BvBbTerm has the bit `false`.
 fn ashr_check(job: &[u8], work: &[u8], n: usize, x: u32, y: u32, claim: u32) -> Verdict
     requires { ⌜ Two (now job) (now work) n x y claim ⌝ }
-    ensures { λ v. ⌜ verdict-of v ≡ compare (cond (ends-in-false (tree (now (job .entry)) (now (work .entry)) n x)) held form-only)
-        (shifted (ashr term-gates false) (tree (now (job .entry)) (now (work .entry)) n x) (tree (now (job .entry)) (now (work .entry)) n y))
-        (tree (now (job .entry)) (now (work .entry)) n claim) ⌝ }
+    ensures { λ v. ⌜ verdict-of v ≡ compare (cond (ends-in-false (kept-term job work n x)) held form-only)
+        (shifted (ashr term-gates false) (kept-term job work n x) (kept-term job work n y))
+        (kept-term job work n claim) ⌝ }
 {
     let w = width_at(job, work, n, x);
     let xs = get_term_bits(job, work, n, x, w);
@@ -112,7 +115,7 @@ fn ashr_check(job: &[u8], work: &[u8], n: usize, x: u32, y: u32, claim: u32) -> 
 // ashr: (= (bvashr x y) claim).
 pub fn ashr(job: &[u8], work: &[u8], n: usize, literal: u32) -> Verdict
     requires { ⌜ Store (now job) (now work) n × (literal < first-terms + n) ⌝ }
-    ensures { λ v. ⌜ verdict-of v ≡ verdict by-ashr (tree (now (job .entry)) (now (work .entry)) n literal) ⌝ }
+    ensures { λ v. ⌜ verdict-of v ≡ verdict by-ashr (kept-term job work n literal) ⌝ }
 {
     let Term::Equals(l, r) = term_at(job, work, n, literal) else {
         return Verdict::WrongForm;
@@ -126,7 +129,9 @@ pub fn ashr(job: &[u8], work: &[u8], n: usize, literal: u32) -> Verdict
 // The claim is the term of the circuit of x shifted right, the top bit coming in, also beyond the width.
 fn ashr_standard_check(job: &[u8], work: &[u8], n: usize, x: u32, y: u32, claim: u32) -> Verdict
     requires { ⌜ Two (now job) (now work) n x y claim ⌝ }
-    ensures { λ v. ⌜ verdict-of v ≡ compare held (shifted (ashr term-gates true) (tree (now (job .entry)) (now (work .entry)) n x) (tree (now (job .entry)) (now (work .entry)) n y)) (tree (now (job .entry)) (now (work .entry)) n claim) ⌝ }
+    ensures { λ v. ⌜ verdict-of v ≡ compare held
+        (shifted (ashr term-gates true) (kept-term job work n x) (kept-term job work n y))
+        (kept-term job work n claim) ⌝ }
 {
     let w = width_at(job, work, n, x);
     let xs = get_term_bits(job, work, n, x, w);
@@ -139,7 +144,7 @@ fn ashr_standard_check(job: &[u8], work: &[u8], n: usize, x: u32, y: u32, claim:
 // ashr by the standard: (= (bvashr x y) claim).
 pub fn ashr_standard(job: &[u8], work: &[u8], n: usize, literal: u32) -> Verdict
     requires { ⌜ Store (now job) (now work) n × (literal < first-terms + n) ⌝ }
-    ensures { λ v. ⌜ verdict-of v ≡ verdict by-ashr-standard (tree (now (job .entry)) (now (work .entry)) n literal) ⌝ }
+    ensures { λ v. ⌜ verdict-of v ≡ verdict by-ashr-standard (kept-term job work n literal) ⌝ }
 {
     let Term::Equals(l, r) = term_at(job, work, n, literal) else {
         return Verdict::WrongForm;

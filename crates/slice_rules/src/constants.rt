@@ -6,9 +6,10 @@ ghost use Rattle.theory.specs.Limit.{first-terms};
 ghost use Rattle.theory.specs.Optional.{collect};
 ghost use Rattle.theory.specs.RuleTable.{by-value};
 ghost use Rattle.theory.specs.Rule.{value-bits, verdict};
-ghost use Rattle.terms.specs.Decoded.{Inside, words-in};
+ghost use Rattle.terms.specs.Decoded.{Inside};
 ghost use Rattle.store.specs.Store.{Store};
-ghost use Rattle.operand_rules.specs.Rules.{tree, verdict-of};
+ghost use Rattle.store.specs.Lent.{kept-term, words-of};
+ghost use Rattle.operand_rules.specs.Rules.{verdict-of};
 ghost use Rattle.slice_rules.specs.Given.{literal-number};
 use operand_rules::Verdict;
 use store::gates::FALSE;
@@ -19,7 +20,7 @@ use terms::Term;
 // Each bit is literally `true` or `false`, and they have this value.
 fn value_check(job: &[u8], list: Args, value: u64) -> Verdict
     requires { ⌜ Inside (now job) list ⌝ }
-    ensures { λ v. ⌜ verdict-of v ≡ value-bits value (collect (map literal-number (words-in (now (job .entry)) list))) ⌝ }
+    ensures { λ v. ⌜ verdict-of v ≡ value-bits value (collect (map literal-number (words-of job list))) ⌝ }
 {
     let mut sum: u64 = 0;
     let mut i = list.count;
@@ -42,7 +43,7 @@ fn value_check(job: &[u8], list: Args, value: u64) -> Verdict
 // value: (= c (bbterm ..)), c a constant.
 pub fn value(job: &[u8], work: &[u8], n: usize, literal: u32) -> Verdict
     requires { ⌜ Store (now job) (now work) n × (literal < first-terms + n) ⌝ }
-    ensures { λ v. ⌜ verdict-of v ≡ verdict by-value (tree (now (job .entry)) (now (work .entry)) n literal) ⌝ }
+    ensures { λ v. ⌜ verdict-of v ≡ verdict by-value (kept-term job work n literal) ⌝ }
 {
     let Term::Equals(l, r) = term_at(job, work, n, literal) else {
         return Verdict::WrongForm;

@@ -4,14 +4,16 @@ ghost use Prim.Native.Nat.{_+_, _%_, _<_, _≤_};
 ghost use lib.ListN.{take};
 ghost use Rattle.theory.specs.Limit.{first-terms, max-width};
 ghost use Rattle.theory.specs.Move.{bits, bit-of, zero-extension, left-rotation, right-rotation, repetition};
-ghost use Rattle.theory.specs.Bits.{get-term-bits, bb, moved-bits};
+ghost use Rattle.theory.specs.Bits.{bb, moved-bits};
 ghost use Rattle.theory.specs.Verdict.{held};
 ghost use Rattle.theory.specs.RuleTable.{by-zero-extend, by-rotate-left, by-rotate-right, by-repeat};
 ghost use Rattle.theory.specs.Rule.{compare, verdict};
 ghost use Rattle.store.specs.Numbers.{false-number};
 ghost use Rattle.store.specs.Store.{Store};
-ghost use Rattle.operand_rules.specs.Rules.{One, Operand, tree, width-in, verdict-of};
+ghost use Rattle.store.specs.Lent.{kept-term, kept-bits, kept-width};
+ghost use Rattle.operand_rules.specs.Rules.{One, Operand, verdict-of};
 ghost use Rattle.slice_rules.specs.Given.{Extend, Copies, a-move};
+use circuits::bits::Bits;
 use circuits::bits::MAX_BITS;
 use operand_rules::Verdict;
 use operand_rules::bits::compare_bits;
@@ -22,7 +24,7 @@ use store::terms_at::term_at;
 use terms::Term;
 
 // Bit i of the w bits of x, `false` where there is none.
-fn bit_at(x: [u32; MAX_BITS], w: usize, i: usize) -> u32
+fn bit_at(x: Bits, w: usize, i: usize) -> u32
     requires { ⌜ w ≤ max-width ⌝ }
     ensures { λ r. ⌜ r ≡ bit-of false-number (take w x) i ⌝ }
 {
@@ -30,7 +32,7 @@ fn bit_at(x: [u32; MAX_BITS], w: usize, i: usize) -> u32
 }
 
 // The bits of x moved: of `size` bits, bit j is bit (j + shift) modulo `cycle` of the w bits of x.
-fn moved(x: [u32; MAX_BITS], w: usize, size: usize, shift: usize, cycle: usize) -> [u32; MAX_BITS]
+fn moved(x: Bits, w: usize, size: usize, shift: usize, cycle: usize) -> Bits
     requires { ⌜ (w ≤ max-width) × (size ≤ max-width) ⌝ }
     requires { ⌜ (shift ≤ max-width) × (1 ≤ cycle) ⌝ }
     ensures { λ r. ⌜ take size r ≡ bits size (λ j. bit-of false-number (take w x) ((j + shift) % cycle)) ⌝ }
@@ -58,7 +60,8 @@ fn moved_check(
 ) -> Verdict
     requires { ⌜ Operand (now job) (now work) n x w × (claim < first-terms + n) ⌝ }
     requires { ⌜ (size ≤ max-width) × (shift ≤ max-width) × (1 ≤ cycle) ⌝ }
-    ensures { λ v. ⌜ verdict-of v ≡ compare held (bb (moved-bits (a-move size shift cycle) (get-term-bits (tree (now (job .entry)) (now (work .entry)) n x)))) (tree (now (job .entry)) (now (work .entry)) n claim) ⌝ }
+    ensures { λ v. ⌜ verdict-of v ≡ compare held
+        (bb (moved-bits (a-move size shift cycle) (kept-bits job work n x))) (kept-term job work n claim) ⌝ }
 {
     let xs = get_term_bits(job, work, n, x, w);
     let bits = moved(xs, w, size, shift, cycle);
@@ -68,7 +71,9 @@ fn moved_check(
 // The claim is the term of x's bits, k zeros above.
 fn zero_extend_check(job: &[u8], work: &[u8], n: usize, k: u32, x: u32, claim: u32) -> Verdict
     requires { ⌜ Extend (now job) (now work) n k x claim ⌝ }
-    ensures { λ v. ⌜ verdict-of v ≡ compare held (bb (moved-bits (zero-extension k (width-in (now (job .entry)) (now (work .entry)) n x)) (get-term-bits (tree (now (job .entry)) (now (work .entry)) n x)))) (tree (now (job .entry)) (now (work .entry)) n claim) ⌝ }
+    ensures { λ v. ⌜ verdict-of v ≡ compare held
+        (bb (moved-bits (zero-extension k (kept-width job work n x)) (kept-bits job work n x)))
+        (kept-term job work n claim) ⌝ }
 {
     let w = width_at(job, work, n, x);
     let size = w + k as usize;
@@ -78,7 +83,7 @@ fn zero_extend_check(job: &[u8], work: &[u8], n: usize, k: u32, x: u32, claim: u
 // zero_extend: (= ((_ zero_extend k) x) claim).
 pub fn zero_extend(job: &[u8], work: &[u8], n: usize, literal: u32) -> Verdict
     requires { ⌜ Store (now job) (now work) n × (literal < first-terms + n) ⌝ }
-    ensures { λ v. ⌜ verdict-of v ≡ verdict by-zero-extend (tree (now (job .entry)) (now (work .entry)) n literal) ⌝ }
+    ensures { λ v. ⌜ verdict-of v ≡ verdict by-zero-extend (kept-term job work n literal) ⌝ }
 {
     let Term::Equals(l, r) = term_at(job, work, n, literal) else {
         return Verdict::WrongForm;
@@ -92,7 +97,9 @@ pub fn zero_extend(job: &[u8], work: &[u8], n: usize, literal: u32) -> Verdict
 // The claim is the term of x's bits, k places up, the top ones coming in below.
 fn rotate_left_check(job: &[u8], work: &[u8], n: usize, k: u32, x: u32, claim: u32) -> Verdict
     requires { ⌜ One (now job) (now work) n x claim ⌝ }
-    ensures { λ v. ⌜ verdict-of v ≡ compare held (bb (moved-bits (left-rotation k (width-in (now (job .entry)) (now (work .entry)) n x)) (get-term-bits (tree (now (job .entry)) (now (work .entry)) n x)))) (tree (now (job .entry)) (now (work .entry)) n claim) ⌝ }
+    ensures { λ v. ⌜ verdict-of v ≡ compare held
+        (bb (moved-bits (left-rotation k (kept-width job work n x)) (kept-bits job work n x)))
+        (kept-term job work n claim) ⌝ }
 {
     let w = width_at(job, work, n, x);
     let shift = w - k as usize % w;
@@ -102,7 +109,7 @@ fn rotate_left_check(job: &[u8], work: &[u8], n: usize, k: u32, x: u32, claim: u
 // rotate_left: (= ((_ rotate_left k) x) claim).
 pub fn rotate_left(job: &[u8], work: &[u8], n: usize, literal: u32) -> Verdict
     requires { ⌜ Store (now job) (now work) n × (literal < first-terms + n) ⌝ }
-    ensures { λ v. ⌜ verdict-of v ≡ verdict by-rotate-left (tree (now (job .entry)) (now (work .entry)) n literal) ⌝ }
+    ensures { λ v. ⌜ verdict-of v ≡ verdict by-rotate-left (kept-term job work n literal) ⌝ }
 {
     let Term::Equals(l, r) = term_at(job, work, n, literal) else {
         return Verdict::WrongForm;
@@ -116,7 +123,9 @@ pub fn rotate_left(job: &[u8], work: &[u8], n: usize, literal: u32) -> Verdict
 // The claim is the term of x's bits, k places down, the low ones coming in above.
 fn rotate_right_check(job: &[u8], work: &[u8], n: usize, k: u32, x: u32, claim: u32) -> Verdict
     requires { ⌜ One (now job) (now work) n x claim ⌝ }
-    ensures { λ v. ⌜ verdict-of v ≡ compare held (bb (moved-bits (right-rotation k (width-in (now (job .entry)) (now (work .entry)) n x)) (get-term-bits (tree (now (job .entry)) (now (work .entry)) n x)))) (tree (now (job .entry)) (now (work .entry)) n claim) ⌝ }
+    ensures { λ v. ⌜ verdict-of v ≡ compare held
+        (bb (moved-bits (right-rotation k (kept-width job work n x)) (kept-bits job work n x)))
+        (kept-term job work n claim) ⌝ }
 {
     let w = width_at(job, work, n, x);
     let shift = k as usize % w;
@@ -126,7 +135,7 @@ fn rotate_right_check(job: &[u8], work: &[u8], n: usize, k: u32, x: u32, claim: 
 // rotate_right: (= ((_ rotate_right k) x) claim).
 pub fn rotate_right(job: &[u8], work: &[u8], n: usize, literal: u32) -> Verdict
     requires { ⌜ Store (now job) (now work) n × (literal < first-terms + n) ⌝ }
-    ensures { λ v. ⌜ verdict-of v ≡ verdict by-rotate-right (tree (now (job .entry)) (now (work .entry)) n literal) ⌝ }
+    ensures { λ v. ⌜ verdict-of v ≡ verdict by-rotate-right (kept-term job work n literal) ⌝ }
 {
     let Term::Equals(l, r) = term_at(job, work, n, literal) else {
         return Verdict::WrongForm;
@@ -140,7 +149,9 @@ pub fn rotate_right(job: &[u8], work: &[u8], n: usize, literal: u32) -> Verdict
 // The claim is the term of x's bits, k copies.
 fn repeat_check(job: &[u8], work: &[u8], n: usize, k: u32, x: u32, claim: u32) -> Verdict
     requires { ⌜ Copies (now job) (now work) n k x claim ⌝ }
-    ensures { λ v. ⌜ verdict-of v ≡ compare held (bb (moved-bits (repetition k (width-in (now (job .entry)) (now (work .entry)) n x)) (get-term-bits (tree (now (job .entry)) (now (work .entry)) n x)))) (tree (now (job .entry)) (now (work .entry)) n claim) ⌝ }
+    ensures { λ v. ⌜ verdict-of v ≡ compare held
+        (bb (moved-bits (repetition k (kept-width job work n x)) (kept-bits job work n x)))
+        (kept-term job work n claim) ⌝ }
 {
     let w = width_at(job, work, n, x);
     let size = k as usize * w;
@@ -150,7 +161,7 @@ fn repeat_check(job: &[u8], work: &[u8], n: usize, k: u32, x: u32, claim: u32) -
 // repeat: (= ((_ repeat k) x) claim).
 pub fn repeat(job: &[u8], work: &[u8], n: usize, literal: u32) -> Verdict
     requires { ⌜ Store (now job) (now work) n × (literal < first-terms + n) ⌝ }
-    ensures { λ v. ⌜ verdict-of v ≡ verdict by-repeat (tree (now (job .entry)) (now (work .entry)) n literal) ⌝ }
+    ensures { λ v. ⌜ verdict-of v ≡ verdict by-repeat (kept-term job work n literal) ⌝ }
 {
     let Term::Equals(l, r) = term_at(job, work, n, literal) else {
         return Verdict::WrongForm;

@@ -1,20 +1,20 @@
 // The rules extract, sign_extend and concat: bits that are copied, and no gates.
 ghost use mathlib.Core.Path.{_≡_};
 ghost use mathlib.Core.Bool.{cond};
-ghost use mathlib.Core.List.{map};
 ghost use Prim.Native.Nat.{_+_, _<_, _≤_};
 ghost use lib.Dec.{eqb};
 ghost use lib.ListN.{drop};
 ghost use lib.Seq.{paste};
 ghost use Rattle.theory.specs.Limit.{first-terms, max-width};
-ghost use Rattle.theory.specs.Bits.{get-term-bits, bb, extract-bits, concat-bits, extend-bits};
+ghost use Rattle.theory.specs.Bits.{bb, extract-bits, concat-bits, extend-bits};
 ghost use Rattle.theory.specs.Verdict.{held};
 ghost use Rattle.theory.specs.RuleTable.{by-extract, by-concat, by-sign-extend};
 ghost use Rattle.theory.specs.Rule.{compare, verdict};
-ghost use Rattle.terms.specs.Decoded.{words-in};
 ghost use Rattle.store.specs.Store.{Store};
-ghost use Rattle.operand_rules.specs.Rules.{tree, verdict-of};
+ghost use Rattle.store.specs.Lent.{kept-term, kept-bits, kept-arguments};
+ghost use Rattle.operand_rules.specs.Rules.{verdict-of};
 ghost use Rattle.slice_rules.specs.Given.{Extract, Extend, Concat};
+use circuits::bits::Bits;
 use circuits::bits::MAX_BITS;
 use operand_rules::Verdict;
 use operand_rules::bits::compare_bits;
@@ -25,13 +25,7 @@ use terms::Args;
 use terms::Term;
 
 // `out` with `count` bits of xs, those from `from` on, in the places from `start` on.
-fn put_bits(
-    out: [u32; MAX_BITS],
-    start: usize,
-    xs: [u32; MAX_BITS],
-    from: usize,
-    count: usize,
-) -> [u32; MAX_BITS]
+fn put_bits(out: Bits, start: usize, xs: Bits, from: usize, count: usize) -> Bits
     requires { ⌜ (start + count ≤ max-width) × (from + count ≤ max-width) ⌝ }
     ensures { λ r. ⌜ r ≡ paste out start (drop from xs) count ⌝ }
 {
@@ -47,7 +41,8 @@ fn put_bits(
 // The claim is the term of the bits j to i of x.
 fn extract_check(job: &[u8], work: &[u8], n: usize, i: u32, j: u32, x: u32, claim: u32) -> Verdict
     requires { ⌜ Extract (now job) (now work) n i j x claim ⌝ }
-    ensures { λ v. ⌜ verdict-of v ≡ compare held (bb (extract-bits i j (get-term-bits (tree (now (job .entry)) (now (work .entry)) n x)))) (tree (now (job .entry)) (now (work .entry)) n claim) ⌝ }
+    ensures { λ v. ⌜ verdict-of v ≡ compare held
+        (bb (extract-bits i j (kept-bits job work n x))) (kept-term job work n claim) ⌝ }
 {
     let w = width_at(job, work, n, x);
     let xs = get_term_bits(job, work, n, x, w);
@@ -60,7 +55,7 @@ fn extract_check(job: &[u8], work: &[u8], n: usize, i: u32, j: u32, x: u32, clai
 // extract: (= ((_ extract i j) x) claim), the claim a BvBbTerm.
 pub fn extract(job: &[u8], work: &[u8], n: usize, literal: u32) -> Verdict
     requires { ⌜ Store (now job) (now work) n × (literal < first-terms + n) ⌝ }
-    ensures { λ v. ⌜ verdict-of v ≡ verdict by-extract (tree (now (job .entry)) (now (work .entry)) n literal) ⌝ }
+    ensures { λ v. ⌜ verdict-of v ≡ verdict by-extract (kept-term job work n literal) ⌝ }
 {
     let Term::Equals(l, r) = term_at(job, work, n, literal) else {
         return Verdict::WrongForm;
@@ -77,7 +72,9 @@ pub fn extract(job: &[u8], work: &[u8], n: usize, literal: u32) -> Verdict
 // The claim is x itself where k is 0, else the term of its bits and k copies of the top one.
 fn sign_extend_check(job: &[u8], work: &[u8], n: usize, k: u32, x: u32, claim: u32) -> Verdict
     requires { ⌜ Extend (now job) (now work) n k x claim ⌝ }
-    ensures { λ v. ⌜ verdict-of v ≡ compare held (cond (eqb k 0) (tree (now (job .entry)) (now (work .entry)) n x) (bb (extend-bits k (get-term-bits (tree (now (job .entry)) (now (work .entry)) n x))))) (tree (now (job .entry)) (now (work .entry)) n claim) ⌝ }
+    ensures { λ v. ⌜ verdict-of v ≡ compare held
+        (cond (eqb k 0) (kept-term job work n x) (bb (extend-bits k (kept-bits job work n x))))
+        (kept-term job work n claim) ⌝ }
 {
     if k == 0 {
         return operand_rules::compare(x, claim);
@@ -92,7 +89,7 @@ fn sign_extend_check(job: &[u8], work: &[u8], n: usize, k: u32, x: u32, claim: u
 // sign_extend: (= ((_ sign_extend k) x) claim).
 pub fn sign_extend(job: &[u8], work: &[u8], n: usize, literal: u32) -> Verdict
     requires { ⌜ Store (now job) (now work) n × (literal < first-terms + n) ⌝ }
-    ensures { λ v. ⌜ verdict-of v ≡ verdict by-sign-extend (tree (now (job .entry)) (now (work .entry)) n literal) ⌝ }
+    ensures { λ v. ⌜ verdict-of v ≡ verdict by-sign-extend (kept-term job work n literal) ⌝ }
 {
     let Term::Equals(l, r) = term_at(job, work, n, literal) else {
         return Verdict::WrongForm;
@@ -106,7 +103,8 @@ pub fn sign_extend(job: &[u8], work: &[u8], n: usize, literal: u32) -> Verdict
 // The claim is the term of all arguments' bits, the last argument's first.
 fn concat_check(job: &[u8], work: &[u8], n: usize, list: Args, claim: u32) -> Verdict
     requires { ⌜ Concat (now job) (now work) n list claim ⌝ }
-    ensures { λ v. ⌜ verdict-of v ≡ compare held (bb (concat-bits (map (tree (now (job .entry)) (now (work .entry)) n) (words-in (now (job .entry)) list)))) (tree (now (job .entry)) (now (work .entry)) n claim) ⌝ }
+    ensures { λ v. ⌜ verdict-of v ≡ compare held
+        (bb (concat-bits (kept-arguments job work n list))) (kept-term job work n claim) ⌝ }
 {
     let mut bits = [0u32; MAX_BITS];
     let mut w: usize = 0;
@@ -126,7 +124,7 @@ fn concat_check(job: &[u8], work: &[u8], n: usize, list: Args, claim: u32) -> Ve
 // concat: (= (concat x y ..) claim), the claim a BvBbTerm.
 pub fn concat(job: &[u8], work: &[u8], n: usize, literal: u32) -> Verdict
     requires { ⌜ Store (now job) (now work) n × (literal < first-terms + n) ⌝ }
-    ensures { λ v. ⌜ verdict-of v ≡ verdict by-concat (tree (now (job .entry)) (now (work .entry)) n literal) ⌝ }
+    ensures { λ v. ⌜ verdict-of v ≡ verdict by-concat (kept-term job work n literal) ⌝ }
 {
     let Term::Equals(l, r) = term_at(job, work, n, literal) else {
         return Verdict::WrongForm;

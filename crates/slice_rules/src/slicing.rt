@@ -1,16 +1,14 @@
 // The rule bitwise_slicing.
 ghost use mathlib.Core.Path.{_≡_};
-ghost use mathlib.Core.List.{map};
 ghost use Prim.Native.Nat.{_+_, _<_};
 ghost use Rattle.theory.specs.Limit.{first-terms};
-ghost use Rattle.theory.specs.Sort.{sort-of, sort-width};
 ghost use Rattle.theory.specs.RuleTable.{by-bitwise-slicing};
 ghost use Rattle.theory.specs.Rule.{slice-verdict, slices-verdict, verdict};
 ghost use Rattle.terms.specs.declared.Operands.the-variants.{List as Listed};
-ghost use Rattle.terms.specs.Decoded.{words-in};
 ghost use Rattle.store.specs.Store.{Store};
 ghost use Rattle.store.specs.Sorts.{Arguments};
-ghost use Rattle.operand_rules.specs.Rules.{tree, verdict-of};
+ghost use Rattle.store.specs.Lent.{kept-term, kept-width, kept-arguments};
+ghost use Rattle.operand_rules.specs.Rules.{verdict-of};
 ghost use Rattle.slice_rules.specs.Slices.{Conjunction, number-tests, Answers};
 use operand_rules::Verdict;
 use store::sorts::sort_at;
@@ -73,7 +71,8 @@ fn slice_check(a: u32, c: u32, done: usize, i: u32, j: u32, x: u32, k: u32, m: u
 fn next_slice(job: &[u8], work: &[u8], n: usize, a: u32, c: u32, done: usize, slice: u32) -> Slice
     requires { ⌜ Store (now job) (now work) n × (slice < first-terms + n) ⌝ }
     requires { ⌜ (a < first-terms + n) × (c < first-terms + n) ⌝ }
-    ensures { λ r. ⌜ Answers r (slice-verdict done (tree (now (job .entry)) (now (work .entry)) n a) (tree (now (job .entry)) (now (work .entry)) n c) (tree (now (job .entry)) (now (work .entry)) n slice)) ⌝ }
+    ensures { λ r. ⌜ Answers r
+        (slice-verdict done (kept-term job work n a) (kept-term job work n c) (kept-term job work n slice)) ⌝ }
 {
     let Pair::Two(p, q) = and_pair(job, work, n, slice) else {
         return Slice::Refused(Verdict::WrongForm);
@@ -91,7 +90,8 @@ fn next_slice(job: &[u8], work: &[u8], n: usize, a: u32, c: u32, done: usize, sl
 fn slices_check(job: &[u8], work: &[u8], n: usize, a: u32, c: u32, list: Args) -> Verdict
     requires { ⌜ Arguments (now job) (now work) n (Listed list) ⌝ }
     requires { ⌜ (a < first-terms + n) × (c < first-terms + n) ⌝ }
-    ensures { λ v. ⌜ verdict-of v ≡ slices-verdict (tree (now (job .entry)) (now (work .entry)) n a) (tree (now (job .entry)) (now (work .entry)) n c) (sort-width (sort-of (tree (now (job .entry)) (now (work .entry)) n c))) (map (tree (now (job .entry)) (now (work .entry)) n) (words-in (now (job .entry)) list)) ⌝ }
+    ensures { λ v. ⌜ verdict-of v ≡ slices-verdict (kept-term job work n a) (kept-term job work n c)
+        (kept-width job work n c) (kept-arguments job work n list) ⌝ }
 {
     let mut done = width_of(sort_at(job, work, n, c)) as usize;
     let count = list.count;
@@ -115,7 +115,7 @@ fn slices_check(job: &[u8], work: &[u8], n: usize, a: u32, c: u32, list: Args) -
 // bitwise_slicing: (= (bvand a c) (concat (bvand ((_ extract i j) a) ((_ extract i j) c)) ..)).
 pub fn bitwise_slicing(job: &[u8], work: &[u8], n: usize, literal: u32) -> Verdict
     requires { ⌜ Store (now job) (now work) n × (literal < first-terms + n) ⌝ }
-    ensures { λ v. ⌜ verdict-of v ≡ verdict by-bitwise-slicing (tree (now (job .entry)) (now (work .entry)) n literal) ⌝ }
+    ensures { λ v. ⌜ verdict-of v ≡ verdict by-bitwise-slicing (kept-term job work n literal) ⌝ }
 {
     let Term::Equals(l, r) = term_at(job, work, n, literal) else {
         return Verdict::WrongForm;
