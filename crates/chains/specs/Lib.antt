@@ -1,2 +1,3 @@
 -- What the contracts of `chains` cite.
 pub mod Premises
+pub mod Told

@@ -1,14 +1,12 @@
 // The three rules, on the numbers of terms: equal terms have equal numbers.
 ghost use mathlib.Core.Path.{_≡_};
-ghost use mathlib.Core.List.{map};
 ghost use Prim.Native.Nat.{_<_};
-ghost use lib.ListN.{getD};
 ghost use Rattle.theory.specs.Term.{same-op};
 ghost use Rattle.theory.specs.RuleTable.{by-symm, by-trans, by-cong};
-ghost use Rattle.terms.specs.Decoded.{words-in, op-of, numbers-of};
-ghost use Rattle.store.specs.Store.{listed};
-ghost use Rattle.operand_rules.specs.Rules.{tree};
-ghost use Rattle.chains.specs.Premises.{earlier-in, sides-in, is-equality, leads-in, argued, joins-in, Joining, Arguing};
+ghost use Rattle.terms.specs.Decoded.{op-of, numbers-of};
+ghost use Rattle.store.specs.Lent.{kept-terms, kept-term};
+ghost use Rattle.chains.specs.Premises.{is-equality, leads-in, argued, Joining, Arguing};
+ghost use Rattle.chains.specs.Told.{sides-told, all-sides-told, joins-told};
 use crate::premises::Sides;
 use crate::premises::sides_at;
 use intern::arguments::count;
@@ -31,7 +29,8 @@ fn shows(
     r: u32,
 ) -> bool
     requires { ⌜ Joining (now job) (now work) (now answers) n answered premises l r × (i < premises .count) ⌝ }
-    ensures { λ t. ⌜ t ≡ is-equality (tree (now (job .entry)) (now (work .entry)) n l) (tree (now (job .entry)) (now (work .entry)) n r) (sides-in (earlier-in (now (job .entry)) (now (work .entry)) (now (answers .entry)) n answered) (listed (now (job .entry)) (now (work .entry)) n) (getD (words-in (now (job .entry)) premises) i 0)) ⌝ }
+    ensures { λ t. ⌜ t ≡ is-equality (kept-term job work n l) (kept-term job work n r)
+        (sides-told job work answers n answered premises i) ⌝ }
 {
     let Sides::Of(a, b) = sides_at(job, work, answers, n, answered, premises, i) else {
         return false;
@@ -54,7 +53,7 @@ pub fn symm(
     r: u32,
 ) -> bool
     requires { ⌜ Joining (now job) (now work) (now answers) n answered premises l r ⌝ }
-    ensures { λ t. ⌜ t ≡ joins-in by-symm (earlier-in (now (job .entry)) (now (work .entry)) (now (answers .entry)) n answered) (listed (now (job .entry)) (now (work .entry)) n) (words-in (now (job .entry)) premises) (tree (now (job .entry)) (now (work .entry)) n l) (tree (now (job .entry)) (now (work .entry)) n r) ⌝ }
+    ensures { λ t. ⌜ t ≡ joins-told job work answers n answered by-symm premises l r ⌝ }
 {
     if premises.count != 1 {
         return false;
@@ -74,7 +73,8 @@ fn leads(
     r: u32,
 ) -> bool
     requires { ⌜ Joining (now job) (now work) (now answers) n answered premises l r ⌝ }
-    ensures { λ t. ⌜ t ≡ leads-in (tree (now (job .entry)) (now (work .entry)) n l) (map (sides-in (earlier-in (now (job .entry)) (now (work .entry)) (now (answers .entry)) n answered) (listed (now (job .entry)) (now (work .entry)) n)) (words-in (now (job .entry)) premises)) (tree (now (job .entry)) (now (work .entry)) n r) ⌝ }
+    ensures { λ t. ⌜ t ≡ leads-in (kept-term job work n l)
+        (all-sides-told job work answers n answered premises) (kept-term job work n r) ⌝ }
 {
     let end = premises.count;
     let mut at = l;
@@ -104,7 +104,7 @@ pub fn trans(
     r: u32,
 ) -> bool
     requires { ⌜ Joining (now job) (now work) (now answers) n answered premises l r ⌝ }
-    ensures { λ t. ⌜ t ≡ joins-in by-trans (earlier-in (now (job .entry)) (now (work .entry)) (now (answers .entry)) n answered) (listed (now (job .entry)) (now (work .entry)) n) (words-in (now (job .entry)) premises) (tree (now (job .entry)) (now (work .entry)) n l) (tree (now (job .entry)) (now (work .entry)) n r) ⌝ }
+    ensures { λ t. ⌜ t ≡ joins-told job work answers n answered by-trans premises l r ⌝ }
 {
     if premises.count < 2 {
         return false;
@@ -139,7 +139,8 @@ fn argument_wise(
     ys: Operands,
 ) -> bool
     requires { ⌜ Arguing (now job) (now work) (now answers) n answered premises xs ys ⌝ }
-    ensures { λ t. ⌜ t ≡ argued (listed (now (job .entry)) (now (work .entry)) n) (map (sides-in (earlier-in (now (job .entry)) (now (work .entry)) (now (answers .entry)) n answered) (listed (now (job .entry)) (now (work .entry)) n)) (words-in (now (job .entry)) premises)) (numbers-of (now (job .entry)) xs) (numbers-of (now (job .entry)) ys) ⌝ }
+    ensures { λ t. ⌜ t ≡ argued (kept-terms job work n) (all-sides-told job work answers n answered premises)
+        (numbers-of (now (job .entry)) xs) (numbers-of (now (job .entry)) ys) ⌝ }
 {
     let end = premises.count;
     if count(xs) != end {
@@ -180,7 +181,7 @@ pub fn cong(
     r: u32,
 ) -> bool
     requires { ⌜ Joining (now job) (now work) (now answers) n answered premises l r ⌝ }
-    ensures { λ t. ⌜ t ≡ joins-in by-cong (earlier-in (now (job .entry)) (now (work .entry)) (now (answers .entry)) n answered) (listed (now (job .entry)) (now (work .entry)) n) (words-in (now (job .entry)) premises) (tree (now (job .entry)) (now (work .entry)) n l) (tree (now (job .entry)) (now (work .entry)) n r) ⌝ }
+    ensures { λ t. ⌜ t ≡ joins-told job work answers n answered by-cong premises l r ⌝ }
 {
     let s = term_at(job, work, n, l);
     let t = term_at(job, work, n, r);

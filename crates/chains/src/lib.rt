@@ -8,11 +8,12 @@ ghost use mathlib.Core.Option.{some};
 ghost use Rattle.theory.specs.Optional.{is-some};
 ghost use Rattle.theory.specs.Verdict.{wrong-form, premise-broken};
 ghost use Rattle.theory.specs.RuleTable.{ChainRule, chain-rule-at};
-ghost use Rattle.theory.specs.Chain.{joined, premises-at};
-ghost use Rattle.terms.specs.Decoded.{words-in, Inside};
-ghost use Rattle.store.specs.Store.{listed};
-ghost use Rattle.operand_rules.specs.Rules.{tree, verdict-of};
-ghost use Rattle.chains.specs.Premises.{earlier-in, joins-in, Noted, Claimed, Joining};
+ghost use Rattle.theory.specs.Chain.{joined};
+ghost use Rattle.terms.specs.Decoded.{Inside};
+ghost use Rattle.store.specs.Lent.{kept-term};
+ghost use Rattle.operand_rules.specs.Rules.{verdict-of};
+ghost use Rattle.chains.specs.Premises.{Noted, Claimed, Joining};
+ghost use Rattle.chains.specs.Told.{premises-told, joins-told};
 use crate::joining::cong;
 use crate::joining::symm;
 use crate::joining::trans;
@@ -40,7 +41,8 @@ fn joins_by(
     r: u32,
 ) -> bool
     requires { ⌜ Joining (now job) (now work) (now answers) n answered premises l r ⌝ }
-    ensures { λ t. ⌜ ((by : ChainRule) → chain-rule-at rule ≡ some by → t ≡ joins-in by (earlier-in (now (job .entry)) (now (work .entry)) (now (answers .entry)) n answered) (listed (now (job .entry)) (now (work .entry)) n) (words-in (now (job .entry)) premises) (tree (now (job .entry)) (now (work .entry)) n l) (tree (now (job .entry)) (now (work .entry)) n r)) ⌝ }
+    ensures { λ t. ⌜ ((by : ChainRule) → chain-rule-at rule ≡ some by
+        → t ≡ joins-told job work answers n answered by premises l r) ⌝ }
 {
     if rule == SYMM {
         return symm(job, work, answers, n, answered, premises, l, r);
@@ -61,7 +63,8 @@ fn refused(
     premises: Args,
 ) -> Verdict
     requires { ⌜ Noted (now job) (now work) (now answers) n answered × Inside (now job) premises ⌝ }
-    ensures { λ v. ⌜ verdict-of v ≡ cond (is-some (premises-at (earlier-in (now (job .entry)) (now (work .entry)) (now (answers .entry)) n answered) (listed (now (job .entry)) (now (work .entry)) n) (words-in (now (job .entry)) premises))) wrong-form premise-broken ⌝ }
+    ensures { λ v. ⌜ verdict-of v
+        ≡ cond (is-some (premises-told job work answers n answered premises)) wrong-form premise-broken ⌝ }
 {
     if all_stand(job, work, answers, n, answered, premises) {
         Verdict::WrongForm
@@ -82,7 +85,8 @@ pub fn chain_verdict(
     literal: u32,
 ) -> Verdict
     requires { ⌜ Claimed (now job) (now work) (now answers) n answered premises literal ⌝ }
-    ensures { λ v. ⌜ ((by : ChainRule) → chain-rule-at rule ≡ some by → verdict-of v ≡ joined by (premises-at (earlier-in (now (job .entry)) (now (work .entry)) (now (answers .entry)) n answered) (listed (now (job .entry)) (now (work .entry)) n) (words-in (now (job .entry)) premises)) (tree (now (job .entry)) (now (work .entry)) n literal)) ⌝ }
+    ensures { λ v. ⌜ ((by : ChainRule) → chain-rule-at rule ≡ some by → verdict-of v
+        ≡ joined by (premises-told job work answers n answered premises) (kept-term job work n literal)) ⌝ }
 {
     let Term::Equals(l, r) = term_at(job, work, n, literal) else {
         return refused(job, work, answers, n, answered, premises);

@@ -2,15 +2,15 @@
 ghost use mathlib.Core.Path.{_≡_};
 ghost use mathlib.Core.Bool.{true};
 ghost use Prim.Native.Nat.{_+_, _*_, _≤_, _<_};
-ghost use lib.ListN.{length, drop, getD};
+ghost use lib.ListN.{length, drop};
 ghost use Rattle.theory.specs.Limit.{first-terms};
 ghost use Rattle.rows.specs.Layout.{link-size, row-size};
 ghost use Rattle.theory.specs.Optional.{is-some};
 ghost use Rattle.theory.specs.Record.{whole};
-ghost use Rattle.theory.specs.Chain.{premise-place, premises-at};
-ghost use Rattle.terms.specs.Decoded.{words-in, Inside};
-ghost use Rattle.store.specs.Store.{listed};
-ghost use Rattle.chains.specs.Premises.{claimed-at, earlier-in, literal-of, origin-before, sides-in, sides-of, sides-below, Noted};
+ghost use Rattle.theory.specs.Chain.{premise-place};
+ghost use Rattle.terms.specs.Decoded.{Inside};
+ghost use Rattle.chains.specs.Premises.{claimed-at, literal-of, origin-before, sides-below, Noted};
+ghost use Rattle.chains.specs.Told.{earlier-told, premises-told, sides-told, kept-sides};
 use rows::FIRST_PLACE;
 use rows::offset_at;
 use steps::answers::code_at;
@@ -78,7 +78,7 @@ pub fn premise_at(
     number: u32,
 ) -> Premise
     requires { ⌜ Noted (now job) (now work) (now answers) n answered ⌝ }
-    ensures { λ r. ⌜ literal-of r ≡ premise-place (earlier-in (now (job .entry)) (now (work .entry)) (now (answers .entry)) n answered) number ⌝ }
+    ensures { λ r. ⌜ literal-of r ≡ premise-place (earlier-told job work answers n answered) number ⌝ }
 {
     if number == 0 {
         return Premise::Broken;
@@ -112,7 +112,7 @@ pub fn all_stand(
     premises: Args,
 ) -> bool
     requires { ⌜ Noted (now job) (now work) (now answers) n answered × Inside (now job) premises ⌝ }
-    ensures { λ r. ⌜ r ≡ is-some (premises-at (earlier-in (now (job .entry)) (now (work .entry)) (now (answers .entry)) n answered) (listed (now (job .entry)) (now (work .entry)) n) (words-in (now (job .entry)) premises)) ⌝ }
+    ensures { λ r. ⌜ r ≡ is-some (premises-told job work answers n answered premises) ⌝ }
 {
     let count = premises.count;
     let mut i: usize = 0;
@@ -142,9 +142,10 @@ pub fn sides_at(
     premises: Args,
     i: usize,
 ) -> Sides
-    requires { ⌜ Noted (now job) (now work) (now answers) n answered × Inside (now job) premises × (i < premises .count) ⌝ }
+    requires { ⌜ Noted (now job) (now work) (now answers) n answered
+        × Inside (now job) premises × (i < premises .count) ⌝ }
     ensures below { λ r. ⌜ sides-below (first-terms + n) r ⌝ }
-    ensures sides { λ r. ⌜ sides-of (now (job .entry)) (now (work .entry)) n r ≡ sides-in (earlier-in (now (job .entry)) (now (work .entry)) (now (answers .entry)) n answered) (listed (now (job .entry)) (now (work .entry)) n) (getD (words-in (now (job .entry)) premises) i 0) ⌝ }
+    ensures sides { λ r. ⌜ kept-sides job work n r ≡ sides-told job work answers n answered premises i ⌝ }
 {
     let Premise::Literal(p) = premise_at(
         job,

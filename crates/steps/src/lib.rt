@@ -3,7 +3,6 @@ pub mod answers;
 
 ghost use mathlib.Core.Path.{_≡_};
 ghost use mathlib.Core.Bool.{true};
-ghost use mathlib.Core.List.{map};
 ghost use mathlib.Core.Option.{some};
 ghost use Prim.Native.Nat.{_+_, _<_};
 ghost use Rattle.theory.specs.Limit.{first-terms};
@@ -11,10 +10,9 @@ ghost use Rattle.theory.specs.Verdict.{code-of};
 ghost use Rattle.theory.specs.Optional.{is-some};
 ghost use Rattle.theory.specs.RuleTable.{Rule, rule-at};
 ghost use Rattle.theory.specs.Job.{answer-to};
-ghost use Rattle.theory.specs.Places.{tree-at};
-ghost use Rattle.terms.specs.Decoded.{words-in};
-ghost use Rattle.store.specs.Store.{Store, listed};
-ghost use Rattle.operand_rules.specs.Rules.{tree, verdict-of};
+ghost use Rattle.store.specs.Store.{Store};
+ghost use Rattle.store.specs.Lent.{kept-term, kept-arguments};
+ghost use Rattle.operand_rules.specs.Rules.{verdict-of};
 ghost use Rattle.steps.specs.Answering.{given, equation-depth, Literals, Judged};
 use crate::answers::Reply;
 use rules::Verdict;
@@ -49,7 +47,7 @@ fn code(v: Verdict) -> u32
 // The depth of the right side of a literal that is an equation, and 0 of any other.
 fn right_depth(job: &[u8], work: &[u8], n: usize, literal: u32) -> usize
     requires { ⌜ Store (now job) (now work) n × (literal < first-terms + n) ⌝ }
-    ensures { λ r. ⌜ r ≡ equation-depth (tree (now (job .entry)) (now (work .entry)) n literal) ⌝ }
+    ensures { λ r. ⌜ r ≡ equation-depth (kept-term job work n literal) ⌝ }
 {
     let Term::Equals(_, r) = term_at(job, work, n, literal) else {
         return 0;
@@ -60,7 +58,7 @@ fn right_depth(job: &[u8], work: &[u8], n: usize, literal: u32) -> usize
 // The answer with that verdict on a literal.
 pub fn judge(job: &[u8], work: &[u8], n: usize, literal: u32, v: Verdict) -> Reply
     requires { ⌜ Store (now job) (now work) n × (literal < first-terms + n) ⌝ }
-    ensures { λ r. ⌜ Judged (verdict-of v) (tree (now (job .entry)) (now (work .entry)) n literal) r ⌝ }
+    ensures { λ r. ⌜ Judged (verdict-of v) (kept-term job work n literal) r ⌝ }
 {
     let code = code(v);
     if NOT_ONE_LITERAL <= code {
@@ -78,7 +76,8 @@ pub fn judge(job: &[u8], work: &[u8], n: usize, literal: u32, v: Verdict) -> Rep
 // The answer of a rule to a clause; there is such a rule.
 pub fn answer(job: &[u8], work: &[u8], n: usize, rule: u32, literals: Args) -> Reply
     requires { ⌜ Literals (now job) (now work) n literals × (is-some (rule-at rule) ≡ true) ⌝ }
-    ensures { λ r. ⌜ ((by : Rule) → rule-at rule ≡ some by → given rule r ≡ answer-to rule by (map (tree-at (listed (now (job .entry)) (now (work .entry)) n)) (words-in (now (job .entry)) literals))) ⌝ }
+    ensures { λ r. ⌜ ((by : Rule) → rule-at rule ≡ some by
+        → given rule r ≡ answer-to rule by (kept-arguments job work n literals)) ⌝ }
 {
     let count = literals.count;
     if count != 1 {
