@@ -185,7 +185,7 @@ module _ {job work : Bytes} {n : ℕ} {num : ℕ → ℕ} (op : Many) (ks : List
       ∙ folded-meaning ρ ks some-first ∙ ap (meaning ρ (many-op op)) (vals-back ρ ks (g .below) a))
 
 -- ---- a list in the job has as many numbers as it says
-count-is : (job : Bytes) (a : Args) → length (words-in job a) ≡ a .count
+pub count-is : (job : Bytes) (a : Args) → length (words-in job a) ≡ a .count
 count-is job a = words-length (a .bytes) (a .count) (drop (a .at) job)
 
 module _ {job work : Bytes} {n : ℕ} {num : ℕ → ℕ} (op : Many) (a : Args) (g : GivenList job work n num (many-op op) a) where

@@ -22,7 +22,7 @@ use Rattle.store.specs.Store.{listed}
 use Rattle.store.specs.Shelf.{args-at}
 use Rattle.sweeps.specs.Variables.{is-variable}
 use Rattle.sweeps.specs.Sweep.{as-number}
-use Rattle.evaluation.specs.Cells.{AllRight, Given, Comes, Evaluated, Decodable}
+use Rattle.evaluation.specs.Cells.{AllRight, sorts-on, Given, Comes, Evaluated, Decodable}
 use Rattle.evaluation.proofs.PlaceLaws.{place-good}
 
 -- a fold of the terms at places
@@ -43,13 +43,17 @@ module _ {job work : Bytes} {n : ℕ} {num : ℕ → ℕ} {place : ℕ} {t : Dec
     args : arguments-of job u ≡ args-at (number-length job) (listed job work n) place
     args = ap (arguments-of job) (sym e) ∙ d .term .args-are
 
+    -- its sort comes from its arguments'
+    pub sort-made : sort-of (tree-at (listed job work n) place) ≡ sort-op (op-of u) (sorts-on (listed job work n) (arguments-of job u))
+    sort-made = ap sort-of made ∙ fold-of sort-op (listed job work n) (op-of u) (arguments-of job u)
+
     -- its arguments may be evaluated
     pub given-at : Given job work n num (op-of u) (arguments-of job u)
     given-at = record {
       able = d .able;
       below = more-below place (first-terms + n) (omega (arith, d .low)) (arguments-of job u)
           (subst (λ (z : Decoded). T (all-below place (arguments-of job z))) e (true-T _ (d .term .term-at .below)));
-      sorted = subst (λ (s : Sort). T (good s)) (ap sort-of made ∙ fold-of sort-op (listed job work n) (op-of u) (arguments-of job u)) (place-good (d .able) place (d .low));
+      sorted = subst (λ (s : Sort). T (good s)) sort-made (place-good (d .able) place (d .low));
     }
 
     -- and what they come to is its value
