@@ -21,7 +21,8 @@ use Rattle.terms.specs.Decoded.{words-in, numbers-of}
 use Rattle.rows.specs.Layout.{link-at, row-size, link-size}
 use Rattle.rows.specs.Rows.{stored-link}
 use Rattle.rows.proofs.RowLaws.{link-whole, row-before, length-linked, link-here, link-other, offset-linked, measure-linked}
-use Rattle.marks.specs.Marks.{mark-of, Room, Rooms, Kept, Cleared, Set, SetAll}
+use Rattle.store.specs.Shelf.{Shelf}
+use Rattle.marks.specs.Marks.{mark-of, Room, Rooms, Kept, Cleared, Set, SetAll, Marks, LinksFree}
 
 pub kept-self : (job work : Bytes) → Kept job work work
 kept-self job work = record { offset = λ k. refl; measure = λ k. refl; length-is = refl }
@@ -225,3 +226,12 @@ count-is job a = words-length (a .bytes) (a .count) (drop (a .at) job)
 -- in a case of the arguments
 pub ops-out : (job : Bytes) {work after : Bytes} (o u : Operands) → o ≡ u → SetAll job work (numbers-of job u) after → SetAll job work (numbers-of job o) after
 ops-out job {work} {after} o u e h = subst (λ (z : Operands). SetAll job work (numbers-of job z) after) (sym e) h
+
+-- ---- what a call leaves
+-- nothing was marked
+pub rows-kept : {job work : Bytes} {n : ℕ} → Shelf job work n → LinksFree job work n work
+rows-kept s = record { shelf = s; list-is = refl; length-is = refl }
+
+-- the terms that stand in the asked one were
+pub rows-marked : {job work after : Bytes} {n asked : ℕ} → Marks job work n asked after → LinksFree job work n after
+rows-marked m = record { shelf = m .shelf; list-is = m .list-is; length-is = m .length-is }

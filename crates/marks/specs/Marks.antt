@@ -107,3 +107,10 @@ pub record Marks (job work : Bytes) (n asked : ℕ) (after : Bytes) : Type 0 whe
   pub marks-are : (p : ℕ) → first-terms ≤ p → p < first-terms + n → mark-of job after p ≡ stands (tree-at (listed job work n) p) (tree-at (listed job work n) asked)
   pub last : (p : ℕ) → first-terms ≤ p → asked < p → p < first-terms + n → mark-of job after p ≡ false
   pub threads : Threads job after asked
+
+-- ---- what a call may leave of them
+-- the rows say the list that they said, and the memory is as long as it was; their links are free
+pub record LinksFree (job work : Bytes) (n : ℕ) (after : Bytes) : Type 0 where
+  pub shelf : Shelf job after n
+  pub list-is : listed job after n ≡ listed job work n
+  pub length-is : length after ≡ length work

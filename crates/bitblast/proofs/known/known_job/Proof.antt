@@ -50,7 +50,7 @@ returns-2 c =
     let a = c .before .before .before .before .before .before .before .before .before .before .before .before .before .before .before .before .before .before .before .before .before .before .before .before .before .before .args in
     let r = c .before .before .before .before .before .before .before .known-number .ensures in
     let e = known-went f (c .before .before .before .before .before .before .before .before .before .before .before .if1 .left) (length (now (a .values))) (a .number) (now (a .inputs)) (length (now (a .outputs))) in
-    (c .outcome-of2 .ensures ∙ f .result-is, (f .answers-are, (carried (λ (x : Derived). x .code) (r .0) e, (carried (λ (x : Derived). written (x .bytes) (now (a .outputs))) (r .1 .0) e, r .1 .1))))
+    (c .outcome-of2 .ensures ∙ f .result-is, (f .answers-are, (carried (λ (x : Derived). x .code) (r .0) e, (carried (λ (x : Derived). written (x .bytes) (now (a .outputs))) (r .1 .0) e, r .1 .1 .0))))
 
 pub known-job-spec : {M : Type 1} → statement M
 known-job-spec =

@@ -37,7 +37,7 @@ same-length-5 : tie.Need-same-length-5
 same-length-5 c = search needs
 
 returns-2 : tie.Need-returns-2
-returns-2 c = let f = c .before .before .before .before .before .before .before .before .before .before .before .before .before .before .run-job .ensures in let a = c .before .before .before .before .before .before .before .before .before .before .before .before .before .before .before .before .before .before .before .before .before .args in let r = c .before .before .before .before .before .sweep-number .ensures in (c .outcome-of2 .ensures ∙ f .result-is, (f .answers-are, (r .0 ∙ sweep-went f (c .before .before .before .before .before .before .before .before .if1 .left) (length (now (a .values))) (a .number), r .1)))
+returns-2 c = let f = c .before .before .before .before .before .before .before .before .before .before .before .before .before .before .run-job .ensures in let a = c .before .before .before .before .before .before .before .before .before .before .before .before .before .before .before .before .before .before .before .before .before .args in let r = c .before .before .before .before .before .sweep-number .ensures in (c .outcome-of2 .ensures ∙ f .result-is, (f .answers-are, (r .0 ∙ sweep-went f (c .before .before .before .before .before .before .before .before .if1 .left) (length (now (a .values))) (a .number), r .1 .0)))
 
 pub sweep-job-spec : {M : Type 1} → statement M
 sweep-job-spec =
