@@ -11,7 +11,8 @@ ROOT = os.path.join(os.path.dirname(os.path.abspath(__file__)), '..')
 
 # Theorems whose type is written out; the others have a claim of their own in specs/.
 WRITTEN_OUT = ['demand-1', 'demand-2', 'demand-3', 'demand-2-call', 'demand-3-call', 'answers-kept', 'shut-out', 'shut-out-held',
-               'specimens-hold', 'worked-right', 'computed', 'counted', 'steps-written']
+               'specimens-hold', 'worked-right', 'computed', 'steps-written']
+CLAIMING = ['theory', 'sweeps', 'text', 'bitblast']    # the crates that state claims
 EXPORTED = ['bb_job', 'bb_job_within', 'bb_sweep', 'bb_count', 'bb_known', 'bb_text', 'bb_tally', 'bb_version']
 
 
@@ -24,9 +25,9 @@ def lines(path):
 
 
 def claims():
-    """By its name each `abbrev pub NAME : Type 0` of the specs/ of theory and sweeps: comment, statement, place."""
+    """By its name each `abbrev pub NAME : Type 0` of the specs/ of the crates that state claims: comment, statement, place."""
     found = {}
-    for path in sources('theory', 'specs', '*.antt') + sources('sweeps', 'specs', '*.antt') + sources('text', 'specs', '*.antt'):
+    for path in [path for crate in CLAIMING for path in sources(crate, 'specs', '*.antt')]:
         text = lines(path)
         for k, line in enumerate(text):
             m = re.match(r'abbrev pub ([A-Z]\w*) : Type 0$', line)
@@ -47,7 +48,7 @@ def place(path, k):
 
 def theorems(known):
     """Each theorem: name, comment, statement, where it is stated, where it is proved."""
-    for path in sources('theory', 'proofs', '*.antt') + sources('sweeps', 'proofs', '*.antt') + sources('text', 'proofs', '*.antt') + sources('bitblast', 'proofs', '*.antt'):
+    for path in [path for crate in CLAIMING for path in sources(crate, 'proofs', '*.antt')]:
         text = lines(path)
         for k, line in enumerate(text):
             m = re.match(r'(  )?pub ([a-z][\w-]*) : (.*)$', line)

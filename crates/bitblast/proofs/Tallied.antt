@@ -1,5 +1,4 @@
--- The two exports together: what `bb_job` returns and leaves, handed to `bb_tally`, is counted as the answers that the job wrote. With theory's
--- `tally-sum` the fields then sum to all answers that the jobs wrote.
+-- The two exports together: `bb_tally` counts what `bb_job_within` wrote.
 use mathlib.Core.Path.{_≡_, refl, ap, ap₂, _∙_}
 use mathlib.Core.List.{List, [], _∷_, _++_}
 use Prim.Native.Nat.{ℕ, _*_, _/_, _≤_, min}
@@ -8,12 +7,12 @@ use lib.ListN.{length}
 use Rattle.theory.specs.Limit.{answer-bytes, number-bytes, long-bytes}
 use Rattle.theory.specs.Record.{Bytes, number-length}
 use Rattle.theory.specs.Answer.{Answer, encode-answers, decode-answers}
-use Rattle.theory.specs.Job.{answers-after, run, call}
-use Rattle.theory.specs.Claim.{Lent, left-by}
+use Rattle.theory.specs.Job.{answers-after, run}
 use Rattle.theory.proofs.Bounds.{run-fits}
 use Rattle.theory.proofs.Lengths.{either-length}
 use Rattle.theory.proofs.Written.{answers-kept}
 use Rattle.tally.specs.Counted.{depth-length, whole-answers, answers-in}
+use Rattle.bitblast.specs.Claim.{TallyCounts}
 
 -- where the first answer says that its depth has b bytes, and so many whole answers stand in the memory, they are what is counted
 module _ (b : ℕ) (says : (a : Answer) (rest : List Answer) (more : Bytes) → depth-length (encode-answers b (a ∷ rest) ++ more) ≡ b)
@@ -43,7 +42,7 @@ whole-short size count h = let q : count ≤ size / answer-bytes number-bytes = 
 whole-long : (size count : ℕ) → answer-bytes long-bytes * count ≤ size → whole-answers long-bytes size count ≡ count
 whole-long size count h = let q : count ≤ size / answer-bytes long-bytes = omega arith in omega arith
 
-pub counted : (l : Lent) → let c = call (l .limits) (l .job) (l .work) (l .answers) in answers-in (c .result .answers) (c .answer-memory) ≡ left-by l
+pub counted : TallyCounts
 counted l =
     let o = run (l .limits) (l .job) (length (l .work)) (length (l .answers)) in
     let k = answers-kept (l .limits) (l .job) (l .work) (l .answers) .0 in

@@ -1,2 +1,3 @@
 -- What the contracts of `bitblast` cite.
 pub mod Asking
+pub mod Claim
