@@ -6,16 +6,19 @@ against what its callees promise, so one edit makes many functions wrong at once
 
   edits.py check [NAME..]  after `rt ci` or `rt must-fail`, whose logs stand in target/must-fail; of all crates, or of those named. Exit status 1 where a
                            function that an edit names has no error of its own, or its first one says only that the proof no longer fits the text; where
-                           an edit of src/ names no function; where a public function is named by fewer than two edits
+                           this holds of the first error of an edit of definitions; where an edit of src/ names no function; where a public function
+                           is named by fewer than two edits
   edits.py fits [NAME..]   before it, in a second: each text that an edit changes stands in its file once; each public function is named by two edits
   edits.py list [NAME..]   how many edits name each public function"""
 import collections, glob, os, re, sys
 
 ROOT = os.path.normpath(os.path.join(os.path.dirname(os.path.abspath(__file__)), '..'))
+# An error that follows from another one.
+FOLLOWS = re.compile(r'was not admitted|cannot be checked')
 # The first error of a function that says nothing of what it answers: an invariant over other variables, a need of the proof that the text no longer has,
 # a name out of scope, or what follows from another error.
 UNFIT = re.compile(r'^`Inv-|can be named from here|not in scope|out of scope|unknown name|has no field|binders, but its type'
-                   r'|expected type `tie\.Need-|was not admitted|cannot be checked')
+                   r'|expected type `tie\.Need-|' + FOLLOWS.pattern)
 
 
 def read(path):
@@ -55,15 +58,24 @@ def own_errors(log, crate, function):
     return found or re.findall(r'^fn %s::%s: no proof: .*(`search` does not close .*)$' % (crate, re.escape(function)), log, re.M)
 
 
+def first_error(log):
+    """The first error of an edit of definitions that does not follow from another one."""
+    found = re.findall(r'^\S+\.antt:\d+:\d+: error: (.*(?:\n  .*)*)', log, re.M)
+    return next((error for error in found if not FOLLOWS.search(error)), None)
+
+
 def faults_of(crate, label, path):
     """What is wrong with one edit."""
     functions = sorted({function for function, _ in wrong_lines(path)})
-    if not functions:
-        return ['it edits src/ and names no function'] if re.search(r'^file: src/', read(path), re.M) else []
+    if not functions and re.search(r'^file: src/', read(path), re.M):
+        return ['it edits src/ and names no function']
     log = os.path.join(ROOT, 'target', 'must-fail', crate, label, '.log')
     if not os.path.exists(log):
         return ['it was not tried: run rt must-fail ' + crate]
     text = read(log)
+    if not functions:
+        error = first_error(text)
+        return [] if error and not UNFIT.search(error) else ['its first error shows nothing: %s' % (error or 'none').split('\n')[0][:200]]
     faults = ['its own text has an error: ' + error[:200] for error in re.findall(r'^\S*/src/\S+: error.*', text, re.M)]
     for function in functions:
         own = own_errors(text, crate, function)

@@ -1,6 +1,6 @@
 #!/usr/bin/env python3
-"""Small jobs with what the original Rust answers to each. Document 01's own, some of document 02's chains, those under stated limits, and those whose numbers have
-four bytes are computed by the prover (crates/theory/proofs/Computed.antt); the program `replay` runs all of them, after its generated ones.
+"""Small jobs with what the original Rust answers to each. Document 01's own, and a few of document 02's chains, under stated limits and with numbers of
+four bytes, are computed by the prover (crates/theory/proofs/Computed.antt); the program `replay` runs all of them, after its generated ones.
 
   listed_jobs.py write                       writes Computed.antt, and the listed jobs into crates/replay
   listed_jobs.py check                       exit status 1 where one of these is not what `write` would write
@@ -37,8 +37,8 @@ UNFOLD = {
     'Job': 'answers-to recall run-from run',
 }
 
-HEAD = '''-- Document 01's own jobs, computed: each comes to what it says, which is what the original Rust answers; and some of document 02's chains, jobs under
--- stated limits, and jobs whose numbers have four bytes. Written by tools/listed_jobs.py.
+HEAD = '''-- Document 01's own jobs, computed: each comes to what it says, which is what the original Rust answers; and a few of document 02's chains, jobs under
+-- stated limits, and jobs whose numbers have four bytes. Written by tools/listed_jobs.py; the program `replay` runs these and many others.
 use mathlib.Core.Path.{_≡_, refl}
 use mathlib.Core.List.{List, [], _∷_}
 use Prim.Native.Nat.{ℕ}
@@ -138,11 +138,9 @@ def replayed():
     """The two files of crates/replay with the listed jobs after the generated ones, by their paths."""
     heads, lines = [], []
     for name, limits, work, room, job, stop, records, terms, repeats, answers in jobs():
-        if limits:      # `replay` runs jobs under the rack's
-            continue
         data = written(job, answers)
         fields = {'stop': stop, 'records': records, 'answers': len(answers), 'terms': terms, 'repeats': repeats, 'bytes': data.hex()}
-        heads.append(head(work, room, job))
+        heads.append(head(work, room, job, tuple(map(int, limits))))
         lines.append(printed(fields))
     generated = lambda path: open(path).read().splitlines(keepends=True)[:GENERATED]
     return {JOBS: ''.join(generated(JOBS) + heads), STDOUT: ''.join(generated(STDOUT) + lines)}

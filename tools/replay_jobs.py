@@ -21,6 +21,7 @@ MOST = 40                      # jobs of one sort
 SHORT, LONGEST = 600, 6000    # bytes of a job
 LENT = 65536                  # the most that replay lends
 ANSWER = 10
+UNLIMITED = (2**32 - 1,) * 2   # above the rack's limits of width and terms, which hold then
 HERE = os.path.join(os.path.dirname(os.path.abspath(__file__)), "..", "crates", "replay")
 JOBS, STDOUT = os.path.join(HERE, "data", "jobs"), os.path.join(HERE, "stdout")
 
@@ -41,8 +42,8 @@ def printed(fields):
     return " ".join(str(fields[k]) for k in ("stop", "records", "answers", "terms", "repeats", "bytes")) + "\n"
 
 
-def head(work, room, job):
-    return f"{work:08x} {room:08x} {len(job):08x} {job.hex()}\n"
+def head(work, room, job, limits=()):
+    return "".join(f"{n:08x} " for n in (work, room, len(job), *(limits or UNLIMITED))) + job.hex() + "\n"
 
 
 def cases(oracle, folder):
@@ -81,7 +82,7 @@ def compare(oracle):
     with tempfile.TemporaryDirectory() as folder:
         path = os.path.join(folder, "a.job")
         for number, (line, said) in enumerate(zip(lines, out), 1):
-            work, room, size, *job = line.split()
+            work, room, size, _, _, *job = line.split()
             open(path, "wb").write(bytes.fromhex("".join(job)))
             asked = subprocess.run([oracle, "case", path, str(int(work, 16)), str(int(room, 16))], capture_output=True, text=True, check=True)
             if printed(expected(asked.stdout)) != said:

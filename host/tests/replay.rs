@@ -1,5 +1,5 @@
 //! The stored jobs of crates/replay, with garbage in the lent memories and fences around them.
-use bitblast_host::{Format, lent::Lent, run_job};
+use bitblast_host::{Format, Limits, lent::Lent, run_job_within};
 use std::{fs, path::Path};
 
 fn bytes(hex: &str) -> Vec<u8> {
@@ -18,9 +18,11 @@ fn stored_jobs() {
         let mut fields = line.split(' ');
         let mut number = || usize::from_str_radix(fields.next().unwrap(), 16).unwrap();
         let (work_size, room, length) = (number(), number(), number());
+        let limits = Limits { width: number() as u32, terms: number() as u32 };
         let job = bytes(fields.next().unwrap_or(""));
         assert_eq!(job.len(), length, "line {}", k + 1);
-        let outcome = run_job(&job, work.ready(work_size, k as u64), answers.ready(room, 3 * k as u64));
+        let (lent, room) = (work.ready(work_size, k as u64), answers.ready(room, 3 * k as u64));
+        let outcome = run_job_within(&job, lent, room, limits);
         let written = Format::of(&job).answer_bytes() * outcome.answers as usize;
         let hex: String = answers.bytes()[..written].iter().map(|byte| format!("{byte:02x}")).collect();
         let found = format!(

@@ -1,8 +1,8 @@
 // Runs each job of the file `jobs` and prints what it came to.
 //
-// A line of the file is three numbers of eight hexadecimal digits, the bytes of work memory lent, of answers lent, and of the job, and then
-// the job's bytes. What is printed for it: stop code, records done, answers written, terms kept, and the bytes of the answers. Both lent
-// memories are full of other bytes before.
+// A line of the file is five numbers of eight hexadecimal digits, the bytes of work memory lent, of answers lent, and of the job, the width
+// limit and the term limit, and then the job's bytes. What is printed for it: stop code, records done, answers written, terms kept, repeats, and
+// the bytes of the answers. Both lent memories are full of other bytes before.
 ghost use mathlib.Core.Path.{_≡_};
 ghost use Prim.Native.Nat.{_≤_, _<_};
 ghost use lib.ListN.{length};
@@ -14,8 +14,10 @@ use terms::Term;
 // The digits of a number, and the space after them.
 const FIELD: usize = 9;
 
-// The three numbers in front of a job.
-const HEAD: usize = 3 * FIELD;
+// How many numbers stand in front of a job, and their bytes.
+const FIELDS: usize = 5;
+
+const HEAD: usize = FIELDS * FIELD;
 
 // The most lines that are read.
 const MOST: usize = 1000000;
@@ -54,14 +56,23 @@ fn wide(x: u8) -> usize
     x as usize
 }
 
-// The number of the six last digits of field k, at most `most`.
-fn field(text: &[u8], k: usize, most: usize) -> usize
-    requires { ⌜ k < 3 ⌝ }
-    ensures { λ r. ⌜ r ≤ most ⌝ }
+// The number of field k.
+fn field(text: &[u8], k: usize) -> usize
+    requires { ⌜ k < 5 ⌝ }
+    ensures { λ r. ⌜ r < 4294967296 ⌝ }
 {
     let at = FIELD * k;
-    let n = (wide(byte_at(text, at + 2)) * 256 + wide(byte_at(text, at + 4))) * 256
-        + wide(byte_at(text, at + 6));
+    let high = wide(byte_at(text, at)) * 256 + wide(byte_at(text, at + 2));
+    let low = wide(byte_at(text, at + 4)) * 256 + wide(byte_at(text, at + 6));
+    high * 65536 + low
+}
+
+// The same, but no more than `most`.
+fn capped(text: &[u8], k: usize, most: usize) -> usize
+    requires { ⌜ k < 5 ⌝ }
+    ensures { λ r. ⌜ r ≤ most ⌝ }
+{
+    let n = field(text, k);
     if n < most { n } else { most }
 }
 
@@ -129,11 +140,11 @@ fn answers_size(job: &[u8], count: usize) -> usize
     count * ANSWER_BYTES
 }
 
-// Runs a job on the lent memories, and prints what it came to.
-fn run(job: &[u8], work: &mut [u8], answers: &mut [u8]) {
+// Runs a job on the lent memories under two limits, and prints what it came to.
+fn run(job: &[u8], work: &mut [u8], answers: &mut [u8], width: u32, terms: u32) {
     fill(work);
     fill(answers);
-    let o = bitblast::bb_job(job, work, answers);
+    let o = bitblast::bb_job_within(job, work, answers, width, terms);
     print_number(o.stop);
     print_number(o.records);
     print_number(o.answers);
@@ -148,15 +159,23 @@ fn line(fd: i32, text: &mut [u8], job: &mut [u8], work: &mut [u8], answers: &mut
     if io::read_full(fd, &mut head) < HEAD {
         return false;
     }
-    let lent = field(&head, 0, work.len());
-    let room = field(&head, 1, answers.len());
-    let size = field(&head, 2, job.len());
+    let lent = capped(&head, 0, work.len());
+    let room = capped(&head, 1, answers.len());
+    let size = capped(&head, 2, job.len());
+    let width = field(&head, 3) as u32;
+    let terms = field(&head, 4) as u32;
     if text.len() <= 2 * size {
         return false;
     }
     io::read_full(fd, &mut text[..2 * size + 1]);
     decode(text, &mut job[..size]);
-    run(&job[..size], &mut work[..lent], &mut answers[..room]);
+    run(
+        &job[..size],
+        &mut work[..lent],
+        &mut answers[..room],
+        width,
+        terms,
+    );
     true
 }
 

@@ -1,5 +1,5 @@
 -- The rules of Alethe.antt as statements about terms: for each left side, the term that stands on the right. Bit i of x is ((_ @bit_of i) x),
--- or argument i where x is a @bbterm.
+-- or argument i where x is a @bbterm. The rules are as bitvectors.rs follows them; Alethe's text was not compared.
 use mathlib.Core.Path.{_≡_}
 use mathlib.Core.Bool.{cond}
 use mathlib.Core.List.{List, [], _∷_, _++_}
