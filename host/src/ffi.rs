@@ -1,6 +1,7 @@
 //! The functions of the static library, declared by hand: nothing checks these declarations against the Rattle source
-//! (`bb_job`, `bb_job_within`, `bb_sweep`, `bb_count`, `bb_known`, `bb_text`, `bb_version` and what they return in crates/bitblast, crates/runs and crates/convert, `Tally` in crates/tally). tests/ffi.rs does what can be done: it
-//! compares the text of both, the interface's number, and sizes, offsets and the bytes around each lent slice.
+//! (`bb_job`, `bb_job_within`, `bb_sweep`, `bb_count`, `bb_known`, `bb_text`, `bb_tally`, `bb_version` and what they return in crates/bitblast, crates/runs
+//! and crates/convert, `Tally` in crates/tally). tests/ffi.rs does what can be done: it compares the text of both, the interface's number, and sizes,
+//! offsets and the bytes around each lent slice.
 use crate::{Format, MAX_WIDTH};
 
 /// What a job came to. Later interfaces may add numbers.
@@ -211,7 +212,8 @@ pub fn interface() -> u32 {
 }
 
 /// Checks a job of either [`Format`] on lent memory of any length and content. Afterwards all of `work` is zero, the answers stand at the start
-/// of `answers`, and the bytes past the last answer are as they were.
+/// of `answers`, and the bytes past the last answer are as they were. For jobs of strangers, put a seed at the end of `work` before each call
+/// ([`Seeds::put`](crate::Seeds::put)): no result depends on it, but nobody can then choose terms that collide.
 pub fn run_job(job: &[u8], work: &mut [u8], answers: &mut [u8]) -> Outcome {
     // SAFETY: each pointer is valid for its length, and the borrows keep the three apart.
     unsafe { bb_job(job.as_ptr(), job.len(), work.as_mut_ptr(), work.len(), answers.as_mut_ptr(), answers.len()) }
@@ -329,7 +331,7 @@ pub fn known_job(
 
 /// Reads a text of declarations and steps, and writes a job with a step for each step line; docs/FORMAT.md has the form of a line. The job stands
 /// at the start of `job`, and the bytes past it are as they were; where a line is refused, all of `job` is zero. `work` may be of any length and
-/// content: it makes lookups faster, never changes the result, and is all zero afterwards.
+/// content: it makes lookups faster, by a seed at its end as for [`run_job`], never changes the result, and is all zero afterwards.
 pub fn convert_text(text: &[u8], work: &mut [u8], job: &mut [u8]) -> Converted {
     // SAFETY: each pointer is valid for its length, and the borrows keep the three apart.
     unsafe { bb_text(text.as_ptr(), text.len(), work.as_mut_ptr(), work.len(), job.as_mut_ptr(), job.len()) }

@@ -6,8 +6,8 @@ use std::{
     io::{self, Write},
 };
 
-/// No row may take longer than so many times its time with twice the memory.
-const MOST: f64 = 3.0;
+/// No row of a bench may take longer with exactly the work memory that it needs than so many times its time with twice that.
+pub const MOST: f64 = 3.0;
 
 /// Measures every job, and says so where one is slower than it may be.
 pub fn measure_all(answers: &mut [u8], out: &mut impl Write) -> Result<Status, Failure> {
