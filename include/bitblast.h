@@ -22,7 +22,7 @@
  *     if (work_len >= BB_SEED_BYTES) getrandom(work + work_len - BB_SEED_BYTES, BB_SEED_BYTES, 0);
  *
  * Where they are the same for all jobs, zero say, a job can be made whose terms are all looked for in one place: one with 8,000 such
- * terms took 0.2 seconds in place of 2 milliseconds, and the time grows with the square of their number.
+ * terms took 0.1 seconds in place of 2 milliseconds, and the time grows with the square of their number.
  */
 #ifndef BITBLAST_H
 #define BITBLAST_H

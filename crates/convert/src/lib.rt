@@ -33,7 +33,7 @@ pub struct Lines {
     pub length: usize,
 }
 
-// Reads the lines of a text into a job, with a work memory that is wiped.
+// Reads the lines of a text into a job, with a work memory that is cleared but for the seed.
 fn take_lines(text: &[u8], work: &mut [u8], out: &mut [u8]) -> Lines
     requires { ⌜ Table [] (now work) 0 ⌝ }
     ensures { λ r. ⌜ Taken (now (text .entry)) (now (out .entry)) (now (out .exit)) r ⌝ }

@@ -100,8 +100,8 @@ fn whole_count(bytes: usize, size: usize, count: u32) -> usize
     if n <= whole { n } else { whole }
 }
 
-// c, and one more for each answer of the class among the first `count`, or among the whole ones where the memory is shorter; it holds at the
-// largest number.
+// c, and one more for each answer of the class among the first `count`, or among the whole ones where the memory is shorter; it
+// saturates.
 pub fn count_up(c: u64, answers: &[u8], count: u32, class: u32) -> u64
     ensures { λ r. ⌜ r ≡ held-up c (how-many (in-class class) (answers-in count (now (answers .entry)))) ⌝ }
 {

@@ -10,7 +10,7 @@ ghost use Rattle.terms.specs.Framing.{part, record-at, frame-of};
 ghost use Rattle.terms.specs.Decoded.{Inside, OperandsPlaced, Placed, Says, words-in, item-of, head-of, operands-of, arguments-of};
 ghost use Rattle.terms.specs.Bodies.{Body, Length, form-of, sized, made};
 
-// The bytes of an answer: its length, its kind, a rule, a code and a depth, which has as many bytes as a term's number.
+// The bytes of the shorter answer: its length, its kind, a rule, a code and a depth, which has as many bytes as a term's number.
 pub const ANSWER_BYTES: usize = 5 * Term::NUMBER_BYTES;
 
 // Where an answer's kind stands in it, its rule, its code and its depth; the length stands first.
