@@ -1,3 +1,4 @@
 pub mod Buckets
 pub mod Promise
 pub mod Keys
+pub mod Lent

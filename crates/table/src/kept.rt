@@ -5,8 +5,9 @@ ghost use lib.ListN.{length, drop};
 ghost use Rattle.theory.specs.Limit.{first-terms};
 ghost use Rattle.theory.specs.Record.{extent, number-length};
 ghost use Rattle.rows.specs.Layout.{link-bytes, row-size};
-ghost use Rattle.rows.specs.Rows.{kept-as, kept, place-of};
+ghost use Rattle.rows.specs.Rows.{kept, place-of};
 ghost use Rattle.terms.specs.Bodies.{Length};
+ghost use Rattle.table.specs.Lent.{records-as};
 ghost use Rattle.table.specs.Buckets.{TableAs, Table, TableOf, added-row, dropped-row};
 ghost use Rattle.table.specs.Promise.{TermLimit, room-for, Grown, Cut};
 use super::buckets::bucket;
@@ -28,7 +29,7 @@ use terms::Term;
 // The place of the record `wanted` among n kept ones, or MISSING, where terms' numbers have so many bytes.
 pub fn find_record(job: &[u8], work: &[u8], bytes: usize, n: usize, wanted: &[u8]) -> u32
     requires { ⌜ TableAs bytes (now job) (now work) n ⌝ }
-    ensures { λ r. ⌜ r ≡ place-of (now (wanted .entry)) (kept-as (link-bytes bytes) (now (job .entry)) (now (work .entry)) n) ⌝ }
+    ensures { λ r. ⌜ r ≡ place-of (now (wanted .entry)) (records-as job work n bytes) ⌝ }
 {
     let link = link_bytes(bytes);
     let start = heads_start(work.len(), bytes, link);
@@ -71,8 +72,8 @@ pub fn add_as(
     at: usize,
     measure: usize,
 ) -> Added
-    requires { ⌜ TableAs bytes (now job) (now work) n × TermLimit bytes × (at + extent (drop at (now job)) ≤ length (now job))
-        × (measure < 256 ^ link-bytes bytes) ⌝ }
+    requires { ⌜ TableAs bytes (now job) (now work) n × TermLimit bytes
+        × (at + extent (drop at (now job)) ≤ length (now job)) × (measure < 256 ^ link-bytes bytes) ⌝ }
     ensures { λ r. ⌜ Grown bytes (now (job .entry)) (now (work .entry)) (now (work .exit)) n limit at measure r ⌝ }
 {
     let end = at + number(job, at, Term::NUMBER_BYTES) + Term::NUMBER_BYTES;
@@ -96,7 +97,8 @@ pub fn add_as(
 pub fn add(job: &[u8], work: &mut [u8], n: usize, limit: usize, at: usize, measure: usize) -> Added
     requires { ⌜ Table (now job) (now work) n × (at + extent (drop at (now job)) ≤ length (now job))
         × (measure < 256 ^ link-bytes (number-length (now job))) ⌝ }
-    ensures { λ r. ⌜ Grown (number-length (now (job .entry))) (now (job .entry)) (now (work .entry)) (now (work .exit)) n limit at measure r ⌝ }
+    ensures { λ r. ⌜ Grown (number-length (now (job .entry))) (now (job .entry)) (now (work .entry)) (now (work .exit))
+        n limit at measure r ⌝ }
 {
     if Term::number_length(job) == Term::NUMBER_BYTES {
         return add_as(job, work, Term::NUMBER_BYTES, n, limit, at, measure);
@@ -116,7 +118,8 @@ fn add_row(
     measure: usize,
     first: usize,
 )
-    requires { ⌜ (n * row-size link + row-size link ≤ length (now work)) × (0 < c → start + c * link ≤ length (now work)) × Length link × (n < 4294967296) ⌝ }
+    requires { ⌜ (n * row-size link + row-size link ≤ length (now work))
+        × (0 < c → start + c * link ≤ length (now work)) × Length link × (n < 4294967296) ⌝ }
     ensures { λ _. ⌜ now (work .exit) ≡ added-row link (now (work .entry)) n start c j offset measure first ⌝ }
 {
     put_row(work, link, n, offset, measure, first);
@@ -141,7 +144,8 @@ fn drop_rows_as(job: &[u8], work: &mut [u8], bytes: usize, n: usize, m: usize)
 // The same in the job's own number length.
 pub fn drop_rows(job: &[u8], work: &mut [u8], n: usize, m: usize)
     requires { ⌜ Table (now job) (now work) n × (m ≤ n) ⌝ }
-    ensures { λ _. ⌜ Cut (number-length (now (job .entry))) (now (job .entry)) (now (work .entry)) (now (work .exit)) n m ⌝ }
+    ensures { λ _. ⌜ Cut (number-length (now (job .entry))) (now (job .entry)) (now (work .entry)) (now (work .exit))
+        n m ⌝ }
 {
     let bytes = Term::number_length(job);
     drop_rows_as(job, work, bytes, n, m);

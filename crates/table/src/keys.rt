@@ -4,10 +4,9 @@ ghost use mathlib.Core.List.{[], _∷_};
 ghost use Prim.Native.Nat.{_≤_};
 ghost use lib.ListN.{length, take};
 ghost use Rattle.theory.specs.Limit.{max-arguments};
-ghost use Rattle.theory.specs.Record.{number-length};
 ghost use Rattle.terms.specs.Bodies.{Length};
-ghost use Rattle.rows.specs.Layout.{link-bytes};
-ghost use Rattle.rows.specs.Rows.{kept-as, kept, place-of};
+ghost use Rattle.rows.specs.Rows.{kept, place-of};
+ghost use Rattle.table.specs.Lent.{records-as, list-place, indexed-place, constant-place};
 ghost use Rattle.table.specs.Buckets.{TableAs, Table};
 ghost use Rattle.table.specs.Keys.{few-arguments, key-bytes, Roomy, last-number, place-list, place-indexed, place-constant};
 use super::buckets::BODY_AT;
@@ -36,7 +35,7 @@ fn find_key(
     len: usize,
 ) -> u32
     requires { ⌜ TableAs bytes (now job) (now work) n × (len ≤ key-bytes) ⌝ }
-    ensures { λ r. ⌜ r ≡ place-of (take len key) (kept-as (link-bytes bytes) (now (job .entry)) (now (work .entry)) n) ⌝ }
+    ensures { λ r. ⌜ r ≡ place-of (take len key) (records-as job work n bytes) ⌝ }
 {
     find_record(job, work, bytes, n, &key[..len])
 }
@@ -70,7 +69,7 @@ fn find_built(
     key: &mut [u8],
 ) -> u32
     requires { ⌜ TableAs bytes (now job) (now work) n × Roomy bytes (length (now args)) (length (now key)) ⌝ }
-    ensures { λ r. ⌜ r ≡ place-list bytes kind (now (args .entry)) (kept-as (link-bytes bytes) (now (job .entry)) (now (work .entry)) n) ⌝ }
+    ensures { λ r. ⌜ r ≡ place-list bytes kind (now (args .entry)) (records-as job work n bytes) ⌝ }
 {
     let limit = last_number(bytes);
     let len = Term::NUMBER_BYTES + args.len() * bytes;
@@ -93,7 +92,7 @@ fn find_built(
 // The place of the record of a kind with 0 to 64 arguments, of the job's own number length.
 pub fn find_list(job: &[u8], work: &[u8], n: usize, kind: u32, args: &[u32]) -> u32
     requires { ⌜ Table (now job) (now work) n × (length (now args) ≤ max-arguments) ⌝ }
-    ensures { λ r. ⌜ r ≡ place-list (number-length (now (job .entry))) kind (now (args .entry)) (kept (now (job .entry)) (now (work .entry)) n) ⌝ }
+    ensures { λ r. ⌜ r ≡ list-place job work n kind (now (args .entry)) ⌝ }
 {
     let mut key = [0u8; LIST_BYTES];
     find_built(job, work, Term::number_length(job), n, kind, args, &mut key)
@@ -102,7 +101,7 @@ pub fn find_list(job: &[u8], work: &[u8], n: usize, kind: u32, args: &[u32]) -> 
 // The same of up to three, in a shorter array. A call for each of the two lengths: each is then compiled for its length.
 fn find_few(job: &[u8], work: &[u8], n: usize, kind: u32, args: &[u32]) -> u32
     requires { ⌜ Table (now job) (now work) n × (length (now args) ≤ few-arguments) ⌝ }
-    ensures { λ r. ⌜ r ≡ place-list (number-length (now (job .entry))) kind (now (args .entry)) (kept (now (job .entry)) (now (work .entry)) n) ⌝ }
+    ensures { λ r. ⌜ r ≡ list-place job work n kind (now (args .entry)) ⌝ }
 {
     let mut key = [0u8; KEY_BYTES];
     if Term::number_length(job) == Term::NUMBER_BYTES {
@@ -114,7 +113,7 @@ fn find_few(job: &[u8], work: &[u8], n: usize, kind: u32, args: &[u32]) -> u32
 // The place of the record of a kind with one argument.
 pub fn find_one(job: &[u8], work: &[u8], n: usize, kind: u32, a: u32) -> u32
     requires { ⌜ Table (now job) (now work) n ⌝ }
-    ensures { λ r. ⌜ r ≡ place-list (number-length (now (job .entry))) kind (a ∷ []) (kept (now (job .entry)) (now (work .entry)) n) ⌝ }
+    ensures { λ r. ⌜ r ≡ list-place job work n kind (a ∷ []) ⌝ }
 {
     let args = [a];
     find_few(job, work, n, kind, &args)
@@ -123,7 +122,7 @@ pub fn find_one(job: &[u8], work: &[u8], n: usize, kind: u32, a: u32) -> u32
 // The place of the record of a kind with two arguments.
 pub fn find_two(job: &[u8], work: &[u8], n: usize, kind: u32, a: u32, b: u32) -> u32
     requires { ⌜ Table (now job) (now work) n ⌝ }
-    ensures { λ r. ⌜ r ≡ place-list (number-length (now (job .entry))) kind (a ∷ b ∷ []) (kept (now (job .entry)) (now (work .entry)) n) ⌝ }
+    ensures { λ r. ⌜ r ≡ list-place job work n kind (a ∷ b ∷ []) ⌝ }
 {
     let args = [a, b];
     find_few(job, work, n, kind, &args)
@@ -132,7 +131,7 @@ pub fn find_two(job: &[u8], work: &[u8], n: usize, kind: u32, a: u32, b: u32) ->
 // The place of the record of a kind with three arguments.
 pub fn find_three(job: &[u8], work: &[u8], n: usize, kind: u32, a: u32, b: u32, c: u32) -> u32
     requires { ⌜ Table (now job) (now work) n ⌝ }
-    ensures { λ r. ⌜ r ≡ place-list (number-length (now (job .entry))) kind (a ∷ b ∷ c ∷ []) (kept (now (job .entry)) (now (work .entry)) n) ⌝ }
+    ensures { λ r. ⌜ r ≡ list-place job work n kind (a ∷ b ∷ c ∷ []) ⌝ }
 {
     let args = [a, b, c];
     find_few(job, work, n, kind, &args)
@@ -149,7 +148,7 @@ fn find_indexed_as(
     a: u32,
 ) -> u32
     requires { ⌜ TableAs bytes (now job) (now work) n ⌝ }
-    ensures { λ r. ⌜ r ≡ place-indexed bytes kind index a (kept-as (link-bytes bytes) (now (job .entry)) (now (work .entry)) n) ⌝ }
+    ensures { λ r. ⌜ r ≡ place-indexed bytes kind index a (records-as job work n bytes) ⌝ }
 {
     let x = a as usize;
     if last_number(bytes) <= x {
@@ -168,7 +167,7 @@ fn find_indexed_as(
 // The same in the job's own number length. A call for each of the two: each is then compiled for its length.
 pub fn find_indexed(job: &[u8], work: &[u8], n: usize, kind: u32, index: u32, a: u32) -> u32
     requires { ⌜ Table (now job) (now work) n ⌝ }
-    ensures { λ r. ⌜ r ≡ place-indexed (number-length (now (job .entry))) kind index a (kept (now (job .entry)) (now (work .entry)) n) ⌝ }
+    ensures { λ r. ⌜ r ≡ indexed-place job work n kind index a ⌝ }
 {
     if Term::number_length(job) == Term::NUMBER_BYTES {
         return find_indexed_as(job, work, Term::NUMBER_BYTES, n, kind, index, a);
@@ -187,7 +186,7 @@ fn find_constant_as(
     value: u64,
 ) -> u32
     requires { ⌜ TableAs bytes (now job) (now work) n ⌝ }
-    ensures { λ r. ⌜ r ≡ place-constant kind width value (kept-as (link-bytes bytes) (now (job .entry)) (now (work .entry)) n) ⌝ }
+    ensures { λ r. ⌜ r ≡ place-constant kind width value (records-as job work n bytes) ⌝ }
 {
     let mut key = [0u8; KEY_BYTES];
     let at = BODY_AT + Term::NUMBER_BYTES;
@@ -202,7 +201,7 @@ fn find_constant_as(
 // The same in the job's own number length. A call for each of the two: each is then compiled for its length.
 pub fn find_constant(job: &[u8], work: &[u8], n: usize, kind: u32, width: u32, value: u64) -> u32
     requires { ⌜ Table (now job) (now work) n ⌝ }
-    ensures { λ r. ⌜ r ≡ place-constant kind width value (kept (now (job .entry)) (now (work .entry)) n) ⌝ }
+    ensures { λ r. ⌜ r ≡ constant-place job work n kind width value ⌝ }
 {
     if Term::number_length(job) == Term::NUMBER_BYTES {
         return find_constant_as(job, work, Term::NUMBER_BYTES, n, kind, width, value);
