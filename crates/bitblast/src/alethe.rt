@@ -1,9 +1,8 @@
 // A text of Alethe steps, converted into a job.
 ghost use mathlib.Core.Path.{_≡_};
 ghost use lib.ListN.{take};
-ghost use Rattle.text.specs.Convert.{call};
 ghost use Rattle.text.specs.Claim.{steps-of, StepsWritten};
-ghost use Rattle.convert.specs.Text.{told};
+ghost use Rattle.convert.specs.Text.{told, text-call};
 use convert::Converted;
 use convert::convert;
 
@@ -11,10 +10,11 @@ use convert::convert;
 // memory is all zero. The work memory makes lookups faster and changes no result; it may be of any length, hold anything, and is all zero afterwards.
 #[no_mangle]
 pub extern "C" fn bb_text(text: &[u8], work: &mut [u8], job: &mut [u8]) -> Converted
-    ensures result { λ r. ⌜ told r ≡ call (now (text .entry)) (now (work .entry)) (now (job .entry)) .result ⌝ }
-    ensures work { λ _. ⌜ now (work .exit) ≡ call (now (text .entry)) (now (work .entry)) (now (job .entry)) .work-memory ⌝ }
-    ensures job { λ _. ⌜ now (job .exit) ≡ call (now (text .entry)) (now (work .entry)) (now (job .entry)) .job-memory ⌝ }
-    ensures steps { λ r. ⌜ (r .code ≡ 0 → StepsWritten (take (r .length) (now (job .exit))) (steps-of (now (text .entry)))) ⌝ }
+    ensures result { λ r. ⌜ told r ≡ text-call text work job .result ⌝ }
+    ensures work { λ _. ⌜ now (work .exit) ≡ text-call text work job .work-memory ⌝ }
+    ensures job { λ _. ⌜ now (job .exit) ≡ text-call text work job .job-memory ⌝ }
+    ensures steps { λ r. ⌜ (r .code ≡ 0
+        → StepsWritten (take (r .length) (now (job .exit))) (steps-of (now (text .entry)))) ⌝ }
 {
     convert(text, work, job)
 }

@@ -1,9 +1,9 @@
 // The bits of a term of a job's final store where only part of its inputs is known.
 ghost use mathlib.Core.Path.{_≡_};
 ghost use Rattle.theory.specs.Limit.{rack};
-ghost use Rattle.theory.specs.Job.{call};
-ghost use Rattle.sweeps.specs.Calls.{known-lent, values-after, written};
-ghost use Rattle.runs.specs.Walking.{told};
+ghost use Rattle.sweeps.specs.Calls.{values-after, written};
+ghost use Rattle.runs.specs.Walking.{told, job-call};
+ghost use Rattle.bitblast.specs.Asking.{known-call};
 use partial::number::known_number;
 use runs::Outcome;
 use runs::finished::outcome_of;
@@ -27,12 +27,11 @@ fn known_job(
     inputs: &[u8],
     outputs: &mut [u8],
 ) -> Known
-    ensures outcome { λ r. ⌜ told (r .outcome) ≡ call rack (now (job .entry)) (now (work .entry)) (now (answers .entry)) .result ⌝ }
-    ensures answers { λ _. ⌜ now (answers .exit) ≡ call rack (now (job .entry)) (now (work .entry)) (now (answers .entry)) .answer-memory ⌝ }
-    ensures code { λ r. ⌜ r .code ≡ known-lent (now (job .entry)) (now (work .entry)) (now (answers .entry))
-        (now (values .entry)) number (now (inputs .entry)) (now (outputs .entry)) .code ⌝ }
-    ensures outputs { λ _. ⌜ now (outputs .exit) ≡ written (known-lent (now (job .entry)) (now (work .entry)) (now (answers .entry))
-        (now (values .entry)) number (now (inputs .entry)) (now (outputs .entry)) .bytes) (now (outputs .entry)) ⌝ }
+    ensures outcome { λ r. ⌜ told (r .outcome) ≡ job-call rack job work answers .result ⌝ }
+    ensures answers { λ _. ⌜ now (answers .exit) ≡ job-call rack job work answers .answer-memory ⌝ }
+    ensures code { λ r. ⌜ r .code ≡ known-call job work answers values number inputs outputs .code ⌝ }
+    ensures outputs { λ _. ⌜ now (outputs .exit)
+        ≡ written (known-call job work answers values number inputs outputs .bytes) (now (outputs .entry)) ⌝ }
     ensures values { λ r. ⌜ now (values .exit) ≡ values-after (r .code) (now (values .entry)) ⌝ }
 {
     let s = run_job(job, work, answers);
@@ -61,13 +60,12 @@ pub extern "C" fn bb_known(
     inputs: &[u8],
     outputs: &mut [u8],
 ) -> Known
-    ensures outcome { λ r. ⌜ told (r .outcome) ≡ call rack (now (job .entry)) (now (work .entry)) (now (answers .entry)) .result ⌝ }
-    ensures answers { λ _. ⌜ now (answers .exit) ≡ call rack (now (job .entry)) (now (work .entry)) (now (answers .entry)) .answer-memory ⌝ }
-    ensures work { λ _. ⌜ now (work .exit) ≡ call rack (now (job .entry)) (now (work .entry)) (now (answers .entry)) .work-memory ⌝ }
-    ensures code { λ r. ⌜ r .code ≡ known-lent (now (job .entry)) (now (work .entry)) (now (answers .entry))
-        (now (values .entry)) number (now (inputs .entry)) (now (outputs .entry)) .code ⌝ }
-    ensures outputs { λ _. ⌜ now (outputs .exit) ≡ written (known-lent (now (job .entry)) (now (work .entry)) (now (answers .entry))
-        (now (values .entry)) number (now (inputs .entry)) (now (outputs .entry)) .bytes) (now (outputs .entry)) ⌝ }
+    ensures outcome { λ r. ⌜ told (r .outcome) ≡ job-call rack job work answers .result ⌝ }
+    ensures answers { λ _. ⌜ now (answers .exit) ≡ job-call rack job work answers .answer-memory ⌝ }
+    ensures work { λ _. ⌜ now (work .exit) ≡ job-call rack job work answers .work-memory ⌝ }
+    ensures code { λ r. ⌜ r .code ≡ known-call job work answers values number inputs outputs .code ⌝ }
+    ensures outputs { λ _. ⌜ now (outputs .exit)
+        ≡ written (known-call job work answers values number inputs outputs .bytes) (now (outputs .entry)) ⌝ }
     ensures values { λ r. ⌜ now (values .exit) ≡ values-after (r .code) (now (values .entry)) ⌝ }
 {
     let n = lend(job.len(), work);

@@ -10,10 +10,9 @@ ghost use lib.ListN.{length};
 ghost use Rattle.theory.specs.Limit.{stated, rack};
 ghost use Rattle.theory.specs.Record.{number-length};
 ghost use Rattle.theory.specs.Answer.{decode-answers};
-ghost use Rattle.theory.specs.Job.{call};
 ghost use Rattle.theory.specs.Demand.{Demand3};
 ghost use Rattle.theory.specs.Demands.{Stops, Demand2};
-ghost use Rattle.runs.specs.Walking.{told};
+ghost use Rattle.runs.specs.Walking.{told, job-call};
 use intern::Limits;
 use runs::Outcome;
 use runs::check_job;
@@ -33,12 +32,11 @@ pub extern "C" fn bb_job_within(
     width_limit: u32,
     term_limit: u32,
 ) -> Outcome
-    ensures result { λ r. ⌜ told r
-        ≡ call (stated «width_limit» «term_limit») (now (job .entry)) (now (work .entry)) (now (answers .entry)) .result ⌝ }
+    ensures result { λ r. ⌜ told r ≡ job-call (stated «width_limit» «term_limit») job work answers .result ⌝ }
     ensures answers { λ _. ⌜ now (answers .exit)
-        ≡ call (stated «width_limit» «term_limit») (now (job .entry)) (now (work .entry)) (now (answers .entry)) .answer-memory ⌝ }
+        ≡ job-call (stated «width_limit» «term_limit») job work answers .answer-memory ⌝ }
     ensures work { λ _. ⌜ now (work .exit)
-        ≡ call (stated «width_limit» «term_limit») (now (job .entry)) (now (work .entry)) (now (answers .entry)) .work-memory ⌝ }
+        ≡ job-call (stated «width_limit» «term_limit») job work answers .work-memory ⌝ }
     ensures demand1 { λ r. ⌜ Stops (stated «width_limit» «term_limit») (now (job .entry)) (length (now (work .entry)))
         (length (now (answers .entry))) (r .stop) (r .records) ⌝ }
     ensures demand2 { λ r. ⌜ Demand2 (stated «width_limit» «term_limit») (now (job .entry)) (length (now (work .entry)))
@@ -61,14 +59,16 @@ pub extern "C" fn bb_job_within(
 // Checks a job, for a host: the same under the rack's limits.
 #[no_mangle]
 pub extern "C" fn bb_job(job: &[u8], work: &mut [u8], answers: &mut [u8]) -> Outcome
-    ensures result { λ r. ⌜ told r ≡ call rack (now (job .entry)) (now (work .entry)) (now (answers .entry)) .result ⌝ }
-    ensures answers { λ _. ⌜ now (answers .exit) ≡ call rack (now (job .entry)) (now (work .entry)) (now (answers .entry)) .answer-memory ⌝ }
-    ensures work { λ _. ⌜ now (work .exit) ≡ call rack (now (job .entry)) (now (work .entry)) (now (answers .entry)) .work-memory ⌝ }
-    ensures demand1 { λ r. ⌜ Stops rack (now (job .entry)) (length (now (work .entry))) (length (now (answers .entry)))
-        (r .stop) (r .records) ⌝ }
-    ensures demand2 { λ r. ⌜ Demand2 rack (now (job .entry)) (length (now (work .entry))) (length (now (answers .entry)))
+    ensures result { λ r. ⌜ told r ≡ job-call rack job work answers .result ⌝ }
+    ensures answers { λ _. ⌜ now (answers .exit) ≡ job-call rack job work answers .answer-memory ⌝ }
+    ensures work { λ _. ⌜ now (work .exit) ≡ job-call rack job work answers .work-memory ⌝ }
+    ensures demand1 { λ r. ⌜ Stops rack (now (job .entry)) (length (now (work .entry)))
+        (length (now (answers .entry))) (r .stop) (r .records) ⌝ }
+    ensures demand2 { λ r. ⌜ Demand2 rack (now (job .entry)) (length (now (work .entry)))
+        (length (now (answers .entry)))
         (decode-answers (number-length (now (job .entry))) (r .answers) (now (answers .exit))) ⌝ }
-    ensures demand3 { λ r. ⌜ Demand3 rack (now (job .entry)) (length (now (work .entry))) (length (now (answers .entry))) (r .records)
+    ensures demand3 { λ r. ⌜ Demand3 rack (now (job .entry)) (length (now (work .entry)))
+        (length (now (answers .entry))) (r .records)
         (decode-answers (number-length (now (job .entry))) (r .answers) (now (answers .exit))) ⌝ }
 {
     bb_job_within(

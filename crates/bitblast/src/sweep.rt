@@ -1,10 +1,9 @@
 // The sweep of an equality of a job's final store.
 ghost use mathlib.Core.Path.{_≡_};
 ghost use Rattle.theory.specs.Limit.{rack};
-ghost use Rattle.theory.specs.Job.{call};
-ghost use Rattle.sweeps.specs.Calls.{sweep-lent, values-after};
-ghost use Rattle.runs.specs.Walking.{told};
-ghost use Rattle.bitblast.specs.Asking.{as-swept};
+ghost use Rattle.sweeps.specs.Calls.{values-after};
+ghost use Rattle.runs.specs.Walking.{told, job-call};
+ghost use Rattle.bitblast.specs.Asking.{as-swept, sweep-call};
 use runs::Outcome;
 use runs::finished::outcome_of;
 use runs::finished::run_job;
@@ -28,9 +27,9 @@ fn sweep_job(
     values: &mut [u8],
     number: u32,
 ) -> Swept
-    ensures outcome { λ r. ⌜ told (r .outcome) ≡ call rack (now (job .entry)) (now (work .entry)) (now (answers .entry)) .result ⌝ }
-    ensures answers { λ _. ⌜ now (answers .exit) ≡ call rack (now (job .entry)) (now (work .entry)) (now (answers .entry)) .answer-memory ⌝ }
-    ensures result { λ r. ⌜ as-swept r ≡ sweep-lent (now (job .entry)) (now (work .entry)) (now (answers .entry)) (now (values .entry)) number ⌝ }
+    ensures outcome { λ r. ⌜ told (r .outcome) ≡ job-call rack job work answers .result ⌝ }
+    ensures answers { λ _. ⌜ now (answers .exit) ≡ job-call rack job work answers .answer-memory ⌝ }
+    ensures result { λ r. ⌜ as-swept r ≡ sweep-call job work answers values number ⌝ }
     ensures values { λ r. ⌜ now (values .exit) ≡ values-after (r .code) (now (values .entry)) ⌝ }
 {
     let s = run_job(job, work, answers);
@@ -60,10 +59,10 @@ pub extern "C" fn bb_sweep(
     values: &mut [u8],
     number: u32,
 ) -> Swept
-    ensures outcome { λ r. ⌜ told (r .outcome) ≡ call rack (now (job .entry)) (now (work .entry)) (now (answers .entry)) .result ⌝ }
-    ensures answers { λ _. ⌜ now (answers .exit) ≡ call rack (now (job .entry)) (now (work .entry)) (now (answers .entry)) .answer-memory ⌝ }
-    ensures work { λ _. ⌜ now (work .exit) ≡ call rack (now (job .entry)) (now (work .entry)) (now (answers .entry)) .work-memory ⌝ }
-    ensures result { λ r. ⌜ as-swept r ≡ sweep-lent (now (job .entry)) (now (work .entry)) (now (answers .entry)) (now (values .entry)) number ⌝ }
+    ensures outcome { λ r. ⌜ told (r .outcome) ≡ job-call rack job work answers .result ⌝ }
+    ensures answers { λ _. ⌜ now (answers .exit) ≡ job-call rack job work answers .answer-memory ⌝ }
+    ensures work { λ _. ⌜ now (work .exit) ≡ job-call rack job work answers .work-memory ⌝ }
+    ensures result { λ r. ⌜ as-swept r ≡ sweep-call job work answers values number ⌝ }
     ensures values { λ r. ⌜ now (values .exit) ≡ values-after (r .code) (now (values .entry)) ⌝ }
 {
     let n = lend(job.len(), work);

@@ -12,7 +12,8 @@ use tally::up;
 // One more job, with its first `count` answers by their codes; where the memory is shorter, the answers that it has whole.
 #[no_mangle]
 pub extern "C" fn bb_tally(tally: &mut Tally, answers: &[u8], count: u32)
-    ensures { λ _. ⌜ as-tally (now (tally .exit)) ≡ tally-after (as-tally (now (tally .entry))) (answers-in count (now (answers .entry))) ⌝ }
+    ensures { λ _. ⌜ as-tally (now (tally .exit))
+        ≡ tally-after (as-tally (now (tally .entry))) (answers-in count (now (answers .entry))) ⌝ }
 {
     tally.jobs = up(tally.jobs, 1);
     tally.held = count_up(tally.held, answers, count, HELD);

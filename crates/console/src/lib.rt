@@ -21,7 +21,8 @@ const TEXT_SPACE: usize = HEAD_SPACE + MEMORY / ANSWER_BYTES * LINE_SPACE;
 // Writes what `bbcheck` prints for an input, and answers how many bytes that is. Nothing is written where `out` has not the space for any
 // such text.
 pub fn bbcheck_text(input: &[u8], out: &mut [u8]) -> usize
-    ensures memory { λ _. ⌜ now (out .exit) ≡ written (shown (now (input .entry)) (length (now (out .entry)))) (now (out .entry)) ⌝ }
+    ensures memory { λ _. ⌜ now (out .exit)
+        ≡ written (shown (now (input .entry)) (length (now (out .entry)))) (now (out .entry)) ⌝ }
     ensures size { λ r. ⌜ r ≡ length (shown (now (input .entry)) (length (now (out .entry)))) ⌝ }
     ensures bound { λ r. ⌜ r ≤ length (now (out .exit)) ⌝ }
 {

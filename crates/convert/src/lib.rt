@@ -6,8 +6,7 @@ mod line;
 ghost use mathlib.Core.List.{[]};
 ghost use mathlib.Core.Path.{_≡_};
 ghost use Rattle.table.specs.Buckets.{Table};
-ghost use Rattle.text.specs.Convert.{call};
-ghost use Rattle.convert.specs.Text.{told, Taken};
+ghost use Rattle.convert.specs.Text.{told, text-call, Taken};
 use crate::line::State;
 use crate::line::take_line;
 use names::lines::line_after;
@@ -75,9 +74,9 @@ fn take_lines(text: &[u8], work: &mut [u8], out: &mut [u8]) -> Lines
 
 // Reads a text into a job. The work memory makes lookups faster; it may hold anything, and is all zero afterwards.
 pub fn convert(text: &[u8], work: &mut [u8], job: &mut [u8]) -> Converted
-    ensures result { λ r. ⌜ told r ≡ call (now (text .entry)) (now (work .entry)) (now (job .entry)) .result ⌝ }
-    ensures work { λ _. ⌜ now (work .exit) ≡ call (now (text .entry)) (now (work .entry)) (now (job .entry)) .work-memory ⌝ }
-    ensures job { λ _. ⌜ now (job .exit) ≡ call (now (text .entry)) (now (work .entry)) (now (job .entry)) .job-memory ⌝ }
+    ensures result { λ r. ⌜ told r ≡ text-call text work job .result ⌝ }
+    ensures work { λ _. ⌜ now (work .exit) ≡ text-call text work job .work-memory ⌝ }
+    ensures job { λ _. ⌜ now (job .exit) ≡ text-call text work job .job-memory ⌝ }
 {
     clear(work);
     let lines = take_lines(text, work, job);

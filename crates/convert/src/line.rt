@@ -47,9 +47,11 @@ pub fn take_line(
     work: &mut [u8],
     s: State,
 ) -> State
-    requires { ⌜ (at < length (now text)) × Ended (now text) at end × Beyond (now text) end next × Between (now text) at (now out) (now work) s ⌝ }
+    requires { ⌜ (at < length (now text)) × Ended (now text) at end × Beyond (now text) end next
+        × Between (now text) at (now out) (now work) s ⌝ }
     ensures { λ r. ⌜ Lined (now (text .entry)) next (now (out .entry)) (now (out .exit)) (now (work .exit)) (s .spot)
-        (take-line (length (now (out .entry))) (told-state (now (text .entry)) (now (out .entry)) s) (piece at end (now (text .entry)))) r ⌝ }
+        (take-line (length (now (out .entry))) (told-state (now (text .entry)) (now (out .entry)) s)
+        (piece at end (now (text .entry)))) r ⌝ }
 {
     let old = s.spot;
     let line = &text[at..end];

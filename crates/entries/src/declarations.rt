@@ -32,8 +32,9 @@ pub fn declare(
     spot: Spot,
 ) -> Put
     requires { ⌜ (declared ≡ length (declared-in (now declarations))) × Ready (now out) (now work) spot ⌝ }
-    ensures { λ r. ⌜ Declared (now (line .entry)) (declared-in (now (declarations .entry))) (now (out .entry)) (now (out .exit))
-        (now (work .exit)) spot (bind (declared-by (now (line .entry))) (declare (length (now (out .entry)))
+    ensures { λ r. ⌜ Declared (now (line .entry)) (declared-in (now (declarations .entry)))
+        (now (out .entry)) (now (out .exit)) (now (work .exit)) spot
+        (bind (declared-by (now (line .entry))) (declare (length (now (out .entry)))
         (state (declared-in (now (declarations .entry))) false (so-far (now (out .entry)) spot)))) r ⌝ }
 {
     let Declaration::Is(s, e, vector, width) = declared_by(line) else {

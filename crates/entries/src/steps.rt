@@ -80,9 +80,11 @@ pub fn take_step(
     spot: Spot,
 ) -> Put
     requires { ⌜ (at ≤ length (now line)) × Ready (now out) (now work) spot ⌝ }
-    ensures { λ r. ⌜ Stepped (declared-in (now (declarations .entry))) (now (out .entry)) (now (out .exit)) (now (work .exit)) spot
+    ensures { λ r. ⌜ Stepped (declared-in (now (declarations .entry)))
+        (now (out .entry)) (now (out .exit)) (now (work .exit)) spot
         (λ begun. take-step (length (now (out .entry)))
-        (state (declared-in (now (declarations .entry))) begun (so-far (now (out .entry)) spot)) (drop at (now (line .entry)))) r ⌝ }
+        (state (declared-in (now (declarations .entry))) begun (so-far (now (out .entry)) spot))
+        (drop at (now (line .entry)))) r ⌝ }
 {
     let a = step_front(line, at);
     if a == 0 {

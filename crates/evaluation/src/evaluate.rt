@@ -1,11 +1,11 @@
 // The value of a term in one lane, from that lane of its arguments.
 ghost use mathlib.Core.List.{[], _∷_};
 ghost use Rattle.theory.specs.Kind.{Ite};
-ghost use Rattle.store.specs.Store.{listed};
 ghost use Rattle.terms.specs.Decoded.{words-in};
 ghost use Rattle.operations.specs.Apply.{unary-op, binary-op, many-op};
 ghost use Rattle.theory.specs.Record.{number-length};
 ghost use Rattle.evaluation.specs.Cells.{lane-at, Lane, Given, GivenList, Comes, Decodable, Evaluated};
+ghost use Rattle.evaluation.specs.Lent.{kept-terms, lent-lane};
 use crate::cells::lane;
 use operations::apply::Binary;
 use operations::apply::Many;
@@ -22,7 +22,7 @@ use terms::Term;
 // An operation of the term at place x.
 fn one(job: &[u8], work: &[u8], n: usize, values: &[u8], w: u32, j: u32, op: Unary, x: u32) -> u64
     requires { ⌜ Lane w j × Given (now job) (now work) n (lane-at (now values) w j) (unary-op op) (x ∷ []) ⌝ }
-    ensures { λ r. ⌜ Comes (listed (now (job .entry)) (now (work .entry)) n) (lane-at (now (values .entry)) w j) (unary-op op) (x ∷ []) r ⌝ }
+    ensures { λ r. ⌜ Comes (kept-terms job work n) (lent-lane values w j) (unary-op op) (x ∷ []) r ⌝ }
 {
     apply_one(op, width_on(job, work, n, x), lane(values, w, j, x))
 }
@@ -40,7 +40,7 @@ fn two(
     y: u32,
 ) -> u64
     requires { ⌜ Lane w j × Given (now job) (now work) n (lane-at (now values) w j) (binary-op op) (x ∷ y ∷ []) ⌝ }
-    ensures { λ r. ⌜ Comes (listed (now (job .entry)) (now (work .entry)) n) (lane-at (now (values .entry)) w j) (binary-op op) (x ∷ y ∷ []) r ⌝ }
+    ensures { λ r. ⌜ Comes (kept-terms job work n) (lent-lane values w j) (binary-op op) (x ∷ y ∷ []) r ⌝ }
 {
     apply_two(
         op,
@@ -63,7 +63,7 @@ fn three(
     y: u32,
 ) -> u64
     requires { ⌜ Lane w j × Given (now job) (now work) n (lane-at (now values) w j) Ite (c ∷ x ∷ y ∷ []) ⌝ }
-    ensures { λ r. ⌜ Comes (listed (now (job .entry)) (now (work .entry)) n) (lane-at (now (values .entry)) w j) Ite (c ∷ x ∷ y ∷ []) r ⌝ }
+    ensures { λ r. ⌜ Comes (kept-terms job work n) (lent-lane values w j) Ite (c ∷ x ∷ y ∷ []) r ⌝ }
 {
     choice(
         lane(values, w, j, c),
@@ -75,7 +75,8 @@ fn three(
 // An operation of a list of terms, one after the other.
 fn many(job: &[u8], work: &[u8], n: usize, values: &[u8], w: u32, j: u32, op: Many, a: Args) -> u64
     requires { ⌜ Lane w j × GivenList (now job) (now work) n (lane-at (now values) w j) (many-op op) a ⌝ }
-    ensures { λ r. ⌜ Comes (listed (now (job .entry)) (now (work .entry)) n) (lane-at (now (values .entry)) w j) (many-op op) (words-in (now (job .entry)) a) r ⌝ }
+    ensures { λ r. ⌜ Comes (kept-terms job work n) (lent-lane values w j) (many-op op)
+        (words-in (now (job .entry)) a) r ⌝ }
 {
     let count = a.count;
     let first = Term::argument(job, a, 0);
@@ -103,7 +104,8 @@ pub fn evaluate(
     t: Term,
 ) -> u64
     requires { ⌜ Lane w j × Decodable (now job) (now work) n (lane-at (now values) w j) place t ⌝ }
-    ensures { λ r. ⌜ Evaluated (number-length (now (job .entry))) (listed (now (job .entry)) (now (work .entry)) n) (lane-at (now (values .entry)) w j) place r ⌝ }
+    ensures { λ r. ⌜ Evaluated (number-length (now (job .entry))) (kept-terms job work n) (lent-lane values w j)
+        place r ⌝ }
 {
     match t {
         Term::True => 1,

@@ -234,7 +234,8 @@ fn begin_opened(line: &[u8], at: usize) -> Start
 // How the term at `at` of the line begins; the variables are those that `declarations` declare.
 pub fn begin(line: &[u8], at: usize, declarations: &[u8]) -> Start
     requires { ⌜ at ≤ length (now line) ⌝ }
-    ensures { λ r. ⌜ Begins (now (line .entry)) (head (declared-in (now (declarations .entry))) (drop at (now (line .entry)))) r ⌝ }
+    ensures { λ r. ⌜ Begins (now (line .entry))
+        (head (declared-in (now (declarations .entry))) (drop at (now (line .entry)))) r ⌝ }
 {
     let token = next_token(line, at);
     if let Token::Left(next) = token {

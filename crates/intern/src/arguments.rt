@@ -5,12 +5,12 @@ ghost use Prim.Native.Nat.{_<_, max};
 ghost use lib.ListN.{getD};
 ghost use Rattle.theory.specs.Sort.{bv, guard, all-are, good, first, alike, all-bv, sum-widths, width, sort-of};
 ghost use Rattle.theory.specs.Depth.{depth};
-ghost use Rattle.theory.specs.Places.{tree-at};
 ghost use Rattle.rows.specs.Layout.{Bounded, place-end};
 ghost use Rattle.terms.specs.Decoded.{OperandsPlaced, numbers-of};
 ghost use Rattle.store.specs.Store.{listed};
-ghost use Rattle.store.specs.Sorts.{sort-read, sorts-at, deepest-at, count-of, Arguments};
+ghost use Rattle.store.specs.Sorts.{sort-read, count-of, Arguments};
 ghost use Rattle.intern.specs.Kinds.{deepest-bool};
+ghost use Rattle.intern.specs.Lent.{argument-term, argument-sorts, deepest-argument};
 use super::guards::of_width;
 use super::guards::same_sort;
 use store::shelf::bool_depth;
@@ -56,7 +56,7 @@ pub fn operand(job: &[u8], ops: Operands, i: usize) -> u32
 // The sort of argument i.
 pub fn operand_sort(job: &[u8], work: &[u8], n: usize, ops: Operands, i: usize) -> Sort
     requires { ⌜ Arguments (now job) (now work) n ops × (i < count-of ops) ⌝ }
-    ensures { λ r. ⌜ sort-read r ≡ sort-of (tree-at (listed (now (job .entry)) (now (work .entry)) n) (getD (numbers-of (now (job .entry)) ops) i 0)) ⌝ }
+    ensures { λ r. ⌜ sort-read r ≡ sort-of (argument-term job work n ops i) ⌝ }
 {
     let x = operand(job, ops, i);
     sort_at(job, work, n, x)
@@ -65,7 +65,7 @@ pub fn operand_sort(job: &[u8], work: &[u8], n: usize, ops: Operands, i: usize) 
 // The depth of argument i.
 pub fn operand_depth(job: &[u8], work: &[u8], n: usize, ops: Operands, i: usize) -> usize
     requires { ⌜ Arguments (now job) (now work) n ops × (i < count-of ops) ⌝ }
-    ensures { λ r. ⌜ Bounded r (depth (tree-at (listed (now (job .entry)) (now (work .entry)) n) (getD (numbers-of (now (job .entry)) ops) i 0))) place-end ⌝ }
+    ensures { λ r. ⌜ Bounded r (depth (argument-term job work n ops i)) place-end ⌝ }
 {
     let x = operand(job, ops, i);
     depth_at(job, work, n, x)
@@ -74,7 +74,7 @@ pub fn operand_depth(job: &[u8], work: &[u8], n: usize, ops: Operands, i: usize)
 // The sort of the first argument, Bad where there is none.
 pub fn first_sort(job: &[u8], work: &[u8], n: usize, ops: Operands) -> Sort
     requires { ⌜ Arguments (now job) (now work) n ops ⌝ }
-    ensures { λ r. ⌜ sort-read r ≡ first (sorts-at (listed (now (job .entry)) (now (work .entry)) n) (numbers-of (now (job .entry)) ops)) ⌝ }
+    ensures { λ r. ⌜ sort-read r ≡ first (argument-sorts job work n ops) ⌝ }
 {
     if count(ops) == 0 {
         return Sort::Bad;
@@ -85,7 +85,7 @@ pub fn first_sort(job: &[u8], work: &[u8], n: usize, ops: Operands) -> Sort
 // Have all arguments this sort?
 pub fn all_are(job: &[u8], work: &[u8], n: usize, ops: Operands, s: Sort) -> bool
     requires { ⌜ Arguments (now job) (now work) n ops ⌝ }
-    ensures { λ r. ⌜ r ≡ all-are (sort-read s) (sorts-at (listed (now (job .entry)) (now (work .entry)) n) (numbers-of (now (job .entry)) ops)) ⌝ }
+    ensures { λ r. ⌜ r ≡ all-are (sort-read s) (argument-sorts job work n ops) ⌝ }
 {
     let end = count(ops);
     let mut i: usize = 0;
@@ -102,7 +102,8 @@ pub fn all_are(job: &[u8], work: &[u8], n: usize, ops: Operands, s: Sort) -> boo
 // Have all arguments one sort, the first's?
 pub fn one_sort(job: &[u8], work: &[u8], n: usize, ops: Operands) -> bool
     requires { ⌜ Arguments (now job) (now work) n ops ⌝ }
-    ensures { λ r. let ss = sorts-at (listed (now (job .entry)) (now (work .entry)) n) (numbers-of (now (job .entry)) ops) in ⌜ r ≡ (good (first ss) && all-are (first ss) ss) ⌝ }
+    ensures { λ r. let ss = argument-sorts job work n ops in
+        ⌜ r ≡ (good (first ss) && all-are (first ss) ss) ⌝ }
 {
     let s = first_sort(job, work, n, ops);
     match s {
@@ -115,7 +116,7 @@ pub fn one_sort(job: &[u8], work: &[u8], n: usize, ops: Operands) -> bool
 // Are all arguments bit-vectors of one width?
 pub fn all_alike(job: &[u8], work: &[u8], n: usize, ops: Operands) -> bool
     requires { ⌜ Arguments (now job) (now work) n ops ⌝ }
-    ensures { λ r. ⌜ r ≡ alike (sorts-at (listed (now (job .entry)) (now (work .entry)) n) (numbers-of (now (job .entry)) ops)) ⌝ }
+    ensures { λ r. ⌜ r ≡ alike (argument-sorts job work n ops) ⌝ }
 {
     let s = first_sort(job, work, n, ops);
     match s {
@@ -128,7 +129,8 @@ pub fn all_alike(job: &[u8], work: &[u8], n: usize, ops: Operands) -> bool
 // The sort of all arguments joined: bit-vectors whose widths sum to a width.
 pub fn joined(job: &[u8], work: &[u8], n: usize, ops: Operands) -> Sort
     requires { ⌜ Arguments (now job) (now work) n ops ⌝ }
-    ensures { λ r. let ss = sorts-at (listed (now (job .entry)) (now (work .entry)) n) (numbers-of (now (job .entry)) ops) in ⌜ sort-read r ≡ guard (all-bv ss && width (sum-widths ss)) (bv (sum-widths ss)) ⌝ }
+    ensures { λ r. let ss = argument-sorts job work n ops in
+        ⌜ sort-read r ≡ guard (all-bv ss && width (sum-widths ss)) (bv (sum-widths ss)) ⌝ }
 {
     let end = count(ops);
     let mut sum: u32 = 0;
@@ -158,7 +160,7 @@ fn larger(a: usize, b: usize) -> usize
 // The depth of the deepest argument, 0 where there is none.
 pub fn deepest(job: &[u8], work: &[u8], n: usize, ops: Operands) -> usize
     requires { ⌜ Arguments (now job) (now work) n ops ⌝ }
-    ensures { λ r. ⌜ Bounded r (deepest-at (listed (now (job .entry)) (now (work .entry)) n) (numbers-of (now (job .entry)) ops)) place-end ⌝ }
+    ensures { λ r. ⌜ Bounded r (deepest-argument job work n ops) place-end ⌝ }
 {
     let end = count(ops);
     let mut most: usize = 0;
@@ -174,7 +176,8 @@ pub fn deepest(job: &[u8], work: &[u8], n: usize, ops: Operands) -> usize
 // The depth of the deepest argument where all are Bools, else MISSING: one look at each argument.
 pub fn deepest_bool(job: &[u8], work: &[u8], n: usize, ops: Operands) -> u32
     requires { ⌜ Arguments (now job) (now work) n ops ⌝ }
-    ensures { λ r. ⌜ r ≡ deepest-bool (listed (now (job .entry)) (now (work .entry)) n) (numbers-of (now (job .entry)) ops) ⌝ }
+    ensures { λ r. ⌜ r ≡ deepest-bool (listed (now (job .entry)) (now (work .entry)) n)
+        (numbers-of (now (job .entry)) ops) ⌝ }
 {
     let end = count(ops);
     let mut most: u32 = 0;

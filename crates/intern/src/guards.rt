@@ -98,7 +98,8 @@ pub fn of_bit(s: Sort, i: u32) -> Sort
 
 // The bits j to i of a term of this sort.
 pub fn of_extract(s: Sort, i: u32, j: u32) -> Sort
-    ensures { λ r. ⌜ sort-read r ≡ guard (is-bv-sort (sort-read s) && (leb j i && ltb i (sort-width (sort-read s)))) (bv (i - j + 1)) ⌝ }
+    ensures { λ r. ⌜ sort-read r
+        ≡ guard (is-bv-sort (sort-read s) && (leb j i && ltb i (sort-width (sort-read s)))) (bv (i - j + 1)) ⌝ }
 {
     if i < j {
         return Sort::Bad;
@@ -111,7 +112,9 @@ pub fn of_extract(s: Sort, i: u32, j: u32) -> Sort
 
 // A term of this sort with k more bits.
 pub fn of_extend(s: Sort, k: u32) -> Sort
-    ensures { λ r. ⌜ sort-read r ≡ guard (is-bv-sort (sort-read s) && leb (sort-width (sort-read s) + k) max-width) (bv (sort-width (sort-read s) + k)) ⌝ }
+    ensures { λ r. ⌜ sort-read r
+        ≡ guard (is-bv-sort (sort-read s) && leb (sort-width (sort-read s) + k) max-width)
+        (bv (sort-width (sort-read s) + k)) ⌝ }
 {
     match s {
         Sort::Bad => Sort::Bad,
@@ -130,7 +133,9 @@ pub fn of_extend(s: Sort, k: u32) -> Sort
 
 // k copies of a term of this sort.
 pub fn of_copies(s: Sort, k: u32) -> Sort
-    ensures { λ r. ⌜ sort-read r ≡ guard (is-bv-sort (sort-read s) && width (k * sort-width (sort-read s))) (bv (k * sort-width (sort-read s))) ⌝ }
+    ensures { λ r. ⌜ sort-read r
+        ≡ guard (is-bv-sort (sort-read s) && width (k * sort-width (sort-read s)))
+        (bv (k * sort-width (sort-read s))) ⌝ }
 {
     match s {
         Sort::Bad => Sort::Bad,

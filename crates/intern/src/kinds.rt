@@ -3,10 +3,11 @@ ghost use mathlib.Core.Path.{_≡_};
 ghost use Prim.Native.Nat.{_≤_};
 ghost use Rattle.theory.specs.Sort.{first};
 ghost use Rattle.theory.specs.Places.{tree-of};
-ghost use Rattle.terms.specs.Decoded.{op-of, numbers-of, arguments-of};
+ghost use Rattle.terms.specs.Decoded.{op-of, arguments-of};
 ghost use Rattle.store.specs.Store.{listed};
-ghost use Rattle.store.specs.Sorts.{sort-read, sorts-at, deepest-at, Arguments};
+ghost use Rattle.store.specs.Sorts.{sort-read, Arguments};
 ghost use Rattle.intern.specs.Kinds.{asks-of, asked-sort, asked-depth, of-bools, Fitting, SameAsked, SortDepthOf};
+ghost use Rattle.intern.specs.Lent.{argument-sorts, deepest-argument};
 use super::arguments::all_alike;
 use super::arguments::all_are;
 use super::arguments::count;
@@ -111,7 +112,7 @@ pub fn asked_by(term: Term) -> Asks
 // The sort of a term that asks this of these arguments.
 pub fn asked_sort(job: &[u8], work: &[u8], n: usize, ops: Operands, asks: Asks) -> Sort
     requires { ⌜ Arguments (now job) (now work) n ops ⌝ }
-    ensures { λ r. ⌜ sort-read r ≡ asked-sort asks (sorts-at (listed (now (job .entry)) (now (work .entry)) n) (numbers-of (now (job .entry)) ops)) ⌝ }
+    ensures { λ r. ⌜ sort-read r ≡ asked-sort asks (argument-sorts job work n ops) ⌝ }
 {
     match asks {
         Asks::Nothing => Sort::Bool,
@@ -137,7 +138,7 @@ pub fn asked_sort(job: &[u8], work: &[u8], n: usize, ops: Operands, asks: Asks) 
 // The depth of a term that asks this of these arguments: gates are one deeper than the deepest, a BvBbTerm as deep, any other has 0.
 pub fn asked_depth(job: &[u8], work: &[u8], n: usize, ops: Operands, asks: Asks) -> usize
     requires { ⌜ Arguments (now job) (now work) n ops ⌝ }
-    ensures { λ r. let list = listed (now (job .entry)) (now (work .entry)) n in let ks = numbers-of (now (job .entry)) ops in ⌜ r ≡ asked-depth asks (first (sorts-at list ks)) (deepest-at list ks) ⌝ }
+    ensures { λ r. ⌜ r ≡ asked-depth asks (first (argument-sorts job work n ops)) (deepest-argument job work n ops) ⌝ }
 {
     match asks {
         Asks::Bools => deepest(job, work, n, ops) + 1,
@@ -184,7 +185,7 @@ fn of_bools(deepest: u32, s: Sort, more: usize) -> SortAndDepth
 // What comes to the same for these arguments: an equality whose first side is a Bool asks for Bools.
 fn asked_of(job: &[u8], work: &[u8], n: usize, ops: Operands, asks: Asks) -> Asks
     requires { ⌜ Arguments (now job) (now work) n ops ⌝ }
-    ensures { λ r. ⌜ SameAsked asks r (sorts-at (listed (now (job .entry)) (now (work .entry)) n) (numbers-of (now (job .entry)) ops)) ⌝ }
+    ensures { λ r. ⌜ SameAsked asks r (argument-sorts job work n ops) ⌝ }
 {
     let Asks::Same = asks else {
         return asks;
@@ -198,7 +199,8 @@ fn asked_of(job: &[u8], work: &[u8], n: usize, ops: Operands, asks: Asks) -> Ask
 // The sort of a term, and its depth where it has a sort. Where it asks for Bools, each argument is looked at once for both.
 pub fn sort_and_depth(job: &[u8], work: &[u8], n: usize, term: Term) -> SortAndDepth
     requires { ⌜ Fitting (now job) (now work) n term ⌝ }
-    ensures { λ r. ⌜ SortDepthOf (tree-of (listed (now (job .entry)) (now (work .entry)) n) (op-of term) (arguments-of (now (job .entry)) term)) r ⌝ }
+    ensures { λ r. ⌜ SortDepthOf (tree-of (listed (now (job .entry)) (now (work .entry)) n)
+        (op-of term) (arguments-of (now (job .entry)) term)) r ⌝ }
 {
     let ops = term.operands();
     let asks = asked_of(job, work, n, ops, asked_by(term));

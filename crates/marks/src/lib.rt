@@ -73,7 +73,8 @@ fn clear_marks(job: &[u8], work: &mut [u8], n: usize)
 // Marks the terms of a list, the last first.
 fn mark_list(job: &[u8], work: &mut [u8], a: Args)
     requires { ⌜ Inside (now job) a × Rooms (now job) (now work) (words-in (now job) a) ⌝ }
-    ensures { λ _. ⌜ SetAll (now (job .entry)) (now (work .entry)) (words-in (now (job .entry)) a) (now (work .exit)) ⌝ }
+    ensures { λ _. ⌜ SetAll (now (job .entry)) (now (work .entry)) (words-in (now (job .entry)) a)
+        (now (work .exit)) ⌝ }
 {
     let mut i = a.count;
     while 0 < i {
@@ -85,7 +86,8 @@ fn mark_list(job: &[u8], work: &mut [u8], a: Args)
 // Marks the terms that these arguments are.
 fn mark_operands(job: &[u8], work: &mut [u8], ops: Operands)
     requires { ⌜ OperandsPlaced (now job) ops × Rooms (now job) (now work) (numbers-of (now job) ops) ⌝ }
-    ensures { λ _. ⌜ SetAll (now (job .entry)) (now (work .entry)) (numbers-of (now (job .entry)) ops) (now (work .exit)) ⌝ }
+    ensures { λ _. ⌜ SetAll (now (job .entry)) (now (work .entry)) (numbers-of (now (job .entry)) ops)
+        (now (work .exit)) ⌝ }
 {
     match ops {
         Operands::None => {}
@@ -174,7 +176,8 @@ fn linked(job: &[u8], work: &[u8], place: u32) -> u32
 
 // The next marked place after a marked one, up to the asked one.
 pub fn next_marked(job: &[u8], work: &[u8], asked: u32, place: u32) -> u32
-    requires { ⌜ Room (now job) (now work) asked × Room (now job) (now work) place × (suc asked < 256 ^ link-size (now job)) × (place ≤ asked) ⌝ }
+    requires { ⌜ Room (now job) (now work) asked × Room (now job) (now work) place
+        × (suc asked < 256 ^ link-size (now job)) × (place ≤ asked) ⌝ }
     ensures { λ r. ⌜ r ≡ following (now (job .entry)) (now (work .entry)) asked place ⌝ }
 {
     if place == asked {

@@ -2,6 +2,7 @@
 ghost use Prim.Native.Nat.{_*_, _≤_};
 ghost use lib.ListN.{length};
 ghost use Rattle.store.specs.Store.{listed};
+ghost use Rattle.evaluation.specs.Lent.{kept-terms};
 ghost use Rattle.sweeps.specs.Calls.{cell-bytes};
 ghost use Rattle.digits.specs.Digits.{Marked};
 ghost use Rattle.partial.specs.Inputs.{InputsPlaced};
@@ -13,7 +14,7 @@ use marks::next_marked;
 pub fn place_inputs(job: &[u8], work: &[u8], n: usize, values: &mut [u8], asked: u32)
     requires { ⌜ Marked (now job) (now work) n asked
         × (cell-bytes * length (listed (now job) (now work) n) ≤ length (now values)) ⌝ }
-    ensures { λ _. let list = listed (now (job .entry)) (now (work .entry)) n in
+    ensures { λ _. let list = kept-terms job work n in
         ⌜ InputsPlaced list asked (now (values .entry)) (now (values .exit)) ⌝ }
 {
     let mut at: u64 = 0;

@@ -1,6 +1,6 @@
 // The bits of the asked term, written as bytes.
 ghost use mathlib.Core.Path.{_≡_};
-ghost use Rattle.store.specs.Store.{listed};
+ghost use Rattle.evaluation.specs.Lent.{kept-terms};
 ghost use Rattle.sweeps.specs.Known.{known-byte, of-byte};
 ghost use Rattle.partial.specs.Output.{Output, Wrote};
 use ternary::bits::bit_on;
@@ -30,7 +30,7 @@ pub fn write_bits(
     outputs: &mut [u8],
 )
     requires { ⌜ Output (now job) (now work) n asked bits (now outputs) ⌝ }
-    ensures { λ _. let list = listed (now (job .entry)) (now (work .entry)) n in
+    ensures { λ _. let list = kept-terms job work n in
         ⌜ Wrote list (now (job .entry)) (now (work .entry)) (now (inputs .entry)) (now (values .entry)) asked bits
         (now (outputs .entry)) (now (outputs .exit)) ⌝ }
 {

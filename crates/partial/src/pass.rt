@@ -1,5 +1,5 @@
 // One pass over the marked Bools, upwards.
-ghost use Rattle.store.specs.Store.{listed};
+ghost use Rattle.evaluation.specs.Lent.{kept-terms};
 ghost use Rattle.partial.specs.Passing.{Ready, Passed};
 use evaluation::cells::put_cell;
 use marks::next_marked;
@@ -10,8 +10,9 @@ use ternary::known::known_of;
 // stand.
 pub fn known_all(job: &[u8], work: &[u8], n: usize, values: &mut [u8], inputs: &[u8], asked: u32)
     requires { ⌜ Ready (now job) (now work) n (now values) asked ⌝ }
-    ensures { λ _. let list = listed (now (job .entry)) (now (work .entry)) n in
-        ⌜ Passed list (now (job .entry)) (now (work .entry)) (now (inputs .entry)) asked (now (values .entry)) (now (values .exit)) ⌝ }
+    ensures { λ _. let list = kept-terms job work n in
+        ⌜ Passed list (now (job .entry)) (now (work .entry)) (now (inputs .entry)) asked
+        (now (values .entry)) (now (values .exit)) ⌝ }
 {
     let mut k: u32 = 0;
     while k <= asked {

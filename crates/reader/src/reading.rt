@@ -187,7 +187,8 @@ fn finish_leaf(
 ) -> Read
     requires { ⌜ (next ≤ length (now line)) × Ready (now out) (now work) spot × Known kind ⌝ }
     ensures { λ r. ⌜ Reads (now (line .entry)) (now (out .entry)) (now (out .exit)) (now (work .exit)) spot
-        (leaf-write (length (now (out .entry))) (op-of kind) (drop next (now (line .entry))) (so-far (now (out .entry)) spot)) r ⌝ }
+        (leaf-write (length (now (out .entry))) (op-of kind)
+        (drop next (now (line .entry))) (so-far (now (out .entry)) spot)) r ⌝ }
 {
     let none = [0u16; Term::MAX_ARGUMENTS];
     let Put::At(number, s) = put_term(kind, none, 0, out, work, spot) else {
@@ -242,8 +243,8 @@ fn read_arguments(
 ) -> List
     requires { ⌜ (at ≤ length (now line)) × Ready (now out) (now work) spot ⌝ }
     ensures { λ l. ⌜ Lists (now (line .entry)) (now (out .entry)) (now (out .exit)) (now (work .exit)) spot
-        (fitting (read-write-all nesting (declared-in (now (declarations .entry))) (length (now (out .entry))) max-arguments
-        (drop at (now (line .entry))) (so-far (now (out .entry)) spot))) l ⌝ }
+        (fitting (read-write-all nesting (declared-in (now (declarations .entry))) (length (now (out .entry)))
+        max-arguments (drop at (now (line .entry))) (so-far (now (out .entry)) spot))) l ⌝ }
 {
     let mut numbers = [0u16; Term::MAX_ARGUMENTS];
     let mut count: usize = 0;

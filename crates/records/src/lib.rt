@@ -96,7 +96,8 @@ fn term_record(
 ) -> Turn
     requires { ⌜ Reading (now job) (now work) rows at (I.Term term) ⌝ }
     ensures { λ r. ⌜ ((place : ℕ) (answers : Bytes)
-        → Turned (limits-of limits) place (now (job .entry)) (now (work .entry)) answers rows answered at (now (work .exit)) answers r) ⌝ }
+        → Turned (limits-of limits) place (now (job .entry)) (now (work .entry)) answers rows answered at
+        (now (work .exit)) answers r) ⌝ }
 {
     if !term.below(job, (rows + FIRST_PLACE) as u32) {
         return Turn {
@@ -132,8 +133,10 @@ fn step_fault(
     rule: u32,
     literals: Args,
 ) -> u32
-    requires { ⌜ Inside (now job) literals × Length bytes × (rows + first-terms < place-end) × (answer-bytes bytes * answered ≤ space) ⌝ }
-    ensures { λ r. ⌜ r ≡ first-fault (step-tests bytes (rows + first-terms) space answered (is-some (rule-at rule)) (words-in (now (job .entry)) literals)) ⌝ }
+    requires { ⌜ Inside (now job) literals × Length bytes × (rows + first-terms < place-end)
+        × (answer-bytes bytes * answered ≤ space) ⌝ }
+    ensures { λ r. ⌜ r ≡ first-fault (step-tests bytes (rows + first-terms) space answered
+        (is-some (rule-at rule)) (words-in (now (job .entry)) literals)) ⌝ }
 {
     if !Term::all_below(job, literals, (rows + FIRST_PLACE) as u32) {
         return 6;
@@ -158,7 +161,8 @@ fn answered_turn(
     reply: Reply,
 ) -> Turn
     requires { ⌜ Length bytes × (answer-bytes bytes * suc answered ≤ length (now answers)) ⌝ }
-    ensures written { λ _. ⌜ now (answers .exit) ≡ with-notes bytes (now (answers .entry)) answered at (given rule reply ∷ []) ⌝ }
+    ensures written { λ _. ⌜ now (answers .exit)
+        ≡ with-notes bytes (now (answers .entry)) answered at (given rule reply ∷ []) ⌝ }
     ensures turned { λ r. ⌜ r ≡ turn 0 (answered + 1) rows 0 ⌝ }
 {
     put_answer(answers, bytes, answered, at, rule, reply);
@@ -181,9 +185,11 @@ fn step_record(
     rule: u32,
     literals: Args,
 ) -> Turn
-    requires { ⌜ Reading (now job) (now work) rows at (I.Step rule literals) × (answer-bytes (number-length (now job)) * answered ≤ length (now answers)) ⌝ }
+    requires { ⌜ Reading (now job) (now work) rows at (I.Step rule literals)
+        × (answer-bytes (number-length (now job)) * answered ≤ length (now answers)) ⌝ }
     ensures { λ r. ⌜ ((limits : L.Limits) (place : ℕ)
-        → Turned limits place (now (job .entry)) (now (work .entry)) (now (answers .entry)) rows answered at (now (work .entry)) (now (answers .exit)) r) ⌝ }
+        → Turned limits place (now (job .entry)) (now (work .entry)) (now (answers .entry)) rows answered at
+        (now (work .entry)) (now (answers .exit)) r) ⌝ }
 {
     let bytes = Term::number_length(job);
     let code = step_fault(job, bytes, rows, answered, answers.len(), rule, literals);
@@ -209,7 +215,8 @@ fn chain_fault(
     literal: u32,
 ) -> u32
     requires { ⌜ Length bytes × (rows + first-terms < place-end) × (answer-bytes bytes * answered ≤ space) ⌝ }
-    ensures { λ r. ⌜ r ≡ first-fault (step-tests bytes (rows + first-terms) space answered (is-some (chain-rule-at rule)) (literal ∷ [])) ⌝ }
+    ensures { λ r. ⌜ r ≡ first-fault (step-tests bytes (rows + first-terms) space answered
+        (is-some (chain-rule-at rule)) (literal ∷ [])) ⌝ }
 {
     if (rows + FIRST_PLACE) as u32 <= literal {
         return 6;
@@ -235,9 +242,11 @@ fn chain_record(
     premises: Args,
     literal: u32,
 ) -> Turn
-    requires { ⌜ Reading (now job) (now work) rows at (I.Chain rule premises literal) × Noted (now job) (now work) (now answers) rows answered ⌝ }
+    requires { ⌜ Reading (now job) (now work) rows at (I.Chain rule premises literal)
+        × Noted (now job) (now work) (now answers) rows answered ⌝ }
     ensures { λ r. ⌜ ((limits : L.Limits) (place : ℕ)
-        → Turned limits place (now (job .entry)) (now (work .entry)) (now (answers .entry)) rows answered at (now (work .entry)) (now (answers .exit)) r) ⌝ }
+        → Turned limits place (now (job .entry)) (now (work .entry)) (now (answers .entry)) rows answered at
+        (now (work .entry)) (now (answers .exit)) r) ⌝ }
 {
     let bytes = Term::number_length(job);
     let code = chain_fault(bytes, rows, answered, answers.len(), rule, literal);
@@ -265,7 +274,8 @@ fn back_record(
 ) -> Turn
     requires { ⌜ Reading (now job) (now work) rows at (I.Back count) ⌝ }
     ensures { λ r. ⌜ ((limits : L.Limits) (place : ℕ) (answers : Bytes)
-        → Turned limits place (now (job .entry)) (now (work .entry)) answers rows answered at (now (work .exit)) answers r) ⌝ }
+        → Turned limits place (now (job .entry)) (now (work .entry)) answers rows answered at
+        (now (work .exit)) answers r) ⌝ }
 {
     let n = count as usize;
     if n < FIRST_PLACE {
@@ -325,8 +335,8 @@ pub fn take_record(
     at: usize,
 ) -> Turn
     requires { ⌜ Noted (now job) (now work) (now answers) rows answered × (whole (drop at (now job)) ≡ true) ⌝ }
-    ensures { λ r. ⌜ Turned (limits-of limits) place (now (job .entry)) (now (work .entry)) (now (answers .entry)) rows answered at
-        (now (work .exit)) (now (answers .exit)) r ⌝ }
+    ensures { λ r. ⌜ Turned (limits-of limits) place (now (job .entry)) (now (work .entry)) (now (answers .entry))
+        rows answered at (now (work .exit)) (now (answers .exit)) r ⌝ }
 {
     let item = Term::read(job, at);
     match item {

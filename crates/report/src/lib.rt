@@ -8,7 +8,7 @@ ghost use Rattle.terms.specs.Bodies.{Length};
 ghost use Rattle.theory.specs.Record.{word};
 ghost use Rattle.theory.specs.Answer.{decode-answer, decode-answers};
 ghost use Rattle.theory.specs.Program.{decimal, answer-lines};
-ghost use Rattle.report.specs.Text.{Wrote, line-space, head-space, line, head, report-text, too-long, written};
+ghost use Rattle.report.specs.Text.{WroteAt, line-space, head-space, line, head, report-text, too-long, written};
 use terms::CODE_AT;
 use terms::DEPTH_AT;
 use terms::RULE_AT;
@@ -32,7 +32,7 @@ const NEWLINE: u32 = 10;
 // Writes one byte at `at`. This function and the next ones answer the place after what they wrote.
 fn put_byte(x: u32, out: &mut [u8], at: usize) -> usize
     requires { ⌜ (x < 256) × (at < length (now out)) ⌝ }
-    ensures { λ r. ⌜ Wrote (now (out .entry)) at (x ∷ []) (now (out .exit)) r ⌝ }
+    ensures { λ r. ⌜ WroteAt out at (x ∷ []) r ⌝ }
 {
     out[at] = x as u8;
     at + 1
@@ -41,7 +41,7 @@ fn put_byte(x: u32, out: &mut [u8], at: usize) -> usize
 // Writes the bytes of `text`.
 fn put_text(text: &[u8], out: &mut [u8], at: usize) -> usize
     requires { ⌜ at + length (now text) ≤ length (now out) ⌝ }
-    ensures { λ r. ⌜ Wrote (now (out .entry)) at (now (text .entry)) (now (out .exit)) r ⌝ }
+    ensures { λ r. ⌜ WroteAt out at (now (text .entry)) r ⌝ }
 {
     let n = text.len();
     for i in 0..n {
@@ -53,7 +53,7 @@ fn put_text(text: &[u8], out: &mut [u8], at: usize) -> usize
 // Writes a number in decimal: what stands before its last digit, then that digit.
 fn put_number(n: u32, out: &mut [u8], at: usize) -> usize
     requires { ⌜ at + length (decimal n) ≤ length (now out) ⌝ }
-    ensures { λ r. ⌜ Wrote (now (out .entry)) at (decimal n) (now (out .exit)) r ⌝ }
+    ensures { λ r. ⌜ WroteAt out at (decimal n) r ⌝ }
 {
     if n < 10 {
         return put_byte(ZERO + n, out, at);
@@ -65,7 +65,7 @@ fn put_number(n: u32, out: &mut [u8], at: usize) -> usize
 // Writes a number, and the byte that ends it.
 fn put_ended(n: u32, end: u32, out: &mut [u8], at: usize) -> usize
     requires { ⌜ (end < 256) × (at + length (decimal n) < length (now out)) ⌝ }
-    ensures { λ r. ⌜ Wrote (now (out .entry)) at (decimal n ++ (end ∷ [])) (now (out .exit)) r × (r ≤ at + 11) ⌝ }
+    ensures { λ r. ⌜ WroteAt out at (decimal n ++ (end ∷ [])) r × (r ≤ at + 11) ⌝ }
 {
     let after = put_number(n, out, at);
     put_byte(end, out, after)
@@ -74,7 +74,7 @@ fn put_ended(n: u32, end: u32, out: &mut [u8], at: usize) -> usize
 // Writes the two-byte number at i of `s`, and the byte that ends it.
 fn put_field(s: &[u8], i: usize, end: u32, out: &mut [u8], at: usize) -> usize
     requires { ⌜ (i + 1 < length (now s)) × (end < 256) × (at + 6 ≤ length (now out)) ⌝ }
-    ensures { λ r. ⌜ Wrote (now (out .entry)) at (decimal (word (drop i (now (s .entry)))) ++ (end ∷ [])) (now (out .exit)) r × (r ≤ at + 6) ⌝ }
+    ensures { λ r. ⌜ WroteAt out at (decimal (word (drop i (now (s .entry)))) ++ (end ∷ [])) r × (r ≤ at + 6) ⌝ }
 {
     put_ended(Term::number(s, i), end, out, at)
 }
@@ -82,7 +82,7 @@ fn put_field(s: &[u8], i: usize, end: u32, out: &mut [u8], at: usize) -> usize
 // Writes a text, and a number after it.
 fn put_total(text: &[u8], n: u32, out: &mut [u8], at: usize) -> usize
     requires { ⌜ at + length (now text) + 10 ≤ length (now out) ⌝ }
-    ensures { λ r. ⌜ Wrote (now (out .entry)) at (now (text .entry) ++ decimal n) (now (out .exit)) r × (r ≤ at + length (now (text .entry)) + 10) ⌝ }
+    ensures { λ r. ⌜ WroteAt out at (now (text .entry) ++ decimal n) r × (r ≤ at + length (now (text .entry)) + 10) ⌝ }
 {
     let after = put_text(text, out, at);
     put_number(n, out, after)
@@ -91,7 +91,7 @@ fn put_total(text: &[u8], n: u32, out: &mut [u8], at: usize) -> usize
 // Writes the first line, `steps N terms T repeats R stop C`.
 fn put_head(steps: u32, terms: u32, repeats: u32, stop: u32, out: &mut [u8]) -> usize
     requires { ⌜ head-space ≤ length (now out) ⌝ }
-    ensures { λ r. ⌜ Wrote (now (out .entry)) 0 (head steps terms repeats stop) (now (out .exit)) r × (r ≤ head-space) ⌝ }
+    ensures { λ r. ⌜ WroteAt out 0 (head steps terms repeats stop) r × (r ≤ head-space) ⌝ }
 {
     let a = put_total(b"steps ", steps, out, 0);
     let b = put_total(b" terms ", terms, out, a);
@@ -102,8 +102,11 @@ fn put_head(steps: u32, terms: u32, repeats: u32, stop: u32, out: &mut [u8]) -> 
 
 // Writes the line of answer k, counted from 0: its place from 1, rule, code and depth, which has so many bytes.
 fn put_line(answers: &[u8], bytes: usize, k: u32, out: &mut [u8], at: usize) -> usize
-    requires { ⌜ (k < 4294967295) × Length bytes × (k * answer-bytes bytes + answer-bytes bytes ≤ length (now answers)) × (at + line-space ≤ length (now out)) ⌝ }
-    ensures { λ r. ⌜ Wrote (now (out .entry)) at (line (k + 1) (decode-answer bytes (drop (k * answer-bytes bytes) (now (answers .entry))))) (now (out .exit)) r × (r ≤ at + line-space) ⌝ }
+    requires { ⌜ (k < 4294967295) × Length bytes × (k * answer-bytes bytes + answer-bytes bytes ≤ length (now answers))
+        × (at + line-space ≤ length (now out)) ⌝ }
+    ensures { λ r. ⌜ WroteAt out at
+        (line (k + 1) (decode-answer bytes (drop (k * answer-bytes bytes) (now (answers .entry))))) r
+        × (r ≤ at + line-space) ⌝ }
 {
     let i = k as usize * (DEPTH_AT + bytes);
     let a = put_ended(k + 1, SPACE, out, at);
@@ -115,8 +118,9 @@ fn put_line(answers: &[u8], bytes: usize, k: u32, out: &mut [u8], at: usize) -> 
 
 // Writes the lines of the first `count` answers.
 fn put_lines(answers: &[u8], bytes: usize, count: u32, out: &mut [u8], at: usize) -> usize
-    requires { ⌜ Length bytes × (count * answer-bytes bytes ≤ length (now answers)) × (at + count * line-space ≤ length (now out)) ⌝ }
-    ensures { λ r. ⌜ Wrote (now (out .entry)) at (answer-lines 1 (decode-answers bytes count (now (answers .entry)))) (now (out .exit)) r ⌝ }
+    requires { ⌜ Length bytes × (count * answer-bytes bytes ≤ length (now answers))
+        × (at + count * line-space ≤ length (now out)) ⌝ }
+    ensures { λ r. ⌜ WroteAt out at (answer-lines 1 (decode-answers bytes count (now (answers .entry)))) r ⌝ }
 {
     let mut next = at;
     for k in 0..count {
@@ -138,8 +142,11 @@ pub fn report(
     out: &mut [u8],
 ) -> usize
     requires { ⌜ Length bytes ⌝ }
-    ensures memory { λ r. ⌜ now (out .exit) ≡ written (report-text stop terms repeats count bytes (now (answers .entry)) (length (now (out .entry)))) (now (out .entry)) ⌝ }
-    ensures size { λ r. ⌜ r ≡ length (report-text stop terms repeats count bytes (now (answers .entry)) (length (now (out .entry)))) ⌝ }
+    ensures memory { λ r. ⌜ now (out .exit)
+        ≡ written (report-text stop terms repeats count bytes (now (answers .entry)) (length (now (out .entry))))
+        (now (out .entry)) ⌝ }
+    ensures size { λ r. ⌜ r
+        ≡ length (report-text stop terms repeats count bytes (now (answers .entry)) (length (now (out .entry)))) ⌝ }
 {
     let n = count as usize;
     if answers.len() < n * (DEPTH_AT + bytes) {

@@ -4,10 +4,12 @@ use mathlib.Core.Bool.{true, false, cond}
 use Prim.Native.Nat.{ℕ, zero, suc, _+_, _-_, _*_, _≤_, _<_}
 use lib.Dec.{leb}
 use lib.ListN.{length, take, drop}
+use denote.Ref.{RefT, now}
+use denote.Triple.Both.{Both}
 use Rattle.theory.specs.Limit.{Limits, first-terms, max-job, answer-bytes}
 use Rattle.theory.specs.Record.{Bytes, extent, whole, records-of, total-length, number-length}
 use Rattle.theory.specs.Plain.{plain-after}
-use Rattle.theory.specs.Job.{Returned, returned, run, answers-after}
+use Rattle.theory.specs.Job.{Returned, returned, Call, call, run, answers-after}
 use Rattle.terms.specs.declared.Frame.the-variants.{Broken}
 use Rattle.terms.specs.Framing.{frame-code}
 use Rattle.steps.specs.Answering.{sealed}
@@ -24,16 +26,21 @@ use Rattle.records.specs.Turning.{passed, memory-at, Turned}
 abbrev pub told : Outcome → Returned
 told o = record { stop = o .stop; records = o .records; answers = o .answers; terms = o .terms; repeats = o .repeats }
 
+-- all that a call does under stated limits, with a job, a work memory and an answers' memory as they are lent
+abbrev pub job-call : {X Y Z : Type 0} → Limits → Both (RefT Bytes) X → Both (RefT Bytes) Y → Both (RefT Bytes) Z → Call
+job-call limits job work answers = call limits (now (job .entry)) (now (work .entry)) (now (answers .entry))
+
 -- a state by its parts
 abbrev pub state : ℕ → ℕ → ℕ → ℕ → ℕ → ℕ → State
-state at stop records answers rows repeats = record { at = at; stop = stop; records = records; answers = answers; rows = rows; repeats = repeats }
+state at stop records answers rows repeats =
+    record { at = at; stop = stop; records = records; answers = answers; rows = rows; repeats = repeats }
 
 -- what the host would be told if the job ended here
 abbrev pub reached : State → Returned
 reached s = record { stop = s .stop; records = s .records; answers = s .answers; terms = s .rows + first-terms; repeats = s .repeats }
 
--- the terms are kept, the answers have room and hold the places of their steps' records, no more records are done than bytes passed, and no more repeats
--- met than records
+-- the terms are kept, the answers have room and hold the places of their steps' records, no more records are done than bytes passed, and
+-- no more repeats met than records
 pub record Standing (job work answers : Bytes) (s : State) : Type 0 where
   pub noted : Noted job work answers (s .rows) (s .answers)
   pub counted : s .records ≤ s .at
@@ -47,9 +54,11 @@ moved size s t =
 
 -- no whole record was there, so code 3 stops the job; or one was there, and it was taken
 pub data Next (limits : Limits) (job work answers : Bytes) (s : State) (work′ answers′ : Bytes) (s′ : State) : Type 0 where
-  broken : whole (drop (s .at) job) ≡ false → work′ ≡ work → answers′ ≡ answers → s′ ≡ state (s .at) (frame-code Broken) (s .records) (s .answers) (s .rows) (s .repeats)
+  broken : whole (drop (s .at) job) ≡ false → work′ ≡ work → answers′ ≡ answers
+      → s′ ≡ state (s .at) (frame-code Broken) (s .records) (s .answers) (s .rows) (s .repeats)
       → Next limits job work answers s work′ answers′ s′
-  taken : whole (drop (s .at) job) ≡ true → (t : Turn) → Turned limits (s .records) job work answers (s .rows) (s .answers) (s .at) work′ answers′ t
+  taken : whole (drop (s .at) job) ≡ true → (t : Turn)
+      → Turned limits (s .records) job work answers (s .rows) (s .answers) (s .at) work′ answers′ t
       → s′ ≡ moved (extent (drop (s .at) job)) s t → Next limits job work answers s work′ answers′ s′
 
 -- so many bytes of work memory are used of a job: all, or four for each byte of the job, which is more than its records can fill
@@ -70,14 +79,15 @@ memory-left limits job work space =
     cond (leb (length job) max-job) (memory-run job (cleared work) (run limits job (length work) space .records)) work
 
 -- ---- the whole job
--- what the host is to be told of it, and the answers' memory once its answers have their length and kind; where the records done end, the work
--- memory after them, and the terms that are kept then; the numbers fit into 32 bits
+-- what the host is to be told of it, and the answers' memory once its answers have their length and kind; where the records done end, the
+-- work memory after them, and the terms that are kept then; the numbers fit into 32 bits
 pub record Walked (limits : Limits) (job lent old work answers : Bytes) (s : State) : Type 0 where
   pub result-is : reached s ≡ returned (run limits job (length lent) (length old))
   pub at-is : s .at ≡ total-length (take (s .records) (records-of job))
   pub memory-is : work ≡ memory-run job (cleared lent) (s .records)
   pub roomy : answer-bytes (number-length job) * s .answers ≤ length answers
-  pub answers-are : sealed (number-length job) (s .answers) answers ≡ answers-after (number-length job) (run limits job (length lent) (length old) .answers) old
+  pub answers-are : sealed (number-length job) (s .answers) answers
+      ≡ answers-after (number-length job) (run limits job (length lent) (length old) .answers) old
   pub few-records : s .records ≤ max-job
   pub few-answers : s .answers ≤ max-job
   pub few-terms : s .rows + first-terms < place-end

@@ -4,10 +4,9 @@ pub mod walk;
 
 ghost use mathlib.Core.Path.{_≡_};
 ghost use lib.ListN.{length};
-ghost use Rattle.theory.specs.Job.{call};
 ghost use Rattle.table.specs.Promise.{carried};
 ghost use Rattle.intern.specs.Interning.{limits-of};
-ghost use Rattle.runs.specs.Walking.{told, Enough, memory-left};
+ghost use Rattle.runs.specs.Walking.{told, job-call, Enough, memory-left};
 use crate::finished::outcome_of;
 use crate::finished::run_within;
 use intern::Limits;
@@ -28,9 +27,8 @@ pub struct Outcome {
 
 // The outcome of a job under limits that the caller states, and its answers. The work memory is left as the job used it.
 pub fn check_job(job: &[u8], work: &mut [u8], answers: &mut [u8], limits: Limits) -> Outcome
-    ensures result { λ r. ⌜ told r ≡ call (limits-of limits) (now (job .entry)) (now (work .entry)) (now (answers .entry)) .result ⌝ }
-    ensures answers { λ _. ⌜ now (answers .exit)
-        ≡ call (limits-of limits) (now (job .entry)) (now (work .entry)) (now (answers .entry)) .answer-memory ⌝ }
+    ensures result { λ r. ⌜ told r ≡ job-call (limits-of limits) job work answers .result ⌝ }
+    ensures answers { λ _. ⌜ now (answers .exit) ≡ job-call (limits-of limits) job work answers .answer-memory ⌝ }
     ensures work { λ _. ⌜ now (work .exit)
         ≡ memory-left (limits-of limits) (now (job .entry)) (now (work .entry)) (length (now (answers .entry))) ⌝ }
 {

@@ -87,7 +87,8 @@ fn walk_records(job: &[u8], first: usize, wanted: &[u8]) -> Found
 // The number of the term whose record equals `wanted`: by the table over the rows, then by a walk over the records after those that have one.
 fn find_term(wanted: &[u8], out: &[u8], work: &[u8], spot: Spot) -> Found
     requires { ⌜ Ready (now out) (now work) spot ⌝ }
-    ensures { λ r. ⌜ told-place r ≡ place-from first-terms (now (wanted .entry)) (kept (so-far (now (out .entry)) spot)) ⌝ }
+    ensures { λ r. ⌜ told-place r
+        ≡ place-from first-terms (now (wanted .entry)) (kept (so-far (now (out .entry)) spot)) ⌝ }
 {
     let covered = spot.covered;
     let done = spot.done;
@@ -256,7 +257,8 @@ pub fn put_term(
     requires { ⌜ Ready (now out) (now work) spot × Known kind × (count ≤ max-arguments)
         × (all-below number-end (take count numbers) ≡ true) ⌝ }
     ensures { λ r. ⌜ Puts (now (out .entry)) (now (out .exit)) (now (work .exit)) spot
-        (put-term (length (now (out .entry))) (op-of kind) (placed-all (take count numbers) (so-far (now (out .entry)) spot))) r ⌝ }
+        (put-term (length (now (out .entry))) (op-of kind)
+        (placed-all (take count numbers) (so-far (now (out .entry)) spot))) r ⌝ }
 {
     if kind.number < 2 {
         return Put::At(kind.number as usize, spot);
