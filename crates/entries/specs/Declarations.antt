@@ -21,6 +21,7 @@ abbrev pub told-declare : Bytes → List R.Declared → Bytes → put.Put → Op
 told-declare line vars out Full = none
 told-declare line vars out (At k s) = some (state (and-declared line vars) false (so-far out s))
 
-pub record Declared (line : Bytes) (vars : List R.Declared) (old new work : Bytes) (from : Spot) (expected : Option State) (r : put.Put) : Type 0 where
+pub record Declared (line : Bytes) (vars : List R.Declared) (old new work : Bytes) (from : Spot)
+    (expected : Option State) (r : put.Put) : Type 0 where
   pub is : told-declare line vars new r ≡ expected
   pub moved : put-moved old new work from r

@@ -101,11 +101,17 @@ pub record Offered (job work : Bytes) (n at : ℕ) (t : Term) : Type 0 where
 pub record Taken (limits : Limits) (job work after : Bytes) (n at : ℕ) (t : Term) (answer : Interned) : Type 0 where
   pub answer-is : answer
       ≡ answer-for (well-sorted (capped (number-length job) limits) (term-of (listed job work n) (op-of t) (arguments-of job t)))
-      (has (listed job work n) (record-at job at)) (room (number-length job) (capped (number-length job) limits) (length work) (listed job work n)) n
+      (has (listed job work n) (record-at job at))
+      (room (number-length job) (capped (number-length job) limits) (length work) (listed job work n)) n
   pub code-is : code-of answer
       ≡ first-fault ((well-sorted (capped (number-length job) limits) (term-of (listed job work n) (op-of t) (arguments-of job t)), 7)
-      ∷ (has (listed job work n) (record-at job at) || room (number-length job) (capped (number-length job) limits) (length work) (listed job work n), 8) ∷ [])
+      ∷ (
+        has (listed job work n) (record-at job at)
+            || room (number-length job) (capped (number-length job) limits) (length work) (listed job work n),
+        8,
+      ) ∷ [])
   pub memory-is : after ≡ bytes-after answer work (with-term job work n at (tree-of (listed job work n) (op-of t) (arguments-of job t)))
   pub store : Store job after (rows-after answer n)
-  pub listed-is : listed job after (rows-after answer n) ≡ list-after answer (listed job work n) (feed (number-length job) (listed job work n) (record-at job at))
+  pub listed-is : listed job after (rows-after answer n)
+      ≡ list-after answer (listed job work n) (feed (number-length job) (listed job work n) (record-at job at))
   pub offsets-are : offsets (link-size job) after (rows-after answer n) ≡ offsets-after answer at (offsets (link-size job) work n)

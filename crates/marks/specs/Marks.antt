@@ -62,11 +62,12 @@ pub record Next (job work : Bytes) (asked p q : ℕ) : Type 0 where
   pub between : (r : ℕ) → p < r → r < q → mark-of job work r ≡ false
   pub marked : q ≤ asked → T (mark-of job work q)
 
--- where the link of a marked row leads: to the next marked place. `true` and `false` have no link; the asked place is the last, and its link leads to
--- the first row that is marked
+-- where the link of a marked row leads: to the next marked place. `true` and `false` have no link; the asked place is the last, and its
+-- link leads to the first row that is marked
 unfoldable pub following : Bytes → Bytes → ℕ → ℕ → ℕ
 following job work asked p =
-    cond (eqb p asked) (suc asked) (cond (eqb p 0) 1 (cond (eqb p 1) (link-at (link-size job) work (asked - first-terms)) (link-at (link-size job) work (p - first-terms))))
+    cond (eqb p asked) (suc asked) (cond (eqb p 0) 1
+    (cond (eqb p 1) (link-at (link-size job) work (asked - first-terms)) (link-at (link-size job) work (p - first-terms))))
 
 -- from each marked place one comes to the next
 abbrev pub Threads : Bytes → Bytes → ℕ → Type 0
@@ -96,7 +97,8 @@ pub record Reaches (job work : Bytes) (n asked : ℕ) (after : Bytes) : Type 0 w
   pub shelf : Shelf job after n
   pub list-is : listed job after n ≡ listed job work n
   pub length-is : length after ≡ length work
-  pub marks-are : (p : ℕ) → first-terms ≤ p → p < first-terms + n → mark-of job after p ≡ stands (tree-at (listed job work n) p) (tree-at (listed job work n) asked)
+  pub marks-are : (p : ℕ) → first-terms ≤ p → p < first-terms + n
+      → mark-of job after p ≡ stands (tree-at (listed job work n) p) (tree-at (listed job work n) asked)
   pub last : (p : ℕ) → first-terms ≤ p → asked < p → p < first-terms + n → mark-of job after p ≡ false
 
 -- and they are threaded
@@ -104,7 +106,8 @@ pub record Marks (job work : Bytes) (n asked : ℕ) (after : Bytes) : Type 0 whe
   pub shelf : Shelf job after n
   pub list-is : listed job after n ≡ listed job work n
   pub length-is : length after ≡ length work
-  pub marks-are : (p : ℕ) → first-terms ≤ p → p < first-terms + n → mark-of job after p ≡ stands (tree-at (listed job work n) p) (tree-at (listed job work n) asked)
+  pub marks-are : (p : ℕ) → first-terms ≤ p → p < first-terms + n
+      → mark-of job after p ≡ stands (tree-at (listed job work n) p) (tree-at (listed job work n) asked)
   pub last : (p : ℕ) → first-terms ≤ p → asked < p → p < first-terms + n → mark-of job after p ≡ false
   pub threads : Threads job after asked
 

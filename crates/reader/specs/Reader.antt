@@ -43,12 +43,14 @@ got-all ks bs job = record { numbers = ks; rest = bs; job = job }
 
 -- a term is read, and written
 unfoldable pub read-write : ℕ → List Declared → ℕ → Bytes → Bytes → Option Got
-read-write n vars room bs job = bind (read-term n vars bs) (λ t. bind (write (t .term) room job) (λ p. some (got (p .number) (t .rest) (p .job))))
+read-write n vars room bs job =
+    bind (read-term n vars bs) (λ t. bind (write (t .term) room job) (λ p. some (got (p .number) (t .rest) (p .job))))
 
 -- arguments are read, and written
 unfoldable pub read-write-all : ℕ → List Declared → ℕ → ℕ → Bytes → Bytes → Option GotAll
 read-write-all n vars room k bs job =
-    bind (arguments (λ cs. read-term n vars cs) k bs) (λ g. bind (write-all (from-list (g .terms)) room job) (λ w. some (got-all (w .numbers) (g .rest) (w .job))))
+    bind (arguments (λ cs. read-term n vars cs) k bs) (λ g.
+    bind (write-all (from-list (g .terms)) room job) (λ w. some (got-all (w .numbers) (g .rest) (w .job))))
 
 -- a term without arguments is written
 unfoldable pub leaf-write : ℕ → Op → Bytes → Bytes → Option Got
@@ -57,7 +59,9 @@ leaf-write room o rest job = bind (put-term room o (placed-all [] job)) (λ p. s
 -- a term whose arguments are written
 unfoldable pub finish : ℕ → Op → GotAll → Option Got
 finish room o g =
-    cond (takes (arity o) (length (g .numbers))) (bind (put-term room o (placed-all (g .numbers) (g .job))) (λ p. some (got (p .number) (g .rest) (p .job)))) none
+    cond (takes (arity o) (length (g .numbers)))
+    (bind (put-term room o (placed-all (g .numbers) (g .job))) (λ p. some (got (p .number) (g .rest) (p .job))))
+    none
 
 -- arguments whose numbers fit into a record
 abbrev pub fitting : Option GotAll → Option GotAll
@@ -87,7 +91,8 @@ told-list line out l = cond (l .ok) (some (got-all (take (l .count) (l .numbers)
 abbrev pub list-moved : Bytes → Bytes → Bytes → Bytes → Spot → list.List → Bool → Type 0
 list-moved line old new work from l false = Unit {0}
 list-moved line old new work from l true =
-    (l .count ≤ max-arguments) × (all-below number-end (take (l .count) (l .numbers)) ≡ true) × (l .next ≤ length line) × Moved old new work from (l .spot)
+    (l .count ≤ max-arguments) × (all-below number-end (take (l .count) (l .numbers)) ≡ true)
+    × (l .next ≤ length line) × Moved old new work from (l .spot)
 
 -- arguments were read and written, or refused
 pub record Lists (line old new work : Bytes) (from : Spot) (expected : Option GotAll) (l : list.List) : Type 0 where

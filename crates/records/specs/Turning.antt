@@ -49,14 +49,16 @@ pub record Reading (job work : Bytes) (rows at : ℕ) (item : Item) : Type 0 whe
 
 -- the answers to the record at `at`
 abbrev pub answers-at : Bytes → Bytes → Bytes → ℕ → ℕ → ℕ → List Answer
-answers-at job work answers rows answered at = answers-to (number-length job) (earlier-in job work answers rows answered) (listed job work rows) (record-at job at)
+answers-at job work answers rows answered at =
+    answers-to (number-length job) (earlier-in job work answers rows answered) (listed job work rows) (record-at job at)
 
 -- the origins job after it
 abbrev pub origins-at : Bytes → Bytes → ℕ → ℕ → List ℕ
-origins-at job work rows at = origins-item (origins job work rows) (listed job work rows) at (record-at job at) (read (number-length job) (record-at job at))
+origins-at job work rows at =
+    origins-item (origins job work rows) (listed job work rows) at (record-at job at) (read (number-length job) (record-at job at))
 
--- the work memory after the record at `at` that says an item, where no code stops the job: a new term has its row, and the rows that a back drops are
--- in no bucket
+-- the work memory after the record at `at` that says an item, where no code stops the job: a new term has its row, and the rows that a
+-- back drops are in no bucket
 abbrev pub memory-item : Bytes → Bytes → ℕ → ℕ → R.Item → Bytes
 memory-item job work rows at (R.term o ks) =
     cond (has (listed job work rows) (record-at job at)) work (with-term job work rows at (tree-of (listed job work rows) o ks))
@@ -70,14 +72,18 @@ memory-item job work rows at R.misfit = work
 abbrev pub memory-at : Bytes → Bytes → ℕ → ℕ → Bytes
 memory-at job work rows at = memory-item job work rows at (read (number-length job) (record-at job at))
 
--- what became of the record at `at`, before which `place` records stand, under stated limits, by theory's tests, plain list, repeats and answers; where a code stops the job, both
--- memories stay as they were, and it is no repeat
-pub record Turned (limits : Limits) (place : ℕ) (job work answers : Bytes) (rows answered at : ℕ) (work′ answers′ : Bytes) (t : Turn) : Type 0 where
-  pub code-is : t .code ≡ fault place (number-length job) limits (length work) (length answers) (listed job work rows) answered (record-at job at)
+-- what became of the record at `at`, before which `place` records stand, under stated limits, by theory's tests, plain list, repeats and
+-- answers; where a code stops the job, both memories stay as they were, and it is no repeat
+pub record Turned (limits : Limits) (place : ℕ) (job work answers : Bytes) (rows answered at : ℕ)
+    (work′ answers′ : Bytes) (t : Turn) : Type 0 where
+  pub code-is : t .code
+      ≡ fault place (number-length job) limits (length work) (length answers) (listed job work rows) answered (record-at job at)
   pub memory-is : work′ ≡ passed (t .code) (memory-at job work rows at) work
   pub store : Store job work′ (t .rows)
-  pub listed-is : listed job work′ (t .rows) ≡ passed (t .code) (feed (number-length job) (listed job work rows) (record-at job at)) (listed job work rows)
+  pub listed-is : listed job work′ (t .rows)
+      ≡ passed (t .code) (feed (number-length job) (listed job work rows) (record-at job at)) (listed job work rows)
   pub origins-are : origins job work′ (t .rows) ≡ passed (t .code) (origins-at job work rows at) (origins job work rows)
   pub repeats-is : t .repeats ≡ passed (t .code) (repeat-of (number-length job) (listed job work rows) (record-at job at)) 0
   pub answers-is : t .answers ≡ answered + length (passed (t .code) (answers-at job work answers rows answered at) [])
-  pub written-is : answers′ ≡ with-notes (number-length job) answers answered at (passed (t .code) (answers-at job work answers rows answered at) [])
+  pub written-is : answers′
+      ≡ with-notes (number-length job) answers answered at (passed (t .code) (answers-at job work answers rows answered at) [])

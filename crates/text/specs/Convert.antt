@@ -56,8 +56,8 @@ take-step room s bs =
 -- a line: (declare-const .. or (step ..
 unfoldable pub take-line : ℕ → State → Bytes → Option State
 take-line room s line =
-    bind (after left line) (λ a. either (bind (after (word (ascii "step")) a) (take-step room s)) (λ b. bind (declaration b) (declare room s))
-    (after (word (ascii "declare-const")) a))
+    bind (after left line) (λ a. either (bind (after (word (ascii "step")) a) (take-step room s))
+    (λ b. bind (declaration b) (declare room s)) (after (word (ascii "declare-const")) a))
 
 -- ---- the text
 -- the job, or the place of the first line that is refused

@@ -157,7 +157,8 @@ bv-constant bs =
 abbrev pub with-numbers : Shape → Bytes → Option Operation
 with-numbers (plain o) bs = none
 with-numbers (indexed f) bs = bind (index bs) (λ i. some (operation (f (i .value)) (i .rest)))
-with-numbers (twice-indexed f) bs = bind (index bs) (λ i. bind (index (i .rest)) (λ j. some (operation (f (i .value) (j .value)) (j .rest))))
+with-numbers (twice-indexed f) bs =
+    bind (index bs) (λ i. bind (index (i .rest)) (λ j. some (operation (f (i .value) (j .value)) (j .rest))))
 with-numbers (valued f) bs = none
 
 -- _ name i ..) after ((

@@ -1,4 +1,5 @@
--- Document 02, P13: how 01's kinds and rules are spelled. The kinds are SMT-LIB's, with `@bit_of` and `@bbterm`; the rules go by 01's names.
+-- Document 02, P13: how 01's kinds and rules are spelled. The kinds are SMT-LIB's, with `@bit_of` and `@bbterm`; the rules go by 01's
+-- names.
 use mathlib.Core.Bool.{Bool, false, _||_, cond}
 use mathlib.Core.List.{List, [], _∷_}
 use mathlib.Core.Option.{Option, none, some}
@@ -32,20 +33,26 @@ is-named w (r ∷ rs) = same-numbers w (r .name) || is-named w rs
 -- THE KINDS, in the order of their numbers; a kind with numbers in it stands in `(_ name i ..)`
 abbrev pub kind-names : List (Spelled Shape)
 kind-names =
-    spelled "not" (plain Not) ∷ spelled "and" (plain And) ∷ spelled "or" (plain Or) ∷ spelled "xor" (plain Xor) ∷ spelled "=" (plain Equals) ∷ spelled "ite" (plain Ite)
+    spelled "not" (plain Not) ∷ spelled "and" (plain And) ∷ spelled "or" (plain Or)
+    ∷ spelled "xor" (plain Xor) ∷ spelled "=" (plain Equals) ∷ spelled "ite" (plain Ite)
     ∷ spelled "@bit_of" (indexed BvBitOf) ∷ spelled "@bbterm" (plain BvBbTerm)
     ∷ spelled "bvnot" (plain BvNot) ∷ spelled "bvneg" (plain BvNeg)
-    ∷ spelled "bvand" (plain BvAnd) ∷ spelled "bvor" (plain BvOr) ∷ spelled "bvxor" (plain BvXor) ∷ spelled "bvadd" (plain BvAdd) ∷ spelled "bvmul" (plain BvMul)
+    ∷ spelled "bvand" (plain BvAnd) ∷ spelled "bvor" (plain BvOr) ∷ spelled "bvxor" (plain BvXor)
+    ∷ spelled "bvadd" (plain BvAdd) ∷ spelled "bvmul" (plain BvMul)
     ∷ spelled "bvxnor" (plain BvXNor) ∷ spelled "bvcomp" (plain BvComp) ∷ spelled "bvult" (plain BvULt) ∷ spelled "bvslt" (plain BvSLt)
-    ∷ spelled "bvshl" (plain BvShl) ∷ spelled "bvlshr" (plain BvLShr) ∷ spelled "bvashr" (plain BvAShr) ∷ spelled "bvudiv" (plain BvUDiv) ∷ spelled "bvurem" (plain BvURem)
+    ∷ spelled "bvshl" (plain BvShl) ∷ spelled "bvlshr" (plain BvLShr) ∷ spelled "bvashr" (plain BvAShr)
+    ∷ spelled "bvudiv" (plain BvUDiv) ∷ spelled "bvurem" (plain BvURem)
     ∷ spelled "concat" (plain BvConcat) ∷ spelled "extract" (twice-indexed BvExtract) ∷ spelled "sign_extend" (indexed SignExtend) ∷ []
 
 -- THE RULES, in the order of their numbers
 abbrev pub rule-names : List (Spelled Rule)
 rule-names =
-    spelled "value" by-value ∷ spelled "var" by-var ∷ spelled "and" by-and ∷ spelled "or" by-or ∷ spelled "xor" by-xor ∷ spelled "xnor" by-xnor ∷ spelled "not" by-not
-    ∷ spelled "ult" by-ult ∷ spelled "slt" by-slt ∷ spelled "add" by-add ∷ spelled "mult" by-mult ∷ spelled "neg" by-neg ∷ spelled "equality" by-equality ∷ spelled "comp" by-comp
-    ∷ spelled "extract" by-extract ∷ spelled "concat" by-concat ∷ spelled "sign_extend" by-sign-extend ∷ spelled "shl" by-shl ∷ spelled "lshr" by-lshr ∷ spelled "ashr" by-ashr
+    spelled "value" by-value ∷ spelled "var" by-var ∷ spelled "and" by-and ∷ spelled "or" by-or
+    ∷ spelled "xor" by-xor ∷ spelled "xnor" by-xnor ∷ spelled "not" by-not
+    ∷ spelled "ult" by-ult ∷ spelled "slt" by-slt ∷ spelled "add" by-add ∷ spelled "mult" by-mult
+    ∷ spelled "neg" by-neg ∷ spelled "equality" by-equality ∷ spelled "comp" by-comp
+    ∷ spelled "extract" by-extract ∷ spelled "concat" by-concat ∷ spelled "sign_extend" by-sign-extend
+    ∷ spelled "shl" by-shl ∷ spelled "lshr" by-lshr ∷ spelled "ashr" by-ashr
     ∷ spelled "udiv" by-udiv ∷ spelled "urem" by-urem ∷ spelled "bitwise_slicing" by-bitwise-slicing ∷ []
 
 -- the place of a name, counted from k
