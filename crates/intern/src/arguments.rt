@@ -7,7 +7,7 @@ ghost use Rattle.theory.specs.Sort.{bv, guard, all-are, good, first, alike, all
 ghost use Rattle.theory.specs.Depth.{depth};
 ghost use Rattle.rows.specs.Layout.{Bounded, place-end};
 ghost use Rattle.terms.specs.Decoded.{OperandsPlaced, numbers-of};
-ghost use Rattle.store.specs.Store.{listed};
+ghost use Rattle.store.specs.Lent.{kept-terms};
 ghost use Rattle.store.specs.Sorts.{sort-read, count-of, Arguments};
 ghost use Rattle.intern.specs.Kinds.{deepest-bool};
 ghost use Rattle.intern.specs.Lent.{argument-term, argument-sorts, deepest-argument};
@@ -176,7 +176,7 @@ pub fn deepest(job: &[u8], work: &[u8], n: usize, ops: Operands) -> usize
 // The depth of the deepest argument where all are Bools, else MISSING: one look at each argument.
 pub fn deepest_bool(job: &[u8], work: &[u8], n: usize, ops: Operands) -> u32
     requires { ⌜ Arguments (now job) (now work) n ops ⌝ }
-    ensures { λ r. ⌜ r ≡ deepest-bool (listed (now (job .entry)) (now (work .entry)) n)
+    ensures { λ r. ⌜ r ≡ deepest-bool (kept-terms job work n)
         (numbers-of (now (job .entry)) ops) ⌝ }
 {
     let end = count(ops);

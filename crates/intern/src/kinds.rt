@@ -4,7 +4,7 @@ ghost use Prim.Native.Nat.{_≤_};
 ghost use Rattle.theory.specs.Sort.{first};
 ghost use Rattle.theory.specs.Places.{tree-of};
 ghost use Rattle.terms.specs.Decoded.{op-of, arguments-of};
-ghost use Rattle.store.specs.Store.{listed};
+ghost use Rattle.store.specs.Lent.{kept-terms};
 ghost use Rattle.store.specs.Sorts.{sort-read, Arguments};
 ghost use Rattle.intern.specs.Kinds.{asks-of, asked-sort, asked-depth, of-bools, Fitting, SameAsked, SortDepthOf};
 ghost use Rattle.intern.specs.Lent.{argument-sorts, deepest-argument};
@@ -199,7 +199,7 @@ fn asked_of(job: &[u8], work: &[u8], n: usize, ops: Operands, asks: Asks) -> Ask
 // The sort of a term, and its depth where it has a sort. Where it asks for Bools, each argument is looked at once for both.
 pub fn sort_and_depth(job: &[u8], work: &[u8], n: usize, term: Term) -> SortAndDepth
     requires { ⌜ Fitting (now job) (now work) n term ⌝ }
-    ensures { λ r. ⌜ SortDepthOf (tree-of (listed (now (job .entry)) (now (work .entry)) n)
+    ensures { λ r. ⌜ SortDepthOf (tree-of (kept-terms job work n)
         (op-of term) (arguments-of (now (job .entry)) term)) r ⌝ }
 {
     let ops = term.operands();

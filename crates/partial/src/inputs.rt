@@ -2,7 +2,7 @@
 ghost use Prim.Native.Nat.{_*_, _≤_};
 ghost use lib.ListN.{length};
 ghost use Rattle.store.specs.Store.{listed};
-ghost use Rattle.evaluation.specs.Lent.{kept-terms};
+ghost use Rattle.store.specs.Lent.{kept-terms};
 ghost use Rattle.sweeps.specs.Calls.{cell-bytes};
 ghost use Rattle.digits.specs.Digits.{Marked};
 ghost use Rattle.partial.specs.Inputs.{InputsPlaced};

@@ -1,5 +1,5 @@
 // Terms of kinds that are not refused.
-ghost use Rattle.evaluation.specs.Lent.{kept-terms};
+ghost use Rattle.store.specs.Lent.{kept-terms};
 ghost use Rattle.digits.specs.Digits.{Marked};
 ghost use Rattle.partial.specs.Levels.{BitLevel};
 use marks::next_marked;

@@ -1,6 +1,6 @@
 // The bits of the asked term, written as bytes.
 ghost use mathlib.Core.Path.{_≡_};
-ghost use Rattle.evaluation.specs.Lent.{kept-terms};
+ghost use Rattle.store.specs.Lent.{kept-terms};
 ghost use Rattle.sweeps.specs.Known.{known-byte, of-byte};
 ghost use Rattle.partial.specs.Output.{Output, Wrote};
 use ternary::bits::bit_on;

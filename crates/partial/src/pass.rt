@@ -1,5 +1,5 @@
 // One pass over the marked Bools, upwards.
-ghost use Rattle.evaluation.specs.Lent.{kept-terms};
+ghost use Rattle.store.specs.Lent.{kept-terms};
 ghost use Rattle.partial.specs.Passing.{Ready, Passed};
 use evaluation::cells::put_cell;
 use marks::next_marked;

@@ -3,7 +3,7 @@
 ghost use mathlib.Core.Path.{_≡_};
 ghost use mathlib.Core.List.{map};
 ghost use lib.ListN.{drop, getD};
-ghost use Rattle.store.specs.Store.{listed};
+ghost use Rattle.store.specs.Lent.{kept-terms};
 ghost use Rattle.terms.specs.Decoded.{Inside, words-in};
 ghost use Rattle.sweeps.specs.Known.{known-byte, of-bool};
 ghost use Rattle.ternary.specs.Gates.{row-known};
@@ -68,7 +68,7 @@ pub fn bit_on(
     i: u32,
 ) -> u64
     requires { ⌜ BitAsked (now job) (now work) n x i ⌝ }
-    ensures { λ r. let list = listed (now (job .entry)) (now (work .entry)) n in
+    ensures { λ r. let list = kept-terms job work n in
         ⌜ BitOn list (now (job .entry)) (now (work .entry)) (now (inputs .entry)) (now (values .entry)) x i r ⌝ }
 {
     if width_on(job, work, n, x) == 0 {

@@ -2,8 +2,7 @@
 ghost use mathlib.Core.Path.{_≡_};
 ghost use Prim.Native.Nat.{_+_, _<_};
 ghost use Rattle.theory.specs.Limit.{first-terms};
-ghost use Rattle.theory.specs.Places.{tree-at};
-ghost use Rattle.store.specs.Store.{listed};
+ghost use Rattle.store.specs.Lent.{kept-term};
 ghost use Rattle.store.specs.Shelf.{Shelf};
 ghost use Rattle.ternary.specs.Bits.{bit-kind-in};
 use store::shelf::term_on;
@@ -13,7 +12,7 @@ use terms::Term;
 // Is the kind of the term at a place bit-level? An Equals is where its sides are Bools.
 pub fn is_bit_kind(job: &[u8], work: &[u8], n: usize, place: u32) -> bool
     requires { ⌜ Shelf (now job) (now work) n × (place < first-terms + n) ⌝ }
-    ensures { λ r. ⌜ r ≡ bit-kind-in (tree-at (listed (now (job .entry)) (now (work .entry)) n) place) ⌝ }
+    ensures { λ r. ⌜ r ≡ bit-kind-in (kept-term job work n place) ⌝ }
 {
     let t = term_on(job, work, n, place);
     match t {

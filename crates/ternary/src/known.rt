@@ -1,5 +1,5 @@
 // The bit of a Bool, from the cells of its arguments.
-ghost use Rattle.store.specs.Store.{listed};
+ghost use Rattle.store.specs.Lent.{kept-terms};
 ghost use Rattle.ternary.specs.Bits.{KnownAsked, KnownOn};
 use crate::bits::bit_on;
 use crate::bits::byte_after;
@@ -16,7 +16,7 @@ use terms::Term;
 // The bit of the Bool at a marked place: 0, 1, or 2 where it is not known.
 pub fn known_of(job: &[u8], work: &[u8], n: usize, values: &[u8], inputs: &[u8], place: u32) -> u64
     requires { ⌜ KnownAsked (now job) (now work) n place ⌝ }
-    ensures { λ r. let list = listed (now (job .entry)) (now (work .entry)) n in
+    ensures { λ r. let list = kept-terms job work n in
         ⌜ KnownOn list (now (job .entry)) (now (work .entry)) (now (inputs .entry)) (now (values .entry)) place r ⌝ }
 {
     let t = term_on(job, work, n, place);
