@@ -9,6 +9,7 @@ use runs::finished::outcome_of;
 use runs::finished::run_job;
 use runs::lend;
 use sweeper::sweep_number;
+use terms::refusal;
 
 // What a sweep comes to: a code, how many assignments there were, on how many the sides differ, and the job's own outcome.
 #[repr(C)]
@@ -35,7 +36,7 @@ fn sweep_job(
     let s = run_job(job, work, answers);
     if s.stop != 0 {
         return Swept {
-            code: 20,
+            code: refusal::NOT_ASKED,
             assignments: 0,
             differing: 0,
             outcome: outcome_of(s),

@@ -34,6 +34,7 @@ use terms::Args;
 use terms::DEPTH_AT;
 use terms::Item;
 use terms::Term;
+use terms::stop;
 
 // The number of the last rule; the first is 1.
 const LAST_RULE: u32 = 30;
@@ -58,13 +59,13 @@ fn kept_turn(kept: Interned, answered: usize, rows: usize) -> Turn
 {
     match kept {
         Interned::Unsorted => Turn {
-            code: 7,
+            code: stop::UNSORTED,
             answers: answered,
             rows: rows,
             repeats: 0,
         },
         Interned::Spent => Turn {
-            code: 8,
+            code: stop::SPENT,
             answers: answered,
             rows: rows,
             repeats: 0,
@@ -101,7 +102,7 @@ fn term_record(
 {
     if !term.below(job, (rows + FIRST_PLACE) as u32) {
         return Turn {
-            code: 6,
+            code: stop::NO_TERM,
             answers: answered,
             rows: rows,
             repeats: 0,
@@ -118,7 +119,7 @@ fn room_fault(bytes: usize, answered: usize, space: usize) -> u32
 {
     let size = DEPTH_AT + bytes;
     if space - size * answered < size {
-        return 19;
+        return stop::NO_ROOM;
     }
     0
 }
@@ -139,13 +140,13 @@ fn step_fault(
         (is-some (rule-at rule)) (words-in (now (job .entry)) literals)) ⌝ }
 {
     if !Term::all_below(job, literals, (rows + FIRST_PLACE) as u32) {
-        return 6;
+        return stop::NO_TERM;
     }
     if rule < 1 {
-        return 9;
+        return stop::NO_RULE;
     }
     if LAST_RULE < rule {
-        return 9;
+        return stop::NO_RULE;
     }
     room_fault(bytes, answered, space)
 }
@@ -219,13 +220,13 @@ fn chain_fault(
         (is-some (chain-rule-at rule)) (literal ∷ [])) ⌝ }
 {
     if (rows + FIRST_PLACE) as u32 <= literal {
-        return 6;
+        return stop::NO_TERM;
     }
     if rule < FIRST_CHAIN_RULE {
-        return 9;
+        return stop::NO_RULE;
     }
     if LAST_CHAIN_RULE < rule {
-        return 9;
+        return stop::NO_RULE;
     }
     room_fault(bytes, answered, space)
 }
@@ -280,7 +281,7 @@ fn back_record(
     let n = count as usize;
     if n < FIRST_PLACE {
         return Turn {
-            code: 18,
+            code: stop::NO_BACK,
             answers: answered,
             rows: rows,
             repeats: 0,
@@ -288,7 +289,7 @@ fn back_record(
     }
     if rows + FIRST_PLACE < n {
         return Turn {
-            code: 18,
+            code: stop::NO_BACK,
             answers: answered,
             rows: rows,
             repeats: 0,
@@ -310,14 +311,14 @@ fn opening_fault(job: &[u8], place: usize, at: usize) -> u32
     ensures { λ r. ⌜ r ≡ first-fault (opening-tests place (record-at (now (job .entry)) at)) ⌝ }
 {
     if place != 0 {
-        return 4;
+        return stop::UNKNOWN;
     }
     if Term::number(job, at + Term::NUMBER_BYTES) != Term::LONG_KIND as u32 {
-        return 4;
+        return stop::UNKNOWN;
     }
     // A record's length counts its kind.
     if Term::number(job, at) as usize != Term::NUMBER_BYTES {
-        return 5;
+        return stop::MISFIT;
     }
     0
 }
@@ -370,7 +371,7 @@ pub fn take_record(
             repeats: 0,
         },
         Item::Misfit => Turn {
-            code: 5,
+            code: stop::MISFIT,
             answers: answered,
             rows: rows,
             repeats: 0,

@@ -12,6 +12,7 @@ use intern::Limits;
 use rows::FIRST_PLACE;
 use steps::answers::seal;
 use terms::Term;
+use terms::stop;
 
 // Runs a job under limits that the caller states: 2 where it is too long. If the stop code is 0, the rows of the work memory are the final
 // store.
@@ -22,7 +23,7 @@ pub fn run_within(job: &[u8], work: &mut [u8], answers: &mut [u8], limits: Limit
     if MAX_JOB < job.len() {
         return State {
             at: 0,
-            stop: 2,
+            stop: stop::TOO_LONG,
             records: 0,
             answers: 0,
             rows: 0,

@@ -8,6 +8,7 @@ use intern::Limits;
 use records::take_record;
 use terms::Frame;
 use terms::Term;
+use terms::stop;
 
 // Where a job stands: the place of the next record, the code that stopped the job or 0, the records done, the answers written, the rows kept,
 // the repeats.
@@ -30,7 +31,7 @@ fn next(job: &[u8], work: &mut [u8], answers: &mut [u8], limits: Limits, s: Stat
     let Frame::Whole(size) = Term::frame(job, at) else {
         return State {
             at: at,
-            stop: 3,
+            stop: stop::CUT,
             records: s.records,
             answers: s.answers,
             rows: s.rows,

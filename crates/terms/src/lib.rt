@@ -1,4 +1,7 @@
 // A job's bytes as decoded records: the numbers in them, where a record ends, and what it says.
+pub mod refusal;
+pub mod stop;
+
 ghost use mathlib.Core.Path.{_≡_};
 ghost use mathlib.Core.Bool.{true};
 ghost use Prim.Native.Nat.{_+_, _*_, _/_, _%_, _^_, _<_, _≤_};
