@@ -7,8 +7,8 @@ use Rattle.theory.specs.Record.{Bytes}
 use Rattle.text.specs.Convert.{lines}
 use Rattle.words.specs.Words.{piece}
 
--- the line that starts at a place ends there, with a newline or the text: it is the first of the lines from there on, and the others
--- come after the newline
+-- the line that starts at a place ends there, with a newline or the text: it is the first of the lines from there on,
+-- and the others come after the newline
 pub record Ended (text : Bytes) (at r : ℕ) : Type 0 where
   pub on : at ≤ r
   pub inside : r ≤ length text

@@ -420,7 +420,8 @@ impl Term {
     // What a record of that kind says that is no step and no back. Its body is the `size` bytes from `body` on.
     fn read_term(job: &[u8], kind: u32, body: usize, size: usize, bytes: usize) -> Item
         requires { ⌜ (body + size ≤ length (now job)) × Length bytes ⌝ }
-        ensures { λ r. ⌜ Says (now (job .entry)) r (read-term bytes (shape-of kind) (part (now (job .entry)) body size)) ⌝ }
+        ensures { λ r. ⌜ Says (now (job .entry)) r
+            (read-term bytes (shape-of kind) (part (now (job .entry)) body size)) ⌝ }
     {
         let Form::Known(front, least, most) = Term::form(kind) else {
             return Item::Unknown;
@@ -513,7 +514,8 @@ impl Term {
     // What the whole record at `at` says, in the job's own number length.
     pub fn read(job: &[u8], at: usize) -> Item
         requires { ⌜ whole (drop at (now job)) ≡ true ⌝ }
-        ensures says { λ r. ⌜ item-of (now (job .entry)) r ≡ read (number-length (now (job .entry))) (record-at (now (job .entry)) at) ⌝ }
+        ensures says { λ r. ⌜ item-of (now (job .entry)) r
+            ≡ read (number-length (now (job .entry))) (record-at (now (job .entry)) at) ⌝ }
         ensures placed { λ r. ⌜ Placed (now (job .entry)) r ⌝ }
     {
         Term::read_as(job, at, Term::number_length(job))

@@ -1,5 +1,5 @@
--- Document 02, P13: what is to be shown of the job that is written: one step for each step line, in order, whose literal is that line's
--- term.
+-- Document 02, P13: what is to be shown of the job that is written: one step for each step line, in order,
+-- whose literal is that line's term.
 use mathlib.Core.Path.{_≡_}
 use mathlib.Core.List.{List, [], _∷_, _++_}
 use mathlib.Core.Option.{Option, none, some}

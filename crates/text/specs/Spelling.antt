@@ -1,5 +1,5 @@
--- Document 02, P13: how 01's kinds and rules are spelled. The kinds are SMT-LIB's, with `@bit_of` and `@bbterm`; the rules go by 01's
--- names.
+-- Document 02, P13: how 01's kinds and rules are spelled. The kinds are SMT-LIB's, with `@bit_of` and `@bbterm`;
+-- the rules go by 01's names.
 use mathlib.Core.Bool.{Bool, false, _||_, cond}
 use mathlib.Core.List.{List, [], _∷_}
 use mathlib.Core.Option.{Option, none, some}

@@ -1,5 +1,6 @@
 -- The circuits bit by bit, as recurrences over the index, in the manner of Alethe's rules as bitvectors.rs follows them; over any gates.
--- docs/DIFFERENCES.md says what they were written from; Alethe's text was not compared. Bit i of x is `x i`, bit 0 is the lowest, and n is the width.
+-- docs/DIFFERENCES.md says what they were written from; Alethe's text was not compared.
+-- Bit i of x is `x i`, bit 0 is the lowest, and n is the width.
 -- No bit-vector has width 0: what stands there is only what Circuit.antt gives for empty lists.
 use mathlib.Core.Bool.{cond}
 use mathlib.Core.List.{List, [], _∷_}
@@ -35,7 +36,8 @@ module _ {A : Type 0} (G : Gates A) where
   abbrev pub bvslt : ℕ → (ℕ → A) → (ℕ → A) → A
   bvslt zero x y = false-gate
   bvslt (suc zero) x y = and-gate (x 0) (not-gate (y 0))
-  bvslt (suc (suc n)) x y = or-gate (and-gate (eq-gate (x (suc n)) (y (suc n))) (less-at x y n)) (and-gate (x (suc n)) (not-gate (y (suc n))))
+  bvslt (suc (suc n)) x y =
+      or-gate (and-gate (eq-gate (x (suc n)) (y (suc n))) (less-at x y n)) (and-gate (x (suc n)) (not-gate (y (suc n))))
 
   -- ---- bvadd and bvneg: c is the carry into bit 0
   -- carry_0 = c; carry_{i+1} = (x_i and y_i) or ((x_i xor y_i) and carry_i)
@@ -68,7 +70,9 @@ module _ {A : Type 0} (G : Gates A) where
   -- the sum of the rows 0 to j: res^0_i = sh^0_i; res^{j+1}_i = (res^j_i xor sh^{j+1}_i) xor carry^{j+1}_i, and res^j_i up to place j
   abbrev pub res : (ℕ → A) → (ℕ → A) → ℕ → ℕ → A
   res x y zero i = sh x y 0 i
-  res x y (suc j) i = cond (leb i j) (res x y j i) (xor-gate (xor-gate (res x y j i) (sh x y (suc j) i)) (ripple (res x y j) (sh x y (suc j)) (suc j) i))
+  res x y (suc j) i =
+      cond (leb i j) (res x y j i)
+      (xor-gate (xor-gate (res x y j i) (sh x y (suc j) i)) (ripple (res x y j) (sh x y (suc j)) (suc j) i))
 
   -- carry^{j+1}_{i+1} = (res^j_i and sh^{j+1}_i) or ((res^j_i xor sh^{j+1}_i) and carry^{j+1}_i), and false up to place j + 1
   abbrev pub carry : (ℕ → A) → (ℕ → A) → ℕ → ℕ → A

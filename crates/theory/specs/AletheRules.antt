@@ -1,5 +1,5 @@
--- The rules of Alethe.antt as statements about terms: for each left side, the term that stands on the right. Bit i of x is ((_ @bit_of i) x),
--- or argument i where x is a @bbterm. The rules are as bitvectors.rs follows them; Alethe's text was not compared.
+-- The rules of Alethe.antt as statements about terms: for each left side, the term that stands on the right. Bit i of x is
+-- ((_ @bit_of i) x), or argument i where x is a @bbterm. The rules are as bitvectors.rs follows them; Alethe's text was not compared.
 use mathlib.Core.Path.{_≡_}
 use mathlib.Core.Bool.{cond}
 use mathlib.Core.List.{List, [], _∷_, _++_}
@@ -30,7 +30,8 @@ pub record Both (x y : Term) (n : ℕ) : Type 0 where
 -- more arguments are read from the left: `first` is what stands for one argument, `prints` for the term so far and one argument more
 pub data FromLeft (first : ℕ → Term → Term) (prints : ℕ → (ℕ → Term) → (ℕ → Term) → Term) : List Term → Term → Type 0 where
   alone : {x : Term} {n : ℕ} → sort-of x ≡ bv n → FromLeft first prints (x ∷ []) (first n x)
-  and-then : {ts : List Term} {e y : Term} {n : ℕ} → FromLeft first prints ts e → Both e y n → FromLeft first prints (ts ++ (y ∷ [])) (prints n (bit e) (bit y))
+  and-then : {ts : List Term} {e y : Term} {n : ℕ} → FromLeft first prints ts e → Both e y n
+      → FromLeft first prints (ts ++ (y ∷ [])) (prints n (bit e) (bit y))
 
 -- the rule, its left side, and the right side that it has
 pub data Prints : Rule → Term → Term → Type 0 where
@@ -47,15 +48,23 @@ pub data Prints : Rule → Term → Term → Type 0 where
   bitblast-neg : {x : Term} {n : ℕ} → sort-of x ≡ bv n → Prints by-neg (node BvNeg (cons x nil)) (bb (bvneg term-gates n (bit x)))
   bitblast-equal : {x y : Term} {n : ℕ} → Both x y n → Prints by-equality (two Equals x y) (bvequal term-gates n (bit x) (bit y))
   bitblast-comp : {x y : Term} {n : ℕ} → Both x y n → Prints by-comp (two BvComp x y) (bb (bvcomp term-gates n (bit x) (bit y)))
-  bitblast-extract : {x : Term} {n i j : ℕ} → sort-of x ≡ bv n → j ≤ i → i < n → Prints by-extract (node (BvExtract i j) (cons x nil)) (bb (extract i j (bit x)))
-  bitblast-concat : {x y : Term} {m n : ℕ} → sort-of x ≡ bv m → sort-of y ≡ bv n → Prints by-concat (two BvConcat x y) (bb (bits (n + m) (λ k. cond (ltb k n) (bit y k) (bit x (k - n)))))
+  bitblast-extract : {x : Term} {n i j : ℕ} → sort-of x ≡ bv n → j ≤ i → i < n
+      → Prints by-extract (node (BvExtract i j) (cons x nil)) (bb (extract i j (bit x)))
+  bitblast-concat : {x y : Term} {m n : ℕ} → sort-of x ≡ bv m → sort-of y ≡ bv n
+      → Prints by-concat (two BvConcat x y) (bb (bits (n + m) (λ k. cond (ltb k n) (bit y k) (bit x (k - n)))))
   bitblast-sign-extend-0 : {x : Term} → Prints by-sign-extend (node (SignExtend 0) (cons x nil)) x
-  bitblast-sign-extend : {x : Term} {n k : ℕ} → sort-of x ≡ bv (suc n) → Prints by-sign-extend (node (SignExtend (suc k)) (cons x nil)) (bb (sign-extend (suc k) (suc n) (bit x)))
-  bitblast-ands : {ts : List Term} {e : Term} → FromLeft (λ n x. x) (λ n x y. bb (bitwise (two And) n x y)) ts e → Prints by-and (node BvAnd (from-list ts)) e
-  bitblast-ors : {ts : List Term} {e : Term} → FromLeft (λ n x. x) (λ n x y. bb (bitwise (two Or) n x y)) ts e → Prints by-or (node BvOr (from-list ts)) e
-  bitblast-xors : {ts : List Term} {e : Term} → FromLeft (λ n x. x) (λ n x y. bb (bitwise (two Xor) n x y)) ts e → Prints by-xor (node BvXor (from-list ts)) e
-  bitblast-mults : {ts : List Term} {e : Term} → FromLeft (λ n x. x) (λ n x y. bb (bvmul term-gates n x y)) ts e → Prints by-mult (node BvMul (from-list ts)) e
-  bitblast-adds : {ts : List Term} {e : Term} → FromLeft (λ n x. bb (bits n (bit x))) (λ n x y. bb (bvadd term-gates n x y)) ts e → Prints by-add (node BvAdd (from-list ts)) e
+  bitblast-sign-extend : {x : Term} {n k : ℕ} → sort-of x ≡ bv (suc n)
+      → Prints by-sign-extend (node (SignExtend (suc k)) (cons x nil)) (bb (sign-extend (suc k) (suc n) (bit x)))
+  bitblast-ands : {ts : List Term} {e : Term} → FromLeft (λ n x. x) (λ n x y. bb (bitwise (two And) n x y)) ts e
+      → Prints by-and (node BvAnd (from-list ts)) e
+  bitblast-ors : {ts : List Term} {e : Term} → FromLeft (λ n x. x) (λ n x y. bb (bitwise (two Or) n x y)) ts e
+      → Prints by-or (node BvOr (from-list ts)) e
+  bitblast-xors : {ts : List Term} {e : Term} → FromLeft (λ n x. x) (λ n x y. bb (bitwise (two Xor) n x y)) ts e
+      → Prints by-xor (node BvXor (from-list ts)) e
+  bitblast-mults : {ts : List Term} {e : Term} → FromLeft (λ n x. x) (λ n x y. bb (bvmul term-gates n x y)) ts e
+      → Prints by-mult (node BvMul (from-list ts)) e
+  bitblast-adds : {ts : List Term} {e : Term} → FromLeft (λ n x. bb (bits n (bit x))) (λ n x y. bb (bvadd term-gates n x y)) ts e
+      → Prints by-add (node BvAdd (from-list ts)) e
 
 -- a step of such a rule is accepted exactly when its right side is that term
 pub record Exactly (rule : Rule) (l e r : Term) : Type 0 where

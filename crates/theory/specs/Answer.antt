@@ -1,4 +1,5 @@
--- Document 01, "The job": the answer to a step, and its bytes. The depth has b of them, as many as a term's number: ten in all where b is two.
+-- Document 01, "The job": the answer to a step, and its bytes.
+-- The depth has b of them, as many as a term's number: ten in all where b is two.
 use mathlib.Core.List.{List, [], _∷_, _++_}
 use Prim.Native.Nat.{ℕ, zero, suc, _-_, _*_}
 use lib.ListN.{take, drop}
@@ -19,7 +20,8 @@ answer-kind = 200
 -- length, kind 200, rule, code, depth
 abbrev pub encode-answer : ℕ → Answer → Bytes
 encode-answer b a =
-    word-bytes (answer-bytes b - number-bytes) ++ word-bytes answer-kind ++ word-bytes (a .rule) ++ word-bytes (a .code) ++ bytes-of b (a .depth)
+    word-bytes (answer-bytes b - number-bytes) ++ word-bytes answer-kind
+    ++ word-bytes (a .rule) ++ word-bytes (a .code) ++ bytes-of b (a .depth)
 
 -- one after the other
 abbrev pub encode-answers : ℕ → List Answer → Bytes

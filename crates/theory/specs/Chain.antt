@@ -83,7 +83,8 @@ recall-item earlier unknown answers = earlier
 recall-item earlier misfit answers = earlier
 
 -- ---- premises
--- the place of the literal of the premise with that number, counted from 1; missing where no earlier step has it, or that step may not be one
+-- the place of the literal of the premise with that number, counted from 1;
+-- missing where no earlier step has it, or that step may not be one
 abbrev pub premise-place : Earlier → ℕ → Option ℕ
 premise-place earlier zero = none
 premise-place earlier (suc k) = either none (λ p. p) (getElem? earlier k)

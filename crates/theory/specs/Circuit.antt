@@ -1,4 +1,5 @@
--- The circuits of bitvectors.rs, each once, over any gates. A bit-vector is a list of wires, bit 0 first; the lists of one circuit have one length.
+-- The circuits of bitvectors.rs, each once, over any gates. A bit-vector is a list of wires, bit 0 first;
+-- the lists of one circuit have one length.
 use mathlib.Core.Bool.{Bool, true, false, _&&_, cond}
 use mathlib.Core.List.{List, [], _∷_, _++_, map}
 use Prim.Native.Nat.{ℕ, zero, suc, _^_}
@@ -176,7 +177,8 @@ module _ {A : Type 0} (G : Gates A) where
   unfoldable pub lshr : List A → List A → List A → List A
   lshr size xs ys = bounded (G .false-gate) size ys (shr-stages (G .false-gate) 0 (stage-bits xs ys) xs)
 
-  -- shift right, with the top bit coming in. Where y is not below the width Rust has all false; the standard has copies of the top bit there too
+  -- shift right, with the top bit coming in. Where y is not below the width Rust has all false;
+  -- the standard has copies of the top bit there too
   unfoldable pub ashr : Bool → List A → List A → List A → List A
   ashr standard size xs ys =
       let top = last (G .false-gate) xs in
@@ -194,13 +196,15 @@ module _ {A : Type 0} (G : Gates A) where
   -- the remainder shifted left, with bit 0 of x added
   abbrev pub next-remainder : A → List A → List A
   next-remainder x0 r =
-      ripple-carry-adder (G .ite-gate (G .eq-gate x0 (G .true-gate)) (G .true-gate) (G .false-gate)) (G .false-gate ∷ drop-top r) (falses (x0 ∷ drop-top r))
+      ripple-carry-adder (G .ite-gate (G .eq-gate x0 (G .true-gate)) (G .true-gate) (G .false-gate))
+      (G .false-gate ∷ drop-top r) (falses (x0 ∷ drop-top r))
 
   module _ (standard : Bool) where
     -- x - y has no carry, by which x is below y: Rust takes the carry into the top bit, the standard's is the one out of it
     abbrev pub no-carry : List A → List A → A
     no-carry xs ys =
-        G .not-gate (cond standard (carry-out (G .true-gate) xs (map (G .not-gate) ys)) (last-carry (G .true-gate) xs (map (G .not-gate) ys)))
+        G .not-gate (cond standard (carry-out (G .true-gate) xs (map (G .not-gate) ys))
+        (last-carry (G .true-gate) xs (map (G .not-gate) ys)))
 
     -- the remainder where it is not below y: Rust has every bit true, the standard has the bits of the difference
     abbrev pub reduced : List A → List A → List A
@@ -232,7 +236,10 @@ module _ {A : Type 0} (G : Gates A) where
     bitblast-udiv-urem-rec zero xs ys = (falses xs, falses xs)
     bitblast-udiv-urem-rec (suc n) [] ys = ([], [])
     bitblast-udiv-urem-rec (suc n) (x ∷ xs) ys =
-        elim (all-false literally-false (x ∷ xs)) [ true ↦ (falses (x ∷ xs), falses (x ∷ xs)) | false ↦ divide-step standard x xs ys (bitblast-udiv-urem-rec n (xs ++ (G .false-gate ∷ [])) ys) ]
+        elim (all-false literally-false (x ∷ xs)) [
+          | true ↦ (falses (x ∷ xs), falses (x ∷ xs))
+          | false ↦ divide-step standard x xs ys (bitblast-udiv-urem-rec n (xs ++ (G .false-gate ∷ [])) ys)
+        ]
 
     -- bitblast_udiv_urem: all true, and x, where y is zero
     unfoldable pub udiv : List A → List A → List A

@@ -1,5 +1,5 @@
--- Statements beside the three demands, of document 01 and of the requests after it: on codes, on what is kept, on repeats, on depths, on the tally.
--- Each is proved in proofs/.
+-- Statements beside the three demands, of document 01 and of the requests after it: on codes, on what is kept, on repeats, on depths,
+-- on the tally. Each is proved in proofs/.
 use mathlib.Core.Path.{_≡_}
 use mathlib.Core.Bool.{Bool, true, false, _||_, cond}
 use mathlib.Core.List.{List, [], _∷_, map}
@@ -51,7 +51,8 @@ OneNumber = (limits : Limits) (job : Bytes) → AllBytes job → (work space m i
     → at-place (plain-after m job) i ≡ some t → at-place (plain-after m job) j ≡ some t → i ≡ j
 
 -- ---- what is lent is enough
--- where the numbers of terms have b bytes: the answers fit into their memory, the kept terms into the work memory, and they are no more than the limit, but for `true` and `false`
+-- where the numbers of terms have b bytes: the answers fit into their memory, the kept terms into the work memory,
+-- and they are no more than the limit, but for `true` and `false`
 pub record Fits (b : ℕ) (limits : Limits) (work space : ℕ) (o : Outcome) : Type 0 where
   pub answers-fit : answer-bytes b * length (o .answers) ≤ space
   pub terms-fit : term-bytes b * (o .terms - first-terms) ≤ work
@@ -61,8 +62,8 @@ pub record Fits (b : ℕ) (limits : Limits) (work space : ℕ) (o : Outcome) : T
 abbrev pub LentEnough : Type 0
 LentEnough = (limits : Limits) (job : Bytes) (work space : ℕ) → Fits (number-length job) limits work space (run limits job work space)
 
--- ---- document 02, P8: "A width above its limit is 7 .. A job that gets neither under the bench limits gives, with the same lent memory, the same
--- result and answers under the rack's"
+-- ---- document 02, P8: "A width above its limit is 7 ..
+-- A job that gets neither under the bench limits gives, with the same lent memory, the same result and answers under the rack's"
 -- after any number of the records done, no bit-vector on the list is wider than the limit; how many terms there are, `Fits` says
 abbrev pub NoWider : Type 0
 NoWider = (limits : Limits) (job : Bytes) (work space m i : ℕ) (t : Term) → m ≤ run limits job work space .records
@@ -135,7 +136,8 @@ ExactDepth =
     (number : ℕ) (rule : Rule) (left right : Term) (d : ℕ) → HasDepth rule left d
     → let a = answer-to number rule (two Equals left right ∷ []) in a .code ≡ 0 → a .depth ≡ d
 
--- ---- "For held steps of add, mult and neg .. if two assignments give every operand the same low i bits, the claimed circuits agree in their low i bits"
+-- ---- "For held steps of add, mult and neg .. if two assignments give every operand the same low i bits,
+-- the claimed circuits agree in their low i bits"
 -- the low i bits of a value, as a number
 abbrev pub low-bits : ℕ → Val → ℕ
 low-bits i v = number-of v % 2 ^ i
@@ -205,7 +207,9 @@ pub record Lent : Type 0 where
 
 -- the answers that it wrote: as many as it returns, read from their memory when it has ended
 abbrev pub left-by : Lent → List Answer
-left-by l = let c = call (l .limits) (l .job) (l .work) (l .answers) in decode-answers (number-length (l .job)) (c .result .answers) (c .answer-memory)
+left-by l =
+    let c = call (l .limits) (l .job) (l .work) (l .answers) in
+    decode-answers (number-length (l .job)) (c .result .answers) (c .answer-memory)
 
 -- how many the jobs wrote in all, by what they return
 abbrev pub written : List Lent → ℕ

@@ -1,5 +1,6 @@
--- Document 01, "Codes": what stops the job at a whole record. Codes 4 to 9, 18 and 19, in their order; code 3 is in Record (`ending`), code 2 in Job.
--- Codes 7 and 8 are under limits that the caller states (document 02, P8); codes 4 and 5 know the first record of a job with long numbers (P10).
+-- Document 01, "Codes": what stops the job at a whole record. Codes 4 to 9, 18 and 19, in their order;
+-- code 3 is in Record (`ending`), code 2 in Job. Codes 7 and 8 are under limits that the caller states (document 02, P8);
+-- codes 4 and 5 know the first record of a job with long numbers (P10).
 use mathlib.Core.Bool.{Bool, true, false, _&&_, _||_, cond}
 use mathlib.Core.List.{List, [], _∷_}
 use mathlib.Core.Option.{Option}
@@ -50,7 +51,8 @@ tests place b limits work space list answered r (term o ks) =
     (all-below (length list) ks, 6) ∷ (well-sorted (capped b limits) (term-of list o ks), 7)
     ∷ (has list r || room b (capped b limits) work list, 8) ∷ []
 tests place b limits work space list answered r (step n ks) = step-tests b (length list) space answered (is-some (rule-at n)) ks
-tests place b limits work space list answered r (chain n ps k) = step-tests b (length list) space answered (is-some (chain-rule-at n)) (k ∷ [])
+tests place b limits work space list answered r (chain n ps k) =
+    step-tests b (length list) space answered (is-some (chain-rule-at n)) (k ∷ [])
 tests place b limits work space list answered r (back n) = (leb first-terms n && leb n (length list), 18) ∷ []
 
 -- the code that stops the job at record r, before which `place` records stand, or 0; the numbers of terms have b bytes

@@ -1,5 +1,6 @@
 -- Document 01, "Demand 3 over a whole job": what a "held" answer says. It names the job's records, the plain list, the tests of
--- Codes that let a record pass, and the values; no verdict, no circuit, and of what a program did only how many records it took and the answers.
+-- Codes that let a record pass, and the values;
+-- no verdict, no circuit, and of what a program did only how many records it took and the answers.
 use mathlib.Core.Path.{_≡_}
 use mathlib.Core.List.{List, [], _∷_}
 use mathlib.Core.Option.{some}
@@ -30,7 +31,8 @@ pub record Held (list : Plain) (places : List ℕ) : Type 0 where
   pub on-list : at-place list place ≡ some (two Equals left right)
   pub equal : (ρ : Assign) → value ρ left ≡ value ρ right
 
--- answer k, counted from 0, belongs to the step, of either kind, before which k steps stand; it carries its rule, and with code 0 the step holds
+-- answer k, counted from 0, belongs to the step, of either kind, before which k steps stand;
+-- it carries its rule, and with code 0 the step holds
 pub record Answers (limits : Limits) (job : Bytes) (work space done k : ℕ) (a : Answer) : Type 0 where
   pub m : ℕ
   pub bytes : Bytes

@@ -1,4 +1,5 @@
--- Demands 1 and 2 over a whole job, in the words of Demand.antt: why a job stops, and what each step, of either kind, that it reaches is answered.
+-- Demands 1 and 2 over a whole job, in the words of Demand.antt: why a job stops, and what each step, of either kind,
+-- that it reaches is answered.
 use mathlib.Core.Path.{_≡_}
 use mathlib.Core.List.{List, [], _∷_}
 use mathlib.Core.Option.{some}
@@ -20,8 +21,8 @@ abbrev pub fault-at : Limits → Bytes → ℕ → ℕ → ℕ → Bytes → ℕ
 fault-at limits job work space m r =
     let b = number-length job in fault m b limits work space (plain-after m job) (step-count b (take m (records-of job))) r
 
--- the job stops with this code after so many records: it is too long; or the record after them has that code, and none before has one; or no
--- whole record is left, and bytes are or not
+-- the job stops with this code after so many records: it is too long; or the record after them has that code, and none before has one;
+-- or no whole record is left, and bytes are or not
 pub data Stops (limits : Limits) (job : Bytes) (work space : ℕ) : ℕ → ℕ → Type 0 where
   too-long : max-job < length job → Stops limits job work space 2 0
   at-record : {m code : ℕ} {r : Bytes} → length job ≤ max-job → getElem? (records-of job) m ≡ some r
@@ -49,8 +50,8 @@ earlier-from b earlier list (r ∷ rs) = earlier-from b (recall b earlier list r
 abbrev pub earlier-after : ℕ → Bytes → Earlier
 earlier-after m job = earlier-from (number-length job) [] start (take m (records-of job))
 
--- record m is a chain of rule n with these premises, on the term at place p, and answer k, k being the steps before it, is the rule's on the premises
--- and that term
+-- record m is a chain of rule n with these premises, on the term at place p, and answer k, k being the steps before it,
+-- is the rule's on the premises and that term
 pub record ChainAnswer (job : Bytes) (m n : ℕ) (premises : List ℕ) (p : ℕ) (answers : List Answer) : Type 0 where
   pub rule : ChainRule
   pub rule-is : chain-rule-at n ≡ some rule
@@ -81,7 +82,8 @@ pub record Kept (job : Bytes) (m k p : ℕ) : Type 0 where
   pub answered : answers-to (number-length job) (earlier-after i job) (plain-after i job) bytes ≡ answer ∷ []
   pub held : answer .code ≡ 0
   pub first : getElem? literals 0 ≡ some p
-  pub since : (j : ℕ) (s : Bytes) (n : ℕ) → i < j → j < m → getElem? (records-of job) j ≡ some s → read (number-length job) s ≡ back n → p < n
+  pub since : (j : ℕ) (s : Bytes) (n : ℕ) → i < j → j < m
+      → getElem? (records-of job) j ≡ some s → read (number-length job) s ≡ back n → p < n
 
 -- what `Earlier` says, and as many places as steps
 pub record Tells (job : Bytes) (m : ℕ) (earlier : Earlier) : Type 0 where

@@ -9,7 +9,8 @@ use Rattle.theory.specs.Sort.{Sort, bool, first, same-sort, sorts-of}
 -- the gates: Not, And, Or, Xor, Ite, and Equals where its first argument's sort, s, is Bool
 abbrev pub gate-kind : ℕ → Sort → Bool
 gate-kind k s =
-    eqb k (kind Not) || eqb k (kind And) || eqb k (kind Or) || eqb k (kind Xor) || eqb k (kind Ite) || (eqb k (kind Equals) && same-sort s bool)
+    eqb k (kind Not) || eqb k (kind And) || eqb k (kind Or) || eqb k (kind Xor)
+    || eqb k (kind Ite) || (eqb k (kind Equals) && same-sort s bool)
 
 -- one more than the deepest argument; the deepest argument for BvBbTerm; 0 elsewhere
 abbrev pub depth-op : Op → Sort → ℕ → ℕ

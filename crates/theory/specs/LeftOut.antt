@@ -12,12 +12,14 @@ use Rattle.theory.specs.Rule.{args-of, index-of, constant-kind, slices-v
 
 -- rule 1: as many bits as the constant's width
 abbrev pub ValueSize : Type 0
-ValueSize = (l r : Term) → sort-of (two Equals l r) ≡ bool → (ts bits : List Term) → args-of constant-kind l ≡ some ts → args-of (kind BvBbTerm) r ≡ some bits
+ValueSize = (l r : Term) → sort-of (two Equals l r) ≡ bool → (ts bits : List Term)
+    → args-of constant-kind l ≡ some ts → args-of (kind BvBbTerm) r ≡ some bits
     → index-of 0 l ≡ length bits
 
 -- rule 16: as many bits as the arguments' widths together
 abbrev pub ConcatSize : Type 0
-ConcatSize = (l r : Term) → sort-of (two Equals l r) ≡ bool → (ts bits : List Term) → args-of (kind BvConcat) l ≡ some ts → args-of (kind BvBbTerm) r ≡ some bits
+ConcatSize = (l r : Term) → sort-of (two Equals l r) ≡ bool → (ts bits : List Term)
+    → args-of (kind BvConcat) l ≡ some ts → args-of (kind BvBbTerm) r ≡ some bits
     → length bits ≡ sum-widths (map sort-of ts)
 
 -- the lower index of a slice: of the first of the two parts

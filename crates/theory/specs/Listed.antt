@@ -25,7 +25,8 @@ pub record Sound (r : Bytes) : Type 0 where
   pub size : length r ≡ 2 + word r
   pub long : 4 ≤ length r
 
--- entry i, after the first two, where the numbers of terms have b bytes: its record says its term, the arguments stand before it, and no record before it is the same
+-- entry i, after the first two, where the numbers of terms have b bytes: its record says its term, the arguments stand before it,
+-- and no record before it is the same
 pub record Entered (b : ℕ) (list : Plain) (i : ℕ) (e : Entry) : Type 0 where
   pub sound : Sound (e .bytes)
   pub op : Op

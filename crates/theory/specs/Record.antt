@@ -1,6 +1,6 @@
 -- Document 01, "The job": a job's bytes cut into records, and what a record says.
--- A record is a two-byte length L and L bytes: a two-byte kind and a body. The numbers of terms in a body have b bytes each, as the job decides: two,
--- or four where it begins with the record that asks for them (document 02, P10).
+-- A record is a two-byte length L and L bytes: a two-byte kind and a body. The numbers of terms in a body have b bytes each, as the job
+-- decides: two, or four where it begins with the record that asks for them (document 02, P10).
 use mathlib.Core.Bool.{Bool, true, false, _&&_, cond}
 use mathlib.Core.List.{List, [], _∷_, _++_}
 use mathlib.Core.Option.{Option, none, some}
@@ -183,7 +183,8 @@ chain-fits b body =
 abbrev pub read-chain : ℕ → Bytes → Item
 read-chain b body =
     cond (chain-fits b body)
-    (chain (word body) (words number-bytes (premise-count body) (drop chain-front body)) (little-endian (take b (drop (before-literal body) body))))
+    (chain (word body) (words number-bytes (premise-count body) (drop chain-front body))
+    (little-endian (take b (drop (before-literal body) body))))
     misfit
 
 -- a back: its count

@@ -106,7 +106,8 @@ constant (some ts) v = v
 
 -- the bits' value is the constant's
 abbrev pub value-rule : Term → Term → Verdict
-value-rule v r = form (args-of (kind BvBbTerm) r) (λ bits. constant (args-of constant-kind v) (value-bits (index-of 1 v) (literal-bits bits)))
+value-rule v r =
+    form (args-of (kind BvBbTerm) r) (λ bits. constant (args-of constant-kind v) (value-bits (index-of 1 v) (literal-bits bits)))
 
 -- ---- rules 2 and 13: the operand is a bit-vector
 -- v, where x is one
@@ -150,7 +151,8 @@ slicing-rule l r =
 -- ---- rules 27 to 30: (= ((_ op k) x) res), by how the operation of kind `op` moves the bits by k, at a width
 -- the claim is the term of the bits moved
 abbrev pub moving-rule : ℕ → (ℕ → ℕ → Move) → Term → Term → Verdict
-moving-rule op move l r = unary op l (λ x. compare held (bb (moved-bits (move (index-of 0 l) (sort-width (sort-of x))) (get-term-bits x))) r)
+moving-rule op move l r =
+    unary op l (λ x. compare held (bb (moved-bits (move (index-of 0 l) (sort-width (sort-of x))) (get-term-bits x))) r)
 
 -- ---- every rule, on (= l r). In rule 16 Rust also compares the number of bits: both sides have one width, so they agree
 -- the rule's verdict
@@ -167,11 +169,14 @@ on-sides by-slt l r = on-two held (kind BvSLt) (λ x y. slt term-gates (get-term
 on-sides by-add l r = on-many (kind BvAdd) (λ ts. bb (add-bits ts)) l r
 on-sides by-mult l r = on-many (kind BvMul) (fold-terms product) l r
 on-sides by-neg l r = on-one (kind BvNeg) (λ x. bb (negate term-gates (get-term-bits x))) l r
-on-sides by-equality l r = binary (kind Equals) l (λ x y. of-bits x (compare held (equality term-gates (get-term-bits x) (get-term-bits y)) r))
+on-sides by-equality l r =
+    binary (kind Equals) l (λ x y. of-bits x (compare held (equality term-gates (get-term-bits x) (get-term-bits y)) r))
 on-sides by-comp l r = on-two held (kind BvComp) (λ x y. bb (equality term-gates (get-term-bits x) (get-term-bits y) ∷ [])) l r
 on-sides by-extract l r =
-    unary extract-kind l (λ x. form (args-of (kind BvBbTerm) r) (λ bits. compare held (bb (extract-bits (index-of 0 l) (index-of 1 l) (get-term-bits x))) r))
-on-sides by-concat l r = form (args-of (kind BvConcat) l) (λ ts. form (args-of (kind BvBbTerm) r) (λ bits. compare held (bb (concat-bits ts)) r))
+    unary extract-kind l (λ x. form (args-of (kind BvBbTerm) r) (λ bits.
+    compare held (bb (extract-bits (index-of 0 l) (index-of 1 l) (get-term-bits x))) r))
+on-sides by-concat l r =
+    form (args-of (kind BvConcat) l) (λ ts. form (args-of (kind BvBbTerm) r) (λ bits. compare held (bb (concat-bits ts)) r))
 on-sides by-sign-extend l r =
     unary extend-kind l (λ x. compare held (cond (eqb (index-of 0 l) 0) x (bb (extend-bits (index-of 0 l) (get-term-bits x)))) r)
 on-sides by-shl l r = on-two held (kind BvShl) (shifted (shl term-gates)) l r

@@ -77,9 +77,12 @@ specimens =
     ∷ specimen 10 every-width (λ n. node BvAdd (cons (x n) nil)) (λ n. bb (get-term-bits (x n))) (answered 0 0 ∷ instead x 16 ∷ [])
     ∷ specimen 17 every-width (λ n. node (SignExtend 0) (cons (x n) nil)) x (answered 0 0 ∷ [])
     ∷ specimen 12 (1 ∷ []) (λ n. node BvNeg (cons (x n) nil)) (λ n. bb (negate term-gates (get-term-bits (x n)))) (answered 0 3 ∷ [])
-    ∷ specimen 20 (1 ∷ []) (λ n. two BvAShr (x n) (y n)) (λ n. shifted (ashr term-gates false) (x n) (y n)) (coded 1 ∷ circuit 1 1 0 ∷ standard 1 1 1 ∷ [])
-    ∷ specimen 21 (1 ∷ []) (λ n. two BvUDiv (x n) (y n)) (λ n. divided (udiv term-gates false) (x n) (y n)) (coded 1 ∷ circuit 0 1 1 ∷ standard 0 1 0 ∷ [])
-    ∷ specimen 22 (1 ∷ []) (λ n. two BvURem (x n) (y n)) (λ n. divided (urem term-gates false) (x n) (y n)) (coded 1 ∷ circuit 1 1 1 ∷ standard 1 1 0 ∷ [])
+    ∷ specimen 20 (1 ∷ []) (λ n. two BvAShr (x n) (y n)) (λ n. shifted (ashr term-gates false) (x n) (y n))
+    (coded 1 ∷ circuit 1 1 0 ∷ standard 1 1 1 ∷ [])
+    ∷ specimen 21 (1 ∷ []) (λ n. two BvUDiv (x n) (y n)) (λ n. divided (udiv term-gates false) (x n) (y n))
+    (coded 1 ∷ circuit 0 1 1 ∷ standard 0 1 0 ∷ [])
+    ∷ specimen 22 (1 ∷ []) (λ n. two BvURem (x n) (y n)) (λ n. divided (urem term-gates false) (x n) (y n))
+    (coded 1 ∷ circuit 1 1 1 ∷ standard 1 1 0 ∷ [])
     ∷ specimen 11 (2 ∷ []) (λ n. two BvMul (x n) (y n)) (λ n. product (x n) (y n)) (coded 0 ∷ circuit 3 3 1 ∷ standard 3 3 1 ∷ [])
     ∷ []
 

@@ -203,7 +203,8 @@ meaning ρ BvConcat vs = fold1 concat2 vs
 meaning ρ (BvExtract i j) vs = number (suc (i - j)) (number-of (arg 0 vs) / 2 ^ j % 2 ^ suc (i - j))
 meaning ρ (SignExtend k) vs =
     let x = arg 0 vs in
-    number (value-width x + k) (number-of x + cond (bit-at (value-width x - 1) (number-of x)) (2 ^ (value-width x + k) - 2 ^ value-width x) 0)
+    number (value-width x + k)
+    (number-of x + cond (bit-at (value-width x - 1) (number-of x)) (2 ^ (value-width x + k) - 2 ^ value-width x) 0)
 meaning ρ (ZeroExtend k) vs = number (value-width (arg 0 vs) + k) (number-of (arg 0 vs))
 meaning ρ (RotateLeft k) vs = num1 (rotate-left-n k) (arg 0 vs)
 meaning ρ (RotateRight k) vs = num1 (rotate-right-n k) (arg 0 vs)

@@ -26,8 +26,8 @@ so-far out s = take (s .done) out
 abbrev pub row-records : Bytes → Bytes → ℕ → List Bytes
 row-records job work n = kept-as (link-bytes number-bytes) job work n
 
--- the terms of the first bytes of a job have a row each in the work memory, and a table over the rows finds them; the records after them
--- are found by a walk
+-- the terms of the first bytes of a job have a row each in the work memory, and a table over the rows finds them;
+-- the records after them are found by a walk
 pub record Covered (job work : Bytes) (rows covered : ℕ) : Type 0 where
   pub before : covered ≤ length job
   pub table : TableAs number-bytes (take covered job) work rows
