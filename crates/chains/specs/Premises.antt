@@ -1,5 +1,5 @@
--- Which earlier steps may be premises, as the memories say it: an answer holds the place of its step's record while the job runs, and a row the
--- place of its term's record. What these come to is theory's list of earlier steps, by the law of origins (theory, proofs/Origins).
+-- Which earlier steps may be premises, as the memories say it: an answer holds the place of its step's record while the job runs, and a row
+-- the place of its term's record. What these come to is theory's list of earlier steps, by the law of origins (theory, proofs/Origins).
 use mathlib.Core.Path.{_≡_}
 use mathlib.Core.Bool.{Bool, true, false, _&&_, cond}
 use mathlib.Core.List.{List, [], _∷_, map}

@@ -44,7 +44,8 @@ after (Refused v) next = verdict-of v
 -- the tests on a slice, by numbers: bits j to i of x and bits m to k of y, where a and c are sliced and `done` is the lowest index so far
 abbrev pub number-tests : (a c done i j x k m y : ℕ) → (ℕ → Verdict) → Verdict
 number-tests a c done i j x k m y next =
-    cond (not (eqb i k && eqb j m)) wrong-form (cond (not (eqb (i + 1) done)) index-not-next (cond (not (eqb a x && eqb c y)) terms-differ (next j)))
+    cond (not (eqb i k && eqb j m)) wrong-form
+    (cond (not (eqb (i + 1) done)) index-not-next (cond (not (eqb a x && eqb c y)) terms-differ (next j)))
 
 -- r is what f makes of a slice, whatever the next ones make of its lower index
 abbrev pub Answers : Slice → ((ℕ → Verdict) → Verdict) → Type 0

@@ -1,5 +1,5 @@
--- The measure of a term: the one number that its row keeps. No term needs both its depth and its width to be kept: the gates are Bools, the width of
--- a BvBbTerm is the number of its arguments, and any other term has depth 0.
+-- The measure of a term: the one number that its row keeps. No term needs both its depth and its width to be kept: the gates are Bools, the
+-- width of a BvBbTerm is the number of its arguments, and any other term has depth 0.
 use mathlib.Core.Bool.{Bool, _&&_, _||_, cond}
 use Prim.Native.Nat.{ℕ, _-_, _/_}
 use lib.Dec.{leb, eqb}

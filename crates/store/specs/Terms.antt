@@ -11,7 +11,8 @@ use Rattle.terms.specs.declared.Term.{Term}
 use Rattle.terms.specs.Decoded.{OperandsPlaced, op-of, operands-of, arguments-of}
 use Rattle.store.specs.Store.{listed}
 
--- t is the term at a place: it rebuilds the tree, its arguments can be read in the job and stand before it, and are as many as its kind takes
+-- t is the term at a place: it rebuilds the tree, its arguments can be read in the job and stand before it, and are as many as its kind
+-- takes
 pub record TermAt (job work : Bytes) (n place : ℕ) (t : Term) : Type 0 where
   pub made : tree-at (listed job work n) place ≡ tree-of (listed job work n) (op-of t) (arguments-of job t)
   pub placed : OperandsPlaced job (operands-of t)

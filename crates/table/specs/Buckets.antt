@@ -1,8 +1,7 @@
--- Separate chaining over the rows, so that a record is found without a walk over all of them. A record's bytes lead to a bucket; the rows of a bucket
--- form a list, from the newest to the oldest: the bucket's head names the newest, and each row's link the one before it. A head and a link
--- have l bytes, and hold 0 for no row, or one more than a row's index.
--- The work memory has the rows first, then the heads, and in its last four bytes the seed from which the buckets are computed. What is found does not
--- depend on the seed; how long it takes does.
+-- Separate chaining over the rows, so that a record is found without a walk over all of them. A record's bytes lead to a bucket; the rows
+-- of a bucket form a list, from the newest to the oldest: the bucket's head names the newest, and each row's link the one before it. A head
+-- and a link have l bytes, and hold 0 for no row, or one more than a row's index. The work memory has the rows first, then the heads, and
+-- in its last four bytes the seed from which the buckets are computed. What is found does not depend on the seed; how long it takes does.
 use mathlib.Core.Path.{_≡_}
 use mathlib.Core.Bool.{cond}
 use Prim.Native.Nat.{ℕ, zero, suc, _+_, _*_, _-_, _/_, _%_, _≤_, _<_}
@@ -57,8 +56,8 @@ unfoldable pub hash-from : ℕ → ℕ → ℕ → Bytes → ℕ
 hash-from m zero h x = h % hash-end
 hash-from m (suc q) h x = hash-from m q (fold ((h + number-at x 0 2) * m)) (drop 2 x)
 
--- a number made of a record's kind and body: the whole words of the body, with the kind's low byte above the first of them. The number of words says
--- the record's length, which is left out
+-- a number made of a record's kind and body: the whole words of the body, with the kind's low byte above the first of them. The number of
+-- words says the record's length, which is left out
 unfoldable pub hash-of : ℕ → Bytes → ℕ
 hash-of m x = cond (ltb (length x) 4) 0 (hash-from m ((length x - 4) / 2) (getD x 2 0 * 65536) (drop 4 x))
 
@@ -84,8 +83,8 @@ head-at l work start j = number-at work (start + j * l) l
 unfoldable pub first-in : ℕ → Bytes → ℕ → ℕ → ℕ → ℕ → ℕ
 first-in l work n start c j = cond (ltb j c) (head-at l work start j) n
 
--- n rows are kept, with c heads from `start` on: each head names the newest row of its bucket, each link the one before its row in the row's bucket,
--- and no two rows have one record
+-- n rows are kept, with c heads from `start` on: each head names the newest row of its bucket, each link the one before its row in the
+-- row's bucket, and no two rows have one record
 pub record TableOf (l : ℕ) (job work : Bytes) (n start c : ℕ) : Type 0 where
   pub rows : Rows l job work n
   pub below : n * row-size l ≤ start

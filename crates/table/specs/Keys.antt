@@ -49,7 +49,8 @@ place-list b kind xs rows = cond (all-places b xs) (place-of (record-of kind (wo
 
 -- the place of the record of a kind whose body is an index and an argument
 unfoldable pub place-indexed : ℕ → ℕ → ℕ → ℕ → List Bytes → ℕ
-place-indexed b kind i x rows = cond (all-places b (x ∷ [])) (place-of (record-of kind (bytes-of number-bytes i ++ words-bytes b (x ∷ []))) rows) missing
+place-indexed b kind i x rows =
+    cond (all-places b (x ∷ [])) (place-of (record-of kind (bytes-of number-bytes i ++ words-bytes b (x ∷ []))) rows) missing
 
 -- the place of the record of a kind whose body is a number and a value: a constant, by its width and value
 unfoldable pub place-constant : ℕ → ℕ → ℕ → List Bytes → ℕ

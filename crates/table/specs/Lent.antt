@@ -1,5 +1,5 @@
--- What contracts say of the records that a function is lent. `job` and `work` are the references as a contract names them, and the records are those
--- of the first n rows when the function is called.
+-- What contracts say of the records that a function is lent. `job` and `work` are the references as a contract names them, and the records
+-- are those of the first n rows when the function is called.
 use mathlib.Core.List.{List}
 use Prim.Native.Nat.{ℕ}
 use denote.Ref.{RefT, now}

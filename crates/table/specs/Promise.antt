@@ -1,4 +1,5 @@
--- What callers are promised when a record is added, when the newest rows are dropped, and when the work memory is cleared. Terms' numbers have b bytes.
+-- What callers are promised when a record is added, when the newest rows are dropped, and when the work memory is cleared. Terms' numbers
+-- have b bytes.
 use mathlib.Core.Path.{_≡_}
 use mathlib.Core.Bool.{Bool, not, _&&_, _||_, cond}
 use mathlib.Core.List.{List, [], _∷_, _++_}
@@ -29,8 +30,8 @@ room-for b limit n len = leb (term-bytes b * suc n) len && ltb (first-terms + n)
 unfoldable pub is-kept : Bytes → List Bytes → Bool
 is-kept x rows = not (eqb (place-of x rows) missing)
 
--- the answer to record x under a limit of terms where `rows` are kept in len bytes: the place of the kept record that equals it, or the place after
--- the last, or that there is no room
+-- the answer to record x under a limit of terms where `rows` are kept in len bytes: the place of the kept record that equals it, or the
+-- place after the last, or that there is no room
 unfoldable pub added-for : ℕ → ℕ → Bytes → List Bytes → ℕ → Added
 added-for b limit x rows len =
     cond (eqb (place-of x rows) missing)
@@ -54,7 +55,8 @@ list-after (Found p) x rows = rows
 list-after (New p) x rows = rows ++ (x ∷ [])
 list-after Spent x rows = rows
 
--- the work memory with row n, of the record at `at`, before the newest of the bucket j: the bytes of the row and of the bucket's head are stored, and no other
+-- the work memory with row n, of the record at `at`, before the newest of the bucket j: the bytes of the row and of the bucket's head are
+-- stored, and no other
 unfoldable pub in-bucket : ℕ → Bytes → ℕ → ℕ → ℕ → ℕ → Bytes
 in-bucket b work n j at measure =
     added-row (link-bytes b) work n (heads-start b (length work)) (bucket-count b (length work)) j at measure

@@ -1,5 +1,5 @@
--- Values by document 01's Meaning, worked by hand, of what no held step speaks of: bvashr, bvudiv, bvurem, a Bool variable, an Or of three. x and y are
--- variables.
+-- Values by document 01's Meaning, worked by hand, of what no held step speaks of: bvashr, bvudiv, bvurem, a Bool variable, an Or of three.
+-- x and y are variables.
 use mathlib.Core.Bool.{Bool, true, false}
 use mathlib.Core.List.{List, [], _∷_}
 use Prim.Native.Nat.{ℕ}
