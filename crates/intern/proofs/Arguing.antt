@@ -9,7 +9,7 @@ use lib.Dec.{T}
 use lib.ListN.{length, drop, getD, drop-of-length-le}
 use lib.Seq.{drop-cons}
 use Rattle.theory.specs.Limit.{max-arguments, max-width}
-use Rattle.theory.specs.Sort.{Sort, bad, bv, guard, good, same-sort, all-are, all-bv, sum-widths, sort-width, is-bv-sort, first, alike, width, sort-of}
+use Rattle.theory.specs.Sort.{Sort, bad, bv, guard, good, same-sort, all-are, all-bv, sum-widths, sort-width, is-bv-sort, first, alike, is-width, sort-of}
 use Rattle.theory.specs.Depth.{depth}
 use Rattle.theory.specs.Record.{Bytes}
 use Rattle.theory.specs.Plain.{Plain}
@@ -112,7 +112,7 @@ pub record Summing (list : Plain) (ks : List ℕ) (sum i : ℕ) : Type 0 where
   pub total : sum-widths (sorts-at list ks) ≡ sum + sum-widths (sorts-at list (drop i ks))
 
 abbrev joined-sort : List Sort → Sort
-joined-sort ss = guard (all-bv ss && width (sum-widths ss)) (bv (sum-widths ss))
+joined-sort ss = guard (all-bv ss && is-width (sum-widths ss)) (bv (sum-widths ss))
 
 module _ {list : Plain} {ks : List ℕ} where
   pub sum-start : Summing list ks 0 0
@@ -143,22 +143,22 @@ module _ {list : Plain} {ks : List ℕ} where
     sum-no-bv z =
         let q : is-bv-sort s ≡ false = no-width s (subst (λ (t : Sort). T (sized t)) (sym e) (sorts-sized (tree-at list (getD ks i 0)))) (sym f ∙ z) in
         let x = sum-widths (sorts-at list ks) in
-        fails (all-bv (sorts-at list ks) && width x) (bv x)
-        (ap (λ (b : Bool). b && width x) (next-bvs ∙ ap (λ (b : Bool). b && all-bv (sorts-at list (drop (suc i) ks))) q))
+        fails (all-bv (sorts-at list ks) && is-width x) (bv x)
+        (ap (λ (b : Bool). b && is-width x) (next-bvs ∙ ap (λ (b : Bool). b && all-bv (sorts-at list (drop (suc i) ks))) q))
 
     pub sum-wide : max-width - sum < w → bad ≡ joined-sort (sorts-at list ks)
     sum-wide l =
         let t = next-total in
         let m = p .small in
         let x = sum-widths (sorts-at list ks) in
-        fails (all-bv (sorts-at list ks) && width x) (bv x) (ap (λ (b : Bool). all-bv (sorts-at list ks) && b) (width-high x (omega arith)) ∙ and-false (all-bv (sorts-at list ks)))
+        fails (all-bv (sorts-at list ks) && is-width x) (bv x) (ap (λ (b : Bool). all-bv (sorts-at list ks) && b) (width-high x (omega arith)) ∙ and-false (all-bv (sorts-at list ks)))
 
-  pub sum-end : {sum i : ℕ} → Summing list ks sum i → length ks ≤ i → {s : Sort} → s ≡ guard (width sum) (bv sum) → s ≡ joined-sort (sorts-at list ks)
+  pub sum-end : {sum i : ℕ} → Summing list ks sum i → length ks ≤ i → {s : Sort} → s ≡ guard (is-width sum) (bv sum) → s ≡ joined-sort (sorts-at list ks)
   sum-end {sum} {i} p h e =
       let d = drop-of-length-le ks {i = i} h in
       let b : all-bv (sorts-at list ks) ≡ true = p .bvs ∙ ap (λ (js : List ℕ). all-bv (sorts-at list js)) d in
       let t : sum-widths (sorts-at list ks) ≡ sum = p .total ∙ ap (λ (js : List ℕ). sum + sum-widths (sorts-at list js)) d ∙ omega arith in
-      e ∙ sym (ap₂ (λ (x : Bool) (v : ℕ). guard (x && width v) (bv v)) b t)
+      e ∙ sym (ap₂ (λ (x : Bool) (v : ℕ). guard (x && is-width v) (bv v)) b t)
 
 -- ---- the deepest: what is left from i on
 pub record Deepening (list : Plain) (ks : List ℕ) (most i : ℕ) : Type 0 where

@@ -9,7 +9,7 @@ use lib.ListN.{length, length-map}
 use Rattle.theory.specs.Limit.{max-width}
 use Rattle.theory.specs.Kind.{Op, arity, takes}
 use Rattle.theory.specs.Term.{fold, from-list}
-use Rattle.theory.specs.Sort.{Sort, bool, bv, guard, all-are, alike, same-sort, fitting, result-sort, sort-op, sort-of, sorts-of, first, is-bv-sort, sort-width, width}
+use Rattle.theory.specs.Sort.{Sort, bool, bv, guard, all-are, alike, same-sort, fitting, result-sort, sort-op, sort-of, sorts-of, first, is-bv-sort, sort-width, is-width}
 use Rattle.theory.specs.Depth.{depth, depth-op}
 use Rattle.theory.specs.Plain.{Plain}
 use Rattle.theory.proofs.Blast.{folds-from-list}
@@ -122,8 +122,8 @@ module _ (ss : List Sort) {a : Asks} where
   asked-extend {k} e g f = asked e (f ∙ ap (λ (t : Sort). guard (is-bv-sort t && leb (sort-width t + k) max-width) (bv (sort-width t + k))) g)
 
   pub asked-copies : {k : ℕ} → a ≡ Copies k → {t : Sort} → t ≡ first ss
-      → {s : Sort} → s ≡ guard (is-bv-sort t && width (k * sort-width t)) (bv (k * sort-width t)) → s ≡ asked-sort a ss
-  asked-copies {k} e g f = asked e (f ∙ ap (λ (t : Sort). guard (is-bv-sort t && width (k * sort-width t)) (bv (k * sort-width t))) g)
+      → {s : Sort} → s ≡ guard (is-bv-sort t && is-width (k * sort-width t)) (bv (k * sort-width t)) → s ≡ asked-sort a ss
+  asked-copies {k} e g f = asked e (f ∙ ap (λ (t : Sort). guard (is-bv-sort t && is-width (k * sort-width t)) (bv (k * sort-width t))) g)
 
 module _ (s : Sort) (m : ℕ) {a : Asks} where
   pub depth-of : {b : Asks} → a ≡ b → {x : ℕ} → x ≡ asked-depth b s m → x ≡ asked-depth a s m

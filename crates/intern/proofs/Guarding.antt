@@ -9,7 +9,7 @@ use lib.Ieee.Fits.{and-l}
 use lib.Pow.{shl-exact}
 use borrow.Author.Tests.{lt-ltb, le-ltb, le-leb, lt-leb}
 use Rattle.theory.specs.Limit.{max-width}
-use Rattle.theory.specs.Sort.{Sort, bad, bool, bv, guard, width, is-bv-sort, sort-width}
+use Rattle.theory.specs.Sort.{Sort, bad, bool, bv, guard, is-width, is-bv-sort, sort-width}
 use Rattle.theory.proofs.Sorts.{sized}
 
 -- a sort behind a test
@@ -24,23 +24,23 @@ fails true s e = absurd (let z : _≡_ {A = ℕ} 0 1 = cc in omega arith)
 fails false s e = refl
 
 module _ (n : ℕ) where
-  pub width-low : n < 1 → width n ≡ false
+  pub width-low : n < 1 → is-width n ≡ false
   width-low h = rw (lt-leb 1 n h)
 
-  pub width-high : max-width < n → width n ≡ false
+  pub width-high : max-width < n → is-width n ≡ false
   width-high l = rw (lt-leb n max-width l) (and-false (leb 1 n))
 
-  pub width-fits : 1 ≤ n → n ≤ max-width → width n ≡ true
+  pub width-fits : 1 ≤ n → n ≤ max-width → is-width n ≡ true
   width-fits h l = rw (le-leb 1 n h, le-leb n max-width l)
 
-  pub value-misfits : (b : Bool) → width n ≡ false → width n && b ≡ false
+  pub value-misfits : (b : Bool) → is-width n ≡ false → is-width n && b ≡ false
   value-misfits b e = ap (λ (x : Bool). x && b) e
 
-  pub value-fits : (x m : ℕ) → 1 ≤ n → n ≤ max-width → x < m → width n && ltb x m ≡ true
+  pub value-fits : (x m : ℕ) → 1 ≤ n → n ≤ max-width → x < m → is-width n && ltb x m ≡ true
   value-fits x m h l k = rw (le-leb 1 n h, le-leb n max-width l, lt-ltb x m k)
 
-  pub value-beyond : (x m : ℕ) → m ≤ x → width n && ltb x m ≡ false
-  value-beyond x m k = rw (le-ltb x m k) (and-false (width n))
+  pub value-beyond : (x m : ℕ) → m ≤ x → is-width n && ltb x m ≡ false
+  value-beyond x m k = rw (le-ltb x m k) (and-false (is-width n))
 
 -- 1 shifted up
 pub shifted : (n : ℕ) → n < 64 → (1 * 2 ^ n) % 2 ^ 64 ≡ 2 ^ n
@@ -98,28 +98,28 @@ module _ {s : Sort} (k : ℕ) where
 pub few-bits : (k n : ℕ) → k ≤ max-width → n ≤ max-width → k * n ≤ 4096
 few-bits k n h l = omega (arith, mul-le-mul-left k l)
 
-many-bits : (k n : ℕ) → max-width < k → width (k * n) ≡ false
+many-bits : (k n : ℕ) → max-width < k → is-width (k * n) ≡ false
 many-bits k zero h = width-low (k * 0) (omega arith)
 many-bits k (suc n) h = width-high (k * suc n) (omega arith)
 
-wide-bits : (k n : ℕ) → max-width < n → width (k * n) ≡ false
+wide-bits : (k n : ℕ) → max-width < n → is-width (k * n) ≡ false
 wide-bits zero n h = width-low (0 * n) (omega arith)
 wide-bits (suc k) n h = width-high (suc k * n) (omega arith)
 
 module _ {s : Sort} (k : ℕ) where
-  pub copies-none : s ≡ bad → is-bv-sort s && width (k * sort-width s) ≡ false
+  pub copies-none : s ≡ bad → is-bv-sort s && is-width (k * sort-width s) ≡ false
   copies-none e = rw e
 
-  pub copies-bool : s ≡ bool → is-bv-sort s && width (k * sort-width s) ≡ false
+  pub copies-bool : s ≡ bool → is-bv-sort s && is-width (k * sort-width s) ≡ false
   copies-bool e = rw e
 
-  pub copies-many : {n : ℕ} → s ≡ bv n → max-width < k → is-bv-sort s && width (k * sort-width s) ≡ false
+  pub copies-many : {n : ℕ} → s ≡ bv n → max-width < k → is-bv-sort s && is-width (k * sort-width s) ≡ false
   copies-many {n} e h = rw e (many-bits k n h)
 
-  pub copies-wide : {n : ℕ} → s ≡ bv n → max-width < n → is-bv-sort s && width (k * sort-width s) ≡ false
+  pub copies-wide : {n : ℕ} → s ≡ bv n → max-width < n → is-bv-sort s && is-width (k * sort-width s) ≡ false
   copies-wide {n} e h = rw e (wide-bits k n h)
 
-  pub copied : {n : ℕ} {r : Sort} → s ≡ bv n → r ≡ guard (width (k * n)) (bv (k * n)) → r ≡ guard (is-bv-sort s && width (k * sort-width s)) (bv (k * sort-width s))
+  pub copied : {n : ℕ} {r : Sort} → s ≡ bv n → r ≡ guard (is-width (k * n)) (bv (k * n)) → r ≡ guard (is-bv-sort s && is-width (k * sort-width s)) (bv (k * sort-width s))
   copied {n} e f = f ∙ rw e
 
 -- a sort of width 0 is no bit-vector's

@@ -7,7 +7,7 @@ use lib.Dec.{eqb, leb, ltb}
 use lib.ListN.{length}
 use Rattle.theory.specs.Limit.{max-width}
 use Rattle.theory.specs.Kind.{arity, takes}
-use Rattle.theory.specs.Sort.{Sort, bool, bv, guard, all-are, is-bv-sort, good, all-bv, sort-width, sum-widths, first, width, alike, same-sort, sort-of}
+use Rattle.theory.specs.Sort.{Sort, bool, bv, guard, all-are, is-bv-sort, good, all-bv, sort-width, sum-widths, first, is-width, alike, same-sort, sort-of}
 use Rattle.theory.specs.Term as T
 use Rattle.theory.specs.Depth.{depth}
 use Rattle.theory.specs.Record.{Bytes}
@@ -65,8 +65,8 @@ asks-of (D.Repeat k x) = Copies k
 -- the sort of a term that asks this, from the sorts of its arguments
 abbrev pub asked-sort : Asks → List Sort → Sort
 asked-sort Nothing ss = bool
-asked-sort (Width n) ss = guard (width n) (bv n)
-asked-sort (Value n x) ss = guard (width n && ltb x (2 ^ n)) (bv n)
+asked-sort (Width n) ss = guard (is-width n) (bv n)
+asked-sort (Value n x) ss = guard (is-width n && ltb x (2 ^ n)) (bv n)
 asked-sort Bools ss = guard (all-are bool ss) bool
 asked-sort Same ss = guard (good (first ss) && all-are (first ss) ss) bool
 asked-sort (Bit i) ss = guard (is-bv-sort (first ss) && ltb i (sort-width (first ss))) bool
@@ -74,10 +74,10 @@ asked-sort Bits ss = guard (all-are bool ss) (bv (length ss))
 asked-sort Alike ss = guard (alike ss) (first ss)
 asked-sort Order ss = guard (alike ss) bool
 asked-sort Compare ss = guard (alike ss) (bv 1)
-asked-sort Concat ss = guard (all-bv ss && width (sum-widths ss)) (bv (sum-widths ss))
+asked-sort Concat ss = guard (all-bv ss && is-width (sum-widths ss)) (bv (sum-widths ss))
 asked-sort (Extract i j) ss = guard (is-bv-sort (first ss) && (leb j i && ltb i (sort-width (first ss)))) (bv (i - j + 1))
 asked-sort (Extend k) ss = guard (is-bv-sort (first ss) && leb (sort-width (first ss) + k) max-width) (bv (sort-width (first ss) + k))
-asked-sort (Copies k) ss = guard (is-bv-sort (first ss) && width (k * sort-width (first ss))) (bv (k * sort-width (first ss)))
+asked-sort (Copies k) ss = guard (is-bv-sort (first ss) && is-width (k * sort-width (first ss))) (bv (k * sort-width (first ss)))
 
 -- the depth of a term that asks this, from its first argument's sort and the depth of the deepest
 abbrev pub asked-depth : Asks → Sort → ℕ → ℕ

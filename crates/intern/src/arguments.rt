@@ -3,7 +3,7 @@ ghost use mathlib.Core.Path.{_≡_};
 ghost use mathlib.Core.Bool.{_&&_};
 ghost use Prim.Native.Nat.{_<_, max};
 ghost use lib.ListN.{getD};
-ghost use Rattle.theory.specs.Sort.{bv, guard, all-are, good, first, alike, all-bv, sum-widths, width, sort-of};
+ghost use Rattle.theory.specs.Sort.{bv, guard, all-are, good, first, alike, all-bv, sum-widths, is-width, sort-of};
 ghost use Rattle.theory.specs.Depth.{depth};
 ghost use Rattle.rows.specs.Layout.{Bounded, place-end};
 ghost use Rattle.terms.specs.Decoded.{OperandsPlaced, numbers-of};
@@ -130,7 +130,7 @@ pub fn all_alike(job: &[u8], work: &[u8], n: usize, ops: Operands) -> bool
 pub fn joined(job: &[u8], work: &[u8], n: usize, ops: Operands) -> Sort
     requires { ⌜ Arguments (now job) (now work) n ops ⌝ }
     ensures { λ r. let ss = argument-sorts job work n ops in
-        ⌜ sort-read r ≡ guard (all-bv ss && width (sum-widths ss)) (bv (sum-widths ss)) ⌝ }
+        ⌜ sort-read r ≡ guard (all-bv ss && is-width (sum-widths ss)) (bv (sum-widths ss)) ⌝ }
 {
     let end = count(ops);
     let mut sum: u32 = 0;

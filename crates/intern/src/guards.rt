@@ -4,7 +4,7 @@ ghost use mathlib.Core.Bool.{_&&_};
 ghost use Prim.Native.Nat.{_+_, _-_, _*_, _^_};
 ghost use lib.Dec.{leb, ltb};
 ghost use Rattle.theory.specs.Limit.{max-width};
-ghost use Rattle.theory.specs.Sort.{bool, bv, good, same-sort, guard, width, is-bv-sort, sort-width};
+ghost use Rattle.theory.specs.Sort.{bool, bv, good, same-sort, guard, is-width, is-bv-sort, sort-width};
 ghost use Rattle.store.specs.Sorts.{sort-read};
 use store::sorts::Sort;
 use store::sorts::width_of;
@@ -53,7 +53,7 @@ pub fn when(test: bool, s: Sort) -> Sort
 
 // A bit-vector of that width, if it is a width.
 pub fn of_width(n: u32) -> Sort
-    ensures { λ r. ⌜ sort-read r ≡ guard (width n) (bv n) ⌝ }
+    ensures { λ r. ⌜ sort-read r ≡ guard (is-width n) (bv n) ⌝ }
 {
     if n < 1 {
         return Sort::Bad;
@@ -66,7 +66,7 @@ pub fn of_width(n: u32) -> Sort
 
 // A constant of that width and value, if it is a width and has the value.
 pub fn of_value(n: u32, x: u64) -> Sort
-    ensures { λ r. ⌜ sort-read r ≡ guard (width n && ltb x (2 ^ n)) (bv n) ⌝ }
+    ensures { λ r. ⌜ sort-read r ≡ guard (is-width n && ltb x (2 ^ n)) (bv n) ⌝ }
 {
     if n < 1 {
         return Sort::Bad;

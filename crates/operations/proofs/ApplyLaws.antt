@@ -12,7 +12,7 @@ use lib.Signed.{ltZ}
 use borrow.Author.Tests.{eq-eqb, ne-eqb, le-leb}
 use Rattle.theory.specs.Kind as K
 use Rattle.theory.specs.Kind.{Op}
-use Rattle.theory.specs.Sort.{Sort, guard, good, sort-op, width, alike, is-bv-sort, sort-width}
+use Rattle.theory.specs.Sort.{Sort, guard, good, sort-op, is-width, alike, is-bv-sort, sort-width}
 use Rattle.theory.specs.Value.{Assign, Val, number, bit, bit-at, xor, same, num2, not-n, neg-n, xnor-n, shl-n, lshr-n, ashr-n, udiv-n, urem-n, signed, meaning}
 use Rattle.sweeps.specs.Sweep.{as-number}
 use Rattle.sweeps.proofs.Fitting.{fitted}
@@ -264,7 +264,7 @@ unfolding meaning
 is-ult zero x y r h e ρ = absurd (ult-bv 0 (h .sorted))
 is-ult (suc m) x y r h e ρ = e
 
-pub is-slt : (m x y r : ℕ) → Two K.BvSLt m x y → r ≡ bit (cond (width m) (ltZ (signed m x) (signed m y)) false) → Is2 K.BvSLt m x y r
+pub is-slt : (m x y r : ℕ) → Two K.BvSLt m x y → r ≡ bit (cond (is-width m) (ltZ (signed m x) (signed m y)) false) → Is2 K.BvSLt m x y r
 unfolding meaning
 is-slt zero x y r h e ρ = absurd (slt-bv 0 (h .sorted))
 is-slt (suc m) x y r h e ρ =

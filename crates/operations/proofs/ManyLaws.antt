@@ -10,7 +10,7 @@ use lib.Bits.{bitAnd, bitOr, bitXor, and-lt, or-lt, xor-lt, and-zero-l, and-zero
 use lib.Dec.{eqb}
 use lib.Pow.{pow-pos, pow-mono, pow-add, shl-exact}
 use Rattle.theory.specs.Kind as K
-use Rattle.theory.specs.Sort.{width}
+use Rattle.theory.specs.Sort.{is-width}
 use Rattle.theory.specs.Value.{Val, truth, number, value-width, number-of, bit, num2, concat2, and-n, or-n, xor-n, add-n, mul-n}
 use Rattle.operations.specs.declared.apply.Many.{Many}
 use Rattle.operations.specs.declared.apply.Many.the-variants as M

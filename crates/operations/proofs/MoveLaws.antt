@@ -12,7 +12,7 @@ use lib.ListN.{replicate}
 use lib.Pow.{pow-pos, pow-add, shl-exact, shr-lt}
 use Rattle.theory.specs.Kind as K
 use Rattle.theory.specs.Move.{bits}
-use Rattle.theory.specs.Sort.{good, sort-op, is-bv-sort, width}
+use Rattle.theory.specs.Sort.{good, sort-op, is-bv-sort, is-width}
 use Rattle.theory.specs.Value.{Assign, Val, number, to-number, bit-at, moved-n, rotate-left-n, rotate-right-n, concat2, meaning}
 use Rattle.theory.proofs.Blast.{bits-from, to-number-bits-from, bits-from-length}
 use Rattle.theory.proofs.Indexed.{bits-same}
@@ -146,7 +146,7 @@ pub record Copies (k m : ℕ) : Type 0 where
 pub repeat-in : (k m x : ℕ) → One (K.Repeat k) m x → Copies k m
 repeat-in k zero x h = absurd (repeat-bv k 0 (h .sorted))
 repeat-in k (suc m) x h =
-    let f : T (width (k * suc m)) = and-r (is-bv-sort (sort-by (suc m))) (width (k * suc m)) (fitted (K.Repeat k) (sort-by (suc m) ∷ []) (h .sorted)) in
+    let f : T (is-width (k * suc m)) = and-r (is-bv-sort (sort-by (suc m))) (is-width (k * suc m)) (fitted (K.Repeat k) (sort-by (suc m) ∷ []) (h .sorted)) in
     let a = leb→le 1 (k * suc m) (and-l (leb 1 (k * suc m)) (leb (k * suc m) 64) f) in
     record { wide = word-wide (suc m) tt (h .first .few); some = positive k a; few = leb→le (k * suc m) 64 (and-r (leb 1 (k * suc m)) (leb (k * suc m) 64) f) }
   where

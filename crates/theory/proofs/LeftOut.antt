@@ -10,7 +10,7 @@ use lib.Ieee.Fits.{and-l, and-r}
 use lib.ListN.{length, length-map}
 use Rattle.theory.specs.Kind.{Equals, Const, BvBbTerm, BvConcat, BvAnd, BvExtract, takes, many}
 use Rattle.theory.specs.Term.{Term, Terms, node, nil, cons, to-list, from-list, two, fold}
-use Rattle.theory.specs.Sort.{Sort, bool, bv, good, is-bv-sort, all-bv, width, sum-widths, sort-width, sort-op, sort-of, sorts-of}
+use Rattle.theory.specs.Sort.{Sort, bool, bv, good, is-bv-sort, all-bv, is-width, sum-widths, sort-width, sort-op, sort-of, sorts-of}
 use Rattle.theory.specs.Verdict.{held}
 use Rattle.theory.specs.Rule.{nth, args-of, index-of, slices-verdict}
 use Rattle.theory.specs.LeftOut.{ValueSize, ConcatSize, low-index, lowest, Covered}
@@ -71,7 +71,7 @@ covered a c us e v =
     let p = and-pair a c (s .0) in
     let n = sort-width (sort-of a) in
     let q : sort-of (node BvConcat us) ≡ bv n = sym (s .1) ∙ p .2 in
-    let g = guard-yes (takes many (length (sorts-of us)) && (all-bv (sorts-of us) && width (sum-widths (sorts-of us)))) (bv (sum-widths (sorts-of us))) (bv n) tt q in
+    let g = guard-yes (takes many (length (sorts-of us)) && (all-bv (sorts-of us) && is-width (sum-widths (sorts-of us)))) (bv (sum-widths (sorts-of us))) (bv n) tt q in
     let h : T (all-bv (sorts-of us)) = and-l (all-bv (sorts-of us)) _ (and-r (takes many (length (sorts-of us))) _ (g .0)) in
     let m : sum-widths (sorts-of us) ≡ n = ap sort-width (g .1) in
     let d : sort-width (sort-of c) ≡ n = ap sort-width (p .1) in

@@ -6,7 +6,7 @@ use Prim.Native.Nat.{ℕ, zero, suc, _-_}
 use lib.Dec.{T, eqb}
 use Rattle.theory.specs.Kind.{True, False, BvBbTerm, BvAShr, kind}
 use Rattle.theory.specs.Term.{Term, node, nil, to-list, same-op, same-term, two}
-use Rattle.theory.specs.Sort.{bv, width, sort-width, sort-of}
+use Rattle.theory.specs.Sort.{bv, is-width, sort-width, sort-of}
 use Rattle.theory.specs.Value.{Assign, value}
 use Rattle.theory.specs.Gates.{term-gates}
 use Rattle.theory.specs.Circuit.{last, ashr}
@@ -46,6 +46,6 @@ same-circuit : (x y : Term) → T (ends-in-false x) → shifted (ashr term-gates
 unfolding ashr
 same-circuit x y h = rw (top-false x h)
 
-pub ashr-holds : (ρ : Assign) (x y : Term) (n : ℕ) → sort-of x ≡ bv n → sort-of y ≡ bv n → T (width n) → T (ends-in-false x)
+pub ashr-holds : (ρ : Assign) (x y : Term) (n : ℕ) → sort-of x ≡ bv n → sort-of y ≡ bv n → T (is-width n) → T (ends-in-false x)
     → value ρ (shifted (ashr term-gates false) x y) ≡ value ρ (two BvAShr x y)
 ashr-holds ρ x y n sx sy w h = ap (value ρ) (same-circuit x y h) ∙ ashr-standard-holds ρ x y n sx sy w

@@ -12,7 +12,7 @@ use lib.Pow.{pow-pos, pow-add}
 use borrow.Author.Tests.{leb-true}
 use Rattle.theory.specs.Kind.{BvShl, BvLShr, BvAShr, Const}
 use Rattle.theory.specs.Term.{fold, Term, node, nil, two}
-use Rattle.theory.specs.Sort.{guard, Sort, bv, sort-width, width, sort-of}
+use Rattle.theory.specs.Sort.{guard, Sort, bv, sort-width, is-width, sort-of}
 use Rattle.theory.specs.Value.{Assign, truth, number, bit, to-number, num2, shl-n, lshr-n, top-copies, ashr-n, meaning, value}
 use Rattle.theory.specs.Gates.{Gates, bool-gates, term-gates}
 use Rattle.theory.specs.Circuit.{last, bitblast-ult, clog2, clog2-from, shl-bits, shl-stage, shl-stages, shr-bits, shr-stage, shr-stages, bounded, stage-bits, shl, lshr, ashr}
@@ -361,14 +361,14 @@ const-value : (ρ : Assign) (n x : ℕ) → value ρ (node (Const n x) nil) ≡ 
 unfolding fold meaning
 const-value ρ n x = refl
 
-const-sort : (n : ℕ) → T (width n) → sort-of (node (Const n n) nil) ≡ bv n
+const-sort : (n : ℕ) → T (is-width n) → sort-of (node (Const n n) nil) ≡ bv n
 unfolding fold guard
-const-sort n w = rw (T-true (width n) w, T-true (ltb n (2 ^ n)) (lt→ltb n (2 ^ n) (lt-two-pow n)))
+const-sort n w = rw (T-true (is-width n) w, T-true (ltb n (2 ^ n)) (lt→ltb n (2 ^ n) (lt-two-pow n)))
 
 number-inj : (m n x y : ℕ) → number m x ≡ number n y → x ≡ y
 number-inj m n x y e = cc
 
-module _ (ρ : Assign) (x y : Term) (n : ℕ) (sx : sort-of x ≡ bv n) (sy : sort-of y ≡ bv n) (w : T (width n))
+module _ (ρ : Assign) (x y : Term) (n : ℕ) (sx : sort-of x ≡ bv n) (sy : sort-of y ≡ bv n) (w : T (is-width n))
     (circuit : List Term → List Term → List Term → List Term) (on-bools : List Bool → List Bool → List Bool → List Bool)
     (reads : (size xs ys : List Term) (ss cs bs : List Bool) → map (value ρ) size ≡ map truth ss → map (value ρ) xs ≡ map truth cs → map (value ρ) ys ≡ map truth bs
     → map (value ρ) (circuit size xs ys) ≡ map truth (on-bools ss cs bs))
@@ -400,7 +400,7 @@ shl-reads : (ρ : Assign) (size xs ys : List Term) (ss cs bs : List Bool) → ma
 shl-reads ρ size xs ys ss cs bs o p q =
     shl-hom (fold-hom (meaning ρ)) size xs ys ∙ rw (o, p, q) (sym (shl-hom (truth-hom ρ) ss cs bs))
 
-pub shl-holds : (ρ : Assign) (x y : Term) (n : ℕ) → sort-of x ≡ bv n → sort-of y ≡ bv n → T (width n)
+pub shl-holds : (ρ : Assign) (x y : Term) (n : ℕ) → sort-of x ≡ bv n → sort-of y ≡ bv n → T (is-width n)
     → value ρ (shifted (shl term-gates) x y) ≡ value ρ (two BvShl x y)
 unfolding fold meaning
 shl-holds ρ x y n sx sy w = shifted-holds ρ x y n sx sy w (shl term-gates) (shl bool-gates) (shl-reads ρ) (length-shl bool-gates) shl-n shl-value
@@ -410,7 +410,7 @@ lshr-reads : (ρ : Assign) (size xs ys : List Term) (ss cs bs : List Bool) → m
 lshr-reads ρ size xs ys ss cs bs o p q =
     lshr-hom (fold-hom (meaning ρ)) size xs ys ∙ rw (o, p, q) (sym (lshr-hom (truth-hom ρ) ss cs bs))
 
-pub lshr-holds : (ρ : Assign) (x y : Term) (n : ℕ) → sort-of x ≡ bv n → sort-of y ≡ bv n → T (width n)
+pub lshr-holds : (ρ : Assign) (x y : Term) (n : ℕ) → sort-of x ≡ bv n → sort-of y ≡ bv n → T (is-width n)
     → value ρ (shifted (lshr term-gates) x y) ≡ value ρ (two BvLShr x y)
 unfolding fold meaning
 lshr-holds ρ x y n sx sy w = shifted-holds ρ x y n sx sy w (lshr term-gates) (lshr bool-gates) (lshr-reads ρ) (length-lshr bool-gates) lshr-n lshr-value
@@ -420,7 +420,7 @@ ashr-reads : (ρ : Assign) (size xs ys : List Term) (ss cs bs : List Bool) → m
 ashr-reads ρ size xs ys ss cs bs o p q =
     ashr-hom (fold-hom (meaning ρ)) true size xs ys ∙ rw (o, p, q) (sym (ashr-hom (truth-hom ρ) true ss cs bs))
 
-pub ashr-standard-holds : (ρ : Assign) (x y : Term) (n : ℕ) → sort-of x ≡ bv n → sort-of y ≡ bv n → T (width n)
+pub ashr-standard-holds : (ρ : Assign) (x y : Term) (n : ℕ) → sort-of x ≡ bv n → sort-of y ≡ bv n → T (is-width n)
     → value ρ (shifted (ashr term-gates true) x y) ≡ value ρ (two BvAShr x y)
 unfolding fold meaning
 ashr-standard-holds ρ x y n sx sy w = shifted-holds ρ x y n sx sy w (ashr term-gates true) (ashr bool-gates true) (ashr-reads ρ) (length-ashr bool-gates true) ashr-n ashr-value

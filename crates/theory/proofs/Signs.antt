@@ -13,7 +13,7 @@ use mir.Val.{SFits, toZ}
 use mir.Facts.{toZ-pos, toZ-neg}
 use borrow.Author.Tests.{eq-eqb, ne-eqb, lt-ltb, le-ltb, le-leb, lt-leb}
 use Rattle.theory.specs.Limit.{max-width}
-use Rattle.theory.specs.Sort.{width}
+use Rattle.theory.specs.Sort.{is-width}
 use Rattle.theory.specs.Value.{bit, bit-at, signed}
 
 -- a − b, where it is −(k + 1), and where it is k
@@ -93,22 +93,22 @@ module _ (n x : ℕ) (some : n ≡ 0 → ⊥) (most : n ≤ 64) where
 -- ---- a width, and none
 module _ {A : Type 0} (n : ℕ) (a b : A) where
   -- by the test of it
-  by-width : {t : Bool} → width n ≡ t → cond t a b ≡ cond (width n) a b
+  by-width : {t : Bool} → is-width n ≡ t → cond t a b ≡ cond (is-width n) a b
   by-width e = sym (ap (λ (t : Bool). cond t a b) e)
 
-  pub is-width : 1 ≤ n → n ≤ max-width → {r : A} → r ≡ a → r ≡ cond (width n) a b
-  is-width h l e = let w : width n ≡ true = rw (le-leb 1 n h, le-leb n max-width l) in e ∙ by-width w
+  pub wide-enough : 1 ≤ n → n ≤ max-width → {r : A} → r ≡ a → r ≡ cond (is-width n) a b
+  wide-enough h l e = let w : is-width n ≡ true = rw (le-leb 1 n h, le-leb n max-width l) in e ∙ by-width w
 
-  pub too-narrow : n ≡ 0 → b ≡ cond (width n) a b
-  too-narrow e = let w : width n ≡ false = ap width e in by-width w
+  pub too-narrow : n ≡ 0 → b ≡ cond (is-width n) a b
+  too-narrow e = let w : is-width n ≡ false = ap is-width e in by-width w
 
-  pub too-wide : max-width < n → b ≡ cond (width n) a b
-  too-wide h = let w : width n ≡ false = rw (lt-leb n max-width h) (and-false (leb 1 n)) in by-width w
+  pub too-wide : max-width < n → b ≡ cond (is-width n) a b
+  too-wide h = let w : is-width n ≡ false = rw (lt-leb n max-width h) (and-false (leb 1 n)) in by-width w
 
 -- two signed values compared
-pub by-both : (n x y : ℕ) {a b : ℤ} → a ≡ cond (width n) (signed n x) (pos 0) → b ≡ cond (width n) (signed n y) (pos 0)
-    → ltZ a b ≡ cond (width n) (ltZ (signed n x) (signed n y)) false
-by-both n x y e f = ap₂ ltZ e f ∙ go (width n)
+pub by-both : (n x y : ℕ) {a b : ℤ} → a ≡ cond (is-width n) (signed n x) (pos 0) → b ≡ cond (is-width n) (signed n y) (pos 0)
+    → ltZ a b ≡ cond (is-width n) (ltZ (signed n x) (signed n y)) false
+by-both n x y e f = ap₂ ltZ e f ∙ go (is-width n)
   where
     go : (t : Bool) → ltZ (cond t (signed n x) (pos 0)) (cond t (signed n y) (pos 0)) ≡ cond t (ltZ (signed n x) (signed n y)) false
     go true = refl

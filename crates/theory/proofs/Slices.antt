@@ -12,7 +12,7 @@ use lib.ListN.{length, length-append, length-take, length-drop, length-replicate
 use lib.Pow.{pow-pos, pow-add, suc-ones}
 use Rattle.theory.specs.Kind.{True, False, Const, BvConcat, BvExtract, SignExtend, many, takes}
 use Rattle.theory.specs.Term.{fold, Term, Terms, node, nil, cons, to-list}
-use Rattle.theory.specs.Sort.{bv, is-bv-sort, all-bv, sum-widths, sort-width, width, sort-of, sorts-of}
+use Rattle.theory.specs.Sort.{bv, is-bv-sort, all-bv, sum-widths, sort-width, is-width, sort-of, sorts-of}
 use Rattle.theory.specs.Value.{Assign, Val, truth, number, number-of, bit, to-number, bit-at, concat2, meaning, value, values}
 use Rattle.theory.specs.Circuit.{last}
 use Rattle.theory.specs.Bits.{get-term-bits, bb, concat-bits, extend-bits}
@@ -141,7 +141,7 @@ pub concat-holds : (ρ : Assign) (ts : Terms) (n : ℕ) → sort-of (node BvConc
 unfolding fold meaning
 concat-holds ρ nil n s = absurd (guard-yes _ (bv 0) (bv n) tt s .0)
 concat-holds ρ (cons t ts) n s =
-    let g = guard-yes (takes many (length (sorts-of (cons t ts))) && (all-bv (sorts-of (cons t ts)) && width (sum-widths (sorts-of (cons t ts))))) _ (bv n) tt s .0 in
+    let g = guard-yes (takes many (length (sorts-of (cons t ts))) && (all-bv (sorts-of (cons t ts)) && is-width (sum-widths (sorts-of (cons t ts))))) _ (bv n) tt s .0 in
     let h : T (all-bv (sorts-of (cons t ts))) = and-l (all-bv (sorts-of (cons t ts))) _ (and-r (takes many (length (sorts-of (cons t ts)))) _ g) in
     let r = concat-fold ρ ts (and-r (is-bv-sort (sort-of t)) _ h) in
     concat-first ρ t ts (sort-width (sort-of t)) (r .0) (r .1)

@@ -12,7 +12,7 @@ use lib.Ieee.Fits.{and-l, and-r}
 use lib.Pow.{pow-add}
 use Rattle.theory.specs.Kind.{BvAnd, BvConcat, BvExtract, many, takes}
 use Rattle.theory.specs.Term.{fold, Term, Terms, node, nil, cons, to-list, same-term, two}
-use Rattle.theory.specs.Sort.{guard, Sort, bv, is-bv-sort, all-bv, sort-width, sum-widths, width, sort-of, sorts-of}
+use Rattle.theory.specs.Sort.{guard, Sort, bv, is-bv-sort, all-bv, sort-width, sum-widths, is-width, sort-of, sorts-of}
 use Rattle.theory.specs.Value.{Assign, Val, number, number-of, value-width, and-n, concat2, meaning, value, values}
 use Rattle.theory.specs.Verdict.{Verdict, held, wrong-form, terms-differ, index-not-next}
 use Rattle.theory.specs.Rule.{nth, index-of, slice-verdict, slices-verdict}
@@ -156,7 +156,7 @@ module _ (ρ : Assign) (a c : Term) (n : ℕ) (sa : sort-of a ≡ bv n) (sc : so
   unfolding fold meaning
   slicing-holds nil e s = absurd (guard-yes _ (bv 0) (bv n) tt s .0)
   slicing-holds (cons s us) e r =
-      let g = guard-yes (takes many (length (sorts-of (cons s us))) && (all-bv (sorts-of (cons s us)) && width (sum-widths (sorts-of (cons s us))))) _ (bv n) tt r in
+      let g = guard-yes (takes many (length (sorts-of (cons s us))) && (all-bv (sorts-of (cons s us)) && is-width (sum-widths (sorts-of (cons s us))))) _ (bv n) tt r in
       let h : T (all-bv (sorts-of (cons s us))) = and-l (all-bv (sorts-of (cons s us))) _ (and-r (takes many (length (sorts-of (cons s us)))) _ (g .0)) in
       let sum : sum-widths (sorts-of (cons s us)) ≡ n = ap sort-width (g .1) in
       let f = slices-fold (cons s us) n e h (omega arith) .1 in

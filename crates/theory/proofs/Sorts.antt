@@ -9,7 +9,7 @@ use lib.Ieee.Fits.{and-l, and-r, and-i}
 use lib.ListN.{length}
 use Rattle.theory.specs.Kind.{Op, True, False, Not, And, Or, Xor, Equals, Ite, BoolVar, BvVar, Const, BvBitOf, BvBbTerm, BvNot, BvNeg, BvAnd, BvOr, BvXor, BvAdd, BvMul, BvXNor, BvComp, BvULt, BvSLt, BvShl, BvLShr, BvAShr, BvUDiv, BvURem, BvConcat, BvExtract, SignExtend, ZeroExtend, RotateLeft, RotateRight, Repeat, many, exactly, takes}
 use Rattle.theory.specs.Term.{fold, Term, Terms, node, nil, cons}
-use Rattle.theory.specs.Sort.{Sort, bad, bool, bv, guard, all-are, is-bv-sort, all-bv, sort-width, sum-widths, first, width, sort-op, sort-of, sorts-of}
+use Rattle.theory.specs.Sort.{Sort, bad, bool, bv, guard, all-are, is-bv-sort, all-bv, sort-width, sum-widths, first, is-width, sort-op, sort-of, sorts-of}
 
 pub is-bv : (s : Sort) → T (is-bv-sort s) → s ≡ bv (sort-width s)
 is-bv (bv n) h = refl
@@ -18,7 +18,7 @@ is-bv (bv n) h = refl
 abbrev pub sized : Sort → Bool
 sized bad = true
 sized bool = true
-sized (bv n) = width n
+sized (bv n) = is-width n
 
 abbrev all-sized : List Sort → Type 0
 all-sized [] = Unit {0}
@@ -33,10 +33,10 @@ first-sized : (ss : List Sort) → all-sized ss → T (sized (first ss))
 first-sized [] h = tt
 first-sized (s ∷ ss) h = h .0
 
-width-le : (n : ℕ) → T (width n) → (1 ≤ n) × (n ≤ 64)
+width-le : (n : ℕ) → T (is-width n) → (1 ≤ n) × (n ≤ 64)
 width-le n h = (leb→le 1 n (and-l (leb 1 n) _ h), leb→le n 64 (and-r (leb 1 n) _ h))
 
-le-width : (n : ℕ) → 1 ≤ n → n ≤ 64 → T (width n)
+le-width : (n : ℕ) → 1 ≤ n → n ≤ 64 → T (is-width n)
 le-width n h k = and-i (leb 1 n) (leb n 64) (le→leb 1 n h) (le→leb n 64 k)
 
 bv-width : (s : Sort) → T (sized s) → T (is-bv-sort s) → (1 ≤ sort-width s) × (sort-width s ≤ 64)
@@ -52,8 +52,8 @@ sized-op Xor ss h = sized-guard _ bool (λ t. tt)
 sized-op Equals ss h = sized-guard _ bool (λ t. tt)
 sized-op Ite ss h = sized-guard _ bool (λ t. tt)
 sized-op (BoolVar x) ss h = sized-guard _ bool (λ t. tt)
-sized-op (BvVar n x) ss h = sized-guard (takes (exactly 0) (length ss) && width n) (bv n) (λ t. and-r (takes (exactly 0) (length ss)) (width n) t)
-sized-op (Const n x) ss h = sized-guard (takes (exactly 0) (length ss) && (width n && ltb x (2 ^ n))) (bv n) (λ t. and-l (width n) _ (and-r (takes (exactly 0) (length ss)) _ t))
+sized-op (BvVar n x) ss h = sized-guard (takes (exactly 0) (length ss) && is-width n) (bv n) (λ t. and-r (takes (exactly 0) (length ss)) (is-width n) t)
+sized-op (Const n x) ss h = sized-guard (takes (exactly 0) (length ss) && (is-width n && ltb x (2 ^ n))) (bv n) (λ t. and-l (is-width n) _ (and-r (takes (exactly 0) (length ss)) _ t))
 sized-op (BvBitOf i) ss h = sized-guard _ bool (λ t. tt)
 sized-op BvBbTerm ss h = sized-guard (takes many (length ss) && all-are bool ss) (bv (length ss)) (λ t. and-l (takes many (length ss)) _ t)
 sized-op BvNot ss h = sized-guard _ (first ss) (λ t. first-sized ss h)
@@ -73,7 +73,7 @@ sized-op BvAShr ss h = sized-guard _ (first ss) (λ t. first-sized ss h)
 sized-op BvUDiv ss h = sized-guard _ (first ss) (λ t. first-sized ss h)
 sized-op BvURem ss h = sized-guard _ (first ss) (λ t. first-sized ss h)
 sized-op BvConcat ss h =
-    sized-guard (takes many (length ss) && (all-bv ss && width (sum-widths ss))) (bv (sum-widths ss)) (λ t. and-r (all-bv ss) _ (and-r (takes many (length ss)) _ t))
+    sized-guard (takes many (length ss) && (all-bv ss && is-width (sum-widths ss))) (bv (sum-widths ss)) (λ t. and-r (all-bv ss) _ (and-r (takes many (length ss)) _ t))
 sized-op (BvExtract i j) ss h =
     sized-guard (takes (exactly 1) (length ss) && (is-bv-sort (first ss) && (leb j i && ltb i (sort-width (first ss))))) (bv (suc (i - j)))
     (λ t. let u = and-r (takes (exactly 1) (length ss)) _ t in
@@ -93,7 +93,7 @@ sized-op (ZeroExtend k) ss h =
 sized-op (RotateLeft k) ss h = sized-guard _ (first ss) (λ t. first-sized ss h)
 sized-op (RotateRight k) ss h = sized-guard _ (first ss) (λ t. first-sized ss h)
 sized-op (Repeat k) ss h =
-    sized-guard (takes (exactly 1) (length ss) && (is-bv-sort (first ss) && width (k * sort-width (first ss)))) (bv (k * sort-width (first ss)))
+    sized-guard (takes (exactly 1) (length ss) && (is-bv-sort (first ss) && is-width (k * sort-width (first ss)))) (bv (k * sort-width (first ss)))
     (λ t. and-r (is-bv-sort (first ss)) _ (and-r (takes (exactly 1) (length ss)) _ t))
 
 mutual

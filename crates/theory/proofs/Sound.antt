@@ -14,7 +14,7 @@ use lib.Pow.{pow-pos, pow-add, pow-mono, shr-lt}
 use Rattle.theory.specs.Kind.{Op, True, False, Not, And, Or, Xor, Equals, Ite, BoolVar, BvVar, Const, BvBitOf, BvBbTerm, BvNot, BvNeg, BvAnd, BvOr, BvXor, BvAdd, BvMul, BvXNor, BvComp, BvULt, BvSLt, BvShl, BvLShr, BvAShr, BvUDiv, BvURem, BvConcat, BvExtract, SignExtend, ZeroExtend, RotateLeft, RotateRight, Repeat, many, exactly, takes}
 use Rattle.theory.specs.Term.{fold, Term, Terms, node, nil, cons}
 use Rattle.theory.specs.Move.{bits}
-use Rattle.theory.specs.Sort.{Sort, bad, bool, bv, same-sort, guard, all-are, is-bv-sort, all-bv, sort-width, sum-widths, first, width, alike, sort-op, sort-of, sorts-of}
+use Rattle.theory.specs.Sort.{Sort, bad, bool, bv, same-sort, guard, all-are, is-bv-sort, all-bv, sort-width, sum-widths, first, is-width, alike, sort-op, sort-of, sorts-of}
 use Rattle.theory.specs.Value.{same, Assign, Val, truth, number, truth-of, value-width, number-of, arg, bit, to-number, bit-at, fold1, num1, num2, not-n, neg-n, and-n, or-n, xor-n, xnor-n, add-n, mul-n, shl-n, lshr-n, top-copies, ashr-n, udiv-n, urem-n, concat2, rotate-left-n, rotate-right-n, meaning, value, values}
 
 pub data Has : Val → Sort → Type 0 where
@@ -224,7 +224,7 @@ copies-has (suc k) m n (is-number {x = x} h) (is-number {x = y} e) =
     let w : m + n + k * n ≡ m + suc k * n = omega arith in
     subst (λ (z : ℕ). Has (foldl concat2 (number (m + n) (x * 2 ^ n + y)) (replicate k (number n y))) (bv z)) w (copies-has k (m + n) n (is-number (concat-lt m n x y h e)) (is-number e))
 
-repeat-has : (k : ℕ) {v : Val} {s : Sort} → Has v s → T (is-bv-sort s) → T (width (k * sort-width s)) → Has (fold1 concat2 (replicate k v)) (bv (k * sort-width s))
+repeat-has : (k : ℕ) {v : Val} {s : Sort} → Has v s → T (is-bv-sort s) → T (is-width (k * sort-width s)) → Has (fold1 concat2 (replicate k v)) (bv (k * sort-width s))
 repeat-has k any t w = absurd t
 repeat-has k is-truth t w = absurd t
 repeat-has zero (is-number {n} h) t w = absurd (let z = leb→le 1 (0 * n) (and-l (leb 1 (0 * n)) _ w) in omega arith)
@@ -268,10 +268,10 @@ meaning-has ρ Xor r = truth-has _
 meaning-has ρ Equals r = truth-has _
 meaning-has ρ Ite r = truth-has _
 meaning-has ρ (BoolVar x) r = truth-has _
-meaning-has ρ (BvVar n x) {ss = ss} r = guarded (takes (exactly 0) (length ss) && width n) (λ t. is-number (ρ .below n x))
+meaning-has ρ (BvVar n x) {ss = ss} r = guarded (takes (exactly 0) (length ss) && is-width n) (λ t. is-number (ρ .below n x))
 meaning-has ρ (Const n x) {ss = ss} r =
-    guarded (takes (exactly 0) (length ss) && (width n && ltb x (2 ^ n)))
-    (λ t. is-number (ltb→lt x (2 ^ n) (and-r (width n) _ (and-r (takes (exactly 0) (length ss)) _ t))))
+    guarded (takes (exactly 0) (length ss) && (is-width n && ltb x (2 ^ n)))
+    (λ t. is-number (ltb→lt x (2 ^ n) (and-r (is-width n) _ (and-r (takes (exactly 0) (length ss)) _ t))))
 meaning-has ρ (BvBitOf i) r = truth-has _
 meaning-has ρ BvBbTerm {ss = ss} r = guarded (takes many (length ss) && all-are bool ss) (λ t. bb-has r)
 meaning-has ρ BvNot r = one-has not-n not-lt r
@@ -291,7 +291,7 @@ meaning-has ρ BvAShr r = two-has ashr-n ashr-lt r
 meaning-has ρ BvUDiv r = two-has udiv-n udiv-lt r
 meaning-has ρ BvURem r = two-has urem-n urem-lt r
 meaning-has ρ BvConcat {ss = ss} r =
-    guarded (takes many (length ss) && (all-bv ss && width (sum-widths ss)))
+    guarded (takes many (length ss) && (all-bv ss && is-width (sum-widths ss)))
     (λ t. concat1-has r (and-l (takes many (length ss)) _ t) (and-l (all-bv ss) _ (and-r (takes many (length ss)) _ t)))
 meaning-has ρ (BvExtract i j) r = guarded _ (λ t. is-number (mod-lt _ (pow-pos (suc (i - j)))))
 meaning-has ρ (SignExtend k) {ss = ss} r =
@@ -301,7 +301,7 @@ meaning-has ρ (ZeroExtend k) {ss = ss} r =
 meaning-has ρ (RotateLeft k) r = one-has (rotate-left-n k) (left-lt k) r
 meaning-has ρ (RotateRight k) r = one-has (rotate-right-n k) (right-lt k) r
 meaning-has ρ (Repeat k) {ss = ss} r =
-    guarded (takes (exactly 1) (length ss) && (is-bv-sort (first ss) && width (k * sort-width (first ss))))
+    guarded (takes (exactly 1) (length ss) && (is-bv-sort (first ss) && is-width (k * sort-width (first ss))))
     (λ t. let u = and-r (takes (exactly 1) (length ss)) _ t in
     repeat-has k (first-has r) (and-l (is-bv-sort (first ss)) _ u) (and-r (is-bv-sort (first ss)) _ u))
 

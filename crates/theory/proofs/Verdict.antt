@@ -10,7 +10,7 @@ use lib.Ieee.Fits.{and-l, and-r}
 use lib.ListN.{length, length-map}
 use Rattle.theory.specs.Kind.{Op, And, Or, Xor, Equals, Const, BvNot, BvNeg, BvAnd, BvOr, BvXor, BvAdd, BvMul, BvXNor, BvComp, BvULt, BvSLt, BvShl, BvLShr, BvAShr, BvUDiv, BvURem, BvConcat, BvExtract, SignExtend, ZeroExtend, RotateLeft, RotateRight, Repeat, many, exactly, takes, indices}
 use Rattle.theory.specs.Term.{fold, Term, Terms, node, nil, cons, to-list, from-list, same-term, two}
-use Rattle.theory.specs.Sort.{guard, Sort, bool, bv, same-sort, is-bv-sort, good, sort-width, sum-widths, first, width, alike, sort-op, sort-of, sorts-of}
+use Rattle.theory.specs.Sort.{guard, Sort, bool, bv, same-sort, is-bv-sort, good, sort-width, sum-widths, first, is-width, alike, sort-op, sort-of, sorts-of}
 use Rattle.theory.specs.Value.{Assign, to-number, value}
 use Rattle.theory.specs.Move.{Move, zero-extension, left-rotation, right-rotation, repetition}
 use Rattle.theory.specs.Gates.{term-gates}
@@ -60,7 +60,7 @@ many-wide ts h =
     let g = guard-good (takes many (length (sorts-of ts)) && alike (sorts-of ts)) (first (sorts-of ts)) h in
     g .1 ∙ is-bv (first (sorts-of ts)) (and-l (is-bv-sort (first (sorts-of ts))) _ (and-r (takes many (length (sorts-of ts))) _ (g .0)))
 
-width-of-sort : (x : Term) (n : ℕ) → sort-of x ≡ bv n → T (width n)
+width-of-sort : (x : Term) (n : ℕ) → sort-of x ≡ bv n → T (is-width n)
 width-of-sort x n e = subst (λ (s : Sort). T (sized s)) e (sorts-sized x)
 
 -- an equation: one sort, and a good one
@@ -389,7 +389,7 @@ right-arg k x h = one-wide x _ h
 repeat-arg : (k : ℕ) (x : Term) → T (good (sort-of (node (Repeat k) (cons x nil)))) → (sort-of x ≡ bv (sort-width (sort-of x))) × (1 ≤ k)
 unfolding fold
 repeat-arg k x h =
-    let a : T (is-bv-sort (sort-of x) && width (k * sort-width (sort-of x))) = guard-good _ (bv (k * sort-width (sort-of x))) h .0 in
+    let a : T (is-bv-sort (sort-of x) && is-width (k * sort-width (sort-of x))) = guard-good _ (bv (k * sort-width (sort-of x))) h .0 in
     let w = leb→le 1 (k * sort-width (sort-of x)) (and-l (leb 1 (k * sort-width (sort-of x))) _ (and-r (is-bv-sort (sort-of x)) _ a)) in
     (is-bv (sort-of x) (and-l (is-bv-sort (sort-of x)) _ a), some-copies k w)
   where

@@ -68,9 +68,9 @@ abbrev pub first : List Sort → Sort
 first [] = bad
 first (x ∷ xs) = x
 
--- a width is 1 to 64
-abbrev pub width : ℕ → Bool
-width n = leb 1 n && leb n max-width
+-- a number is a width: 1 to 64
+abbrev pub is-width : ℕ → Bool
+is-width n = leb 1 n && leb n max-width
 
 -- all are bit-vectors of one width
 abbrev pub alike : List Sort → Bool
@@ -81,8 +81,8 @@ abbrev pub fitting : Op → List Sort → Bool
 fitting True ss = true
 fitting False ss = true
 fitting (BoolVar x) ss = true
-fitting (BvVar n x) ss = width n
-fitting (Const n x) ss = width n && ltb x (2 ^ n)
+fitting (BvVar n x) ss = is-width n
+fitting (Const n x) ss = is-width n && ltb x (2 ^ n)
 fitting Not ss = all-are bool ss
 fitting And ss = all-are bool ss
 fitting Or ss = all-are bool ss
@@ -107,13 +107,13 @@ fitting BvLShr ss = alike ss
 fitting BvAShr ss = alike ss
 fitting BvUDiv ss = alike ss
 fitting BvURem ss = alike ss
-fitting BvConcat ss = all-bv ss && width (sum-widths ss)
+fitting BvConcat ss = all-bv ss && is-width (sum-widths ss)
 fitting (BvExtract i j) ss = is-bv-sort (first ss) && (leb j i && ltb i (sort-width (first ss)))
 fitting (SignExtend k) ss = is-bv-sort (first ss) && leb (sort-width (first ss) + k) max-width
 fitting (ZeroExtend k) ss = is-bv-sort (first ss) && leb (sort-width (first ss) + k) max-width
 fitting (RotateLeft k) ss = alike ss
 fitting (RotateRight k) ss = alike ss
-fitting (Repeat k) ss = is-bv-sort (first ss) && width (k * sort-width (first ss))
+fitting (Repeat k) ss = is-bv-sort (first ss) && is-width (k * sort-width (first ss))
 
 -- the sort of the result, where they fit
 abbrev pub result-sort : Op → List Sort → Sort

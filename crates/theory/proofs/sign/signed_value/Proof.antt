@@ -4,7 +4,7 @@ use borrow.Author.Needs.{needs}
 use mathlib.Core.Path.{_∙_}
 use native.Mathlib.Omega.{arith}
 use mir.Facts.{toZ-ofZ}
-use Rattle.theory.proofs.Signs.{up-some, low-fits, sum-fits, set, clear, is-width, too-narrow, too-wide}
+use Rattle.theory.proofs.Signs.{up-some, low-fits, sum-fits, set, clear, wide-enough, too-narrow, too-wide}
 use Rattle.theory.proofs.sign.signed_value.Statement.{statement}
 use Rattle.theory.proofs.sign.signed_value.Tie as tie
 
@@ -24,13 +24,13 @@ returns-3 : tie.Need-returns-3
 returns-3 c =
     let ne = c .before .before .if1 .left in
     let h = c .before .if2 .left in
-    is-width _ _ _ (omega arith) h (toZ-ofZ (sum-fits _ _ ne h) ∙ set _ _ ne h (c .if3 .taken))
+    wide-enough _ _ _ (omega arith) h (toZ-ofZ (sum-fits _ _ ne h) ∙ set _ _ ne h (c .if3 .taken))
 
 returns-4 : tie.Need-returns-4
 returns-4 c =
     let ne = c .before .before .if1 .left in
     let h = c .before .if2 .left in
-    is-width _ _ _ (omega arith) h (clear _ _ ne h (c .if3 .left))
+    wide-enough _ _ _ (omega arith) h (clear _ _ ne h (c .if3 .left))
 
 add-result : tie.Need-add-result
 add-result c = sum-fits _ _ (c .before .before .if1 .left) (omega arith)
