@@ -134,7 +134,7 @@ pub fn of_extend(s: Sort, k: u32) -> Sort
 // k copies of a term of this sort.
 pub fn of_copies(s: Sort, k: u32) -> Sort
     ensures { λ r. ⌜ sort-read r
-        ≡ guard (is-bv-sort (sort-read s) && width (k * sort-width (sort-read s)))
+        ≡ guard (is-bv-sort (sort-read s) && is-width (k * sort-width (sort-read s)))
         (bv (k * sort-width (sort-read s))) ⌝ }
 {
     match s {
