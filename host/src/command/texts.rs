@@ -19,12 +19,12 @@ pub fn measure_all(out: &mut impl Write) -> io::Result<Status> {
     let mut status = Status::Fine;
     for names in [1, 4, 16] {
         let text = text(names);
-        let mut job = vec![0; JOB_BYTES_PER_BYTE * text.len()];
+        let (mut work, mut job) = (vec![0; 2 * TERM_BYTES * TERMS], vec![0; JOB_BYTES_PER_BYTE * text.len()]);
         let mut times = [Duration::MAX; 2];
         for run in 0..2 * RUNS {
-            let mut work = vec![0; (1 + run % 2) * TERM_BYTES * TERMS];
+            let room = (1 + run % 2) * TERM_BYTES * TERMS;
             let start = Instant::now();
-            let converted = convert_text(text.as_bytes(), &mut work, &mut job);
+            let converted = convert_text(text.as_bytes(), &mut work[..room], &mut job);
             times[run % 2] = times[run % 2].min(start.elapsed());
             if converted.code != 0 {
                 status = Status::Failed;
