@@ -74,8 +74,9 @@ def faults_of(crate, label, path):
         return ['it was not tried: run rt must-fail ' + crate]
     text = read(log)
     if not functions:
-        error = first_error(text)
-        return [] if error and not UNFIT.search(error) else ['its first error shows nothing: %s' % (error or 'none').split('\n')[0][:200]]
+        # in one line: below it antt may say what it shows is "not in scope"
+        error = (first_error(text) or 'none').split('\n')[0]
+        return ['its first error shows nothing: ' + error[:200]] if error == 'none' or UNFIT.search(error) else []
     faults = ['its own text has an error: ' + error[:200] for error in re.findall(r'^\S*/src/\S+: error.*', text, re.M)]
     for function in functions:
         own = own_errors(text, crate, function)
