@@ -23,10 +23,8 @@ fn within(job: &[u8], [work, room]: [usize; 2], limits: Limits) -> (Outcome, Vec
 fn the_listed_jobs() {
     let list = Path::new(env!("CARGO_MANIFEST_DIR")).join("../tools/listed_jobs.txt");
     let mut count = 0;
-    for line in fs::read_to_string(list).unwrap().lines().filter(|line| line.starts_with("document 02, P")) {
-        if !line.contains(" within ") && !line.starts_with("document 02, P10") {
-            continue;
-        }
+    let long = |line: &str| ["document 02, P10", "request P10"].iter().any(|name| line.starts_with(name));
+    for line in fs::read_to_string(list).unwrap().lines().filter(|line| line.contains(" within ") || long(line)) {
         let parts: Vec<&str> = line.split(';').map(str::trim).collect();
         let [name, lent, room, hex, numbers, answers] = parts[..] else { panic!("{line}") };
         let (work, limits) = lent.split_once(" within ").unwrap_or((lent, "4294967295 4294967295"));
