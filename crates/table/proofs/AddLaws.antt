@@ -137,7 +137,7 @@ module _ (b : ℕ) (job work : Bytes) (n limit at measure : ℕ) (table : TableA
     linked = let h = fit .held in let r = room-true b limit n (length work) room in omega arith
 
     below : n * (3 + 2 * link-bytes b) + (3 + 2 * link-bytes b) ≤ heads-start b (length work)
-    below = start-room b n (length work) (room-true b limit n (length work) room .1)
+    below = let r = room-true b limit n (length work) room in start-room b n (length work) (r .1) (let m = r .0 in omega arith)
 
     newest-is : first-in l work n start c (bucket-of work c x) ≡ newest (row-bucket l job work c) (bucket-of work c x) n
     newest-is = first-newest x table

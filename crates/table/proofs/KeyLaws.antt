@@ -13,7 +13,7 @@ use borrow.Author.Tests.{le-ltb, lt-ltb}
 use Rattle.theory.specs.Record.{Bytes, bytes-of, number-length}
 use Rattle.rows.specs.Layout.{missing}
 use Rattle.rows.specs.Rows.{place-of}
-use Rattle.table.specs.Keys.{few-arguments, list-bytes, key-bytes, Roomy, last-number, all-places, words-bytes, place-constant, place-indexed, place-list, record-of}
+use Rattle.table.specs.Keys.{few-arguments, list-bytes, key-bytes, Roomy, last-number, all-places, built-length, Built, words-bytes, place-constant, place-indexed, place-list, record-of}
 use Rattle.rows.proofs.RowLaws.{and-first, and-second, length-bytes}
 use Rattle.theory.proofs.Lengths.{length-most}
 use Rattle.theory.specs.Limit.{number-bytes, value-bytes, max-arguments, long-bytes}
@@ -123,17 +123,48 @@ building-turn {size} {nb} {kind} {xs} {key} {at} {i} b roomy h x e low {after} s
     more : take (i + 1) xs ≡ take i xs ++ (x ∷ [])
     more = rw (add-one, take-suc xs i 0 h, e)
 
-pub building-end : {size nb kind : ℕ} {xs : List ℕ} {key : Bytes} {at i : ℕ} → Building size nb kind xs key at i → length xs ≤ i → (rows : List Bytes)
-    → place-of (take at key) rows ≡ place-list nb kind xs rows
-unfolding place-list record-of
-building-end {size} {nb} {kind} {xs} {key} {at} {i} b h rows =
+-- after the last of them, or where one can't be a place, the record is built or there is none
+pub built-all : {size nb kind space : ℕ} {xs : List ℕ} {key : Bytes} {at i : ℕ} → Building size nb kind xs key at i → length xs ≤ i → length key ≡ space → Built nb kind xs space key at
+unfolding built-length record-of
+built-all {size} {nb} {kind} {space} {xs} {key} {at} {i} b h l =
     let t : take i xs ≡ xs = take-all i xs h in
     let all : all-places nb xs ≡ true = ap (all-places nb) (sym t) ∙ b .places in
-    rw (all, b .written .bytes, t)
+    let whole : i ≡ length xs = omega (arith, b .many) in
+    record { long = l; end-is = rw all (b .far ∙ rw whole); record-is = λ e. b .written .bytes ∙ rw t }
 
-pub building-none : (nb kind : ℕ) (xs : List ℕ) (rows : List Bytes) (i : ℕ) → i < length xs → last-number nb ≤ getD xs i 0 → missing ≡ place-list nb kind xs rows
-unfolding place-list
-building-none nb kind xs rows i h l = rw (places-no nb xs i h l)
+pub built-none : {nb kind space : ℕ} {xs : List ℕ} {key : Bytes} (i : ℕ) → i < length xs → last-number nb ≤ getD xs i 0 → length key ≡ space → Built nb kind xs space key 0
+unfolding built-length
+built-none {nb} {kind} {space} {xs} {key} i h l e =
+    let none = places-no nb xs i h l in
+    record { long = e; end-is = rw none; record-is = λ all. absurd (let z : _≡_ {A = ℕ} 0 1 = ap (λ (t : Bool). cond t 1 0) (sym none ∙ all) in omega arith) }
+
+-- ---- a record that is built
+
+module _ {nb kind space end : ℕ} {xs : List ℕ} {key : Bytes} (b : Built nb kind xs space key end) where
+  pub built-inside : Roomy nb (length xs) space → end ≤ space
+  unfolding built-length
+  built-inside r = go (all-places nb xs) (b .end-is)
+    where
+      go : (t : Bool) → end ≡ cond t (2 * number-bytes + length xs * nb) 0 → end ≤ space
+      go true e = omega (arith, r .room)
+      go false e = omega arith
+
+  pub built-missing : end ≡ 0 → (rows : List Bytes) → missing ≡ place-list nb kind xs rows
+  unfolding built-length place-list
+  built-missing z rows = go (all-places nb xs) (b .end-is)
+    where
+      go : (t : Bool) → end ≡ cond t (2 * number-bytes + length xs * nb) 0 → missing ≡ cond t (place-of (record-of kind (words-bytes nb xs)) rows) missing
+      go true e = absurd (omega arith)
+      go false e = refl
+
+  pub built-place : (end ≡ 0 → ⊥) → (rows : List Bytes) → place-of (take end key) rows ≡ place-list nb kind xs rows
+  unfolding built-length place-list
+  built-place some rows = go (all-places nb xs) (b .end-is) (b .record-is)
+    where
+      go : (t : Bool) → end ≡ cond t (2 * number-bytes + length xs * nb) 0 → (t ≡ true → take end key ≡ record-of kind (words-bytes nb xs))
+          → place-of (take end key) rows ≡ cond t (place-of (record-of kind (words-bytes nb xs)) rows) missing
+      go true e f = ap (λ (x : Bytes). place-of x rows) (f refl)
+      go false e f = absurd (some e)
 
 -- ---- an index and an argument
 

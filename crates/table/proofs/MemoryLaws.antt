@@ -1,16 +1,16 @@
 -- What a stored row and a stored head do to the table and to the lists of what the rows keep.
 use mathlib.Core.Path.{_≡_, refl, sym, ap, ap₂, _∙_, subst}
-use mathlib.Core.Bool.{cond}
+use mathlib.Core.Bool.{Bool, true, false, cond}
 use mathlib.Core.List.{[], _∷_, _++_}
-use Prim.Native.Nat.{ℕ, zero, suc, _+_, _*_, _-_, _/_, _^_, _≤_, _<_}
+use Prim.Native.Nat.{ℕ, zero, suc, _+_, _*_, _-_, _/_, _^_, _≤_, _<_, min}
 use native.Mathlib.Nat.{not-suc-le-zero, add-zero, le-trans, mod-lt, div-add-mod', zero-div, pow-le-pow-right}
 use native.Mathlib.Decide.{decLt}
 use native.Mathlib.Omega.{arith}
-use lib.Dec.{ltb}
+use lib.Dec.{eqb, ltb}
 use lib.ListN.{List·getD-append, drop, getD, getD-replicate, length, length-append, length-drop, length-replicate, replicate, take}
 use lib.Seq.{sets, length-sets, take-nil, drop-nil}
 use borrow.Author.Tests.{le-ltb, lt-ltb}
-use Rattle.theory.specs.Limit.{max-job, term-bytes, first-terms}
+use Rattle.theory.specs.Limit.{max-job, max-terms, term-bytes, first-terms}
 use Rattle.theory.specs.Record.{Bytes, little-endian, extent, bytes-of, number-length}
 use Rattle.terms.specs.Framing.{record-at}
 use Rattle.terms.specs.Bodies.{Length}
@@ -18,10 +18,10 @@ use Rattle.terms.proofs.Numbers.{length-of}
 use Rattle.rows.specs.Layout.{link-at, link-bytes, measure-at, number-at, offset-at, row-size}
 use Rattle.rows.specs.Rows.{Rows, column, kept-as, measures, row-record, stored-row}
 use Rattle.rows.specs.Rows as Listed
-use Rattle.table.specs.Buckets.{TableAs, TableOf, added-row, bucket-count, bucket-of, dropped-from, dropped-row, first-in, head-at, head-count, heads-start, most-heads, newest, row-bucket, seed-bytes, seed-in, stored-head}
+use Rattle.table.specs.Buckets.{Sought, TableAs, TableOf, added-row, bucket-count, bucket-of, dropped-from, dropped-row, first-in, first-of, head-at, head-count, heads-start, most-heads, most-heads-of, most-rows, newest, row-bucket, seed-bytes, seed-in, stored-head}
 use Rattle.table.specs.Promise.{Cleared, Cut, Wiped, carried, cleared, dropped-rows}
 use Rattle.rows.proofs.RowLaws.{column-added, column-same, column-take, length-bytes, length-stored, link-back, link-before, link-cases, link-least, link-stored, link-whole, measure-before, measure-stored, number-after, number-after-stored, number-before, number-same, number-stored, offset-before, offset-stored, row-before, row-least, rows-stored}
-use Rattle.table.proofs.BucketLaws.{first-newest, newest-low}
+use Rattle.table.proofs.BucketLaws.{bucket-below, bucket-none, first-newest, first-outside, first-within, newest-low, sought-from}
 use Rattle.table.proofs.TableLaws.{table-less, table-more}
 
 -- ---- a stored head
@@ -263,39 +263,43 @@ quotient-room len r = let d = div-add-mod' len r in omega arith
 pub row-fits : (b : ℕ) → row-size (link-bytes b) ≤ term-bytes b
 row-fits b = omega (arith, link-least b)
 
-start-form : (b len l : ℕ) → l ≡ link-bytes b → len / (4 + 2 * b) * (3 + 2 * l) ≡ heads-start b len
-unfolding heads-start
-start-form b len l e = rw e
+-- no more rows than terms fit, nor than there can be
+pub rows-is : (b len : ℕ) → min (len / term-bytes b) (max-terms b) ≡ most-rows b len
+unfolding most-rows
+rows-is b len = refl
+
+rows-least : (b len : ℕ) → most-rows b len ≤ len / term-bytes b
+rows-least b len = let e = rows-is b len in omega arith
+
+rows-above : (b n len : ℕ) → n < len / term-bytes b → n < max-terms b → n < most-rows b len
+rows-above b n len f m = let e = rows-is b len in omega arith
 
 quotient-least : (b n len : ℕ) → n * row-size (link-bytes b) ≤ heads-start b len → n ≤ len / term-bytes b
 unfolding heads-start
-quotient-least b n len h = go (decLt (len / term-bytes b) n)
+quotient-least b n len h = go (decLt (most-rows b len) n)
   where
-    go : Dec (len / term-bytes b < n) → n ≤ len / term-bytes b
+    go : Dec (most-rows b len < n) → n ≤ len / term-bytes b
     go (yes l) = absurd (let r = row-before (row-size (link-bytes b)) l in omega arith)
-    go (no l) = omega arith
+    go (no l) = let r = rows-least b len in omega arith
 
 pub start-within : (b len : ℕ) → heads-start b len ≤ len
 unfolding heads-start
 start-within b len =
-    le-trans (times (len / term-bytes b) (row-size (link-bytes b)) (term-bytes b) (row-fits b)) (quotient-room len (term-bytes b))
+    le-trans (times (most-rows b len) (row-size (link-bytes b)) (term-bytes b) (row-fits b))
+    (le-trans (row-least (term-bytes b) (rows-least b len)) (quotient-room len (term-bytes b)))
   where
     times : (q r s : ℕ) → r ≤ s → q * r ≤ q * s
     times q r s h = let e : r * q ≤ s * q = row-least q h in let f : q * r ≡ r * q = omega arith in let g : q * s ≡ s * q = omega arith in omega arith
 
 -- as the code sums it up
-pub start-is : (b len l : ℕ) → l ≡ link-bytes b → (len / (4 + 2 * b) * (3 + 2 * l) ≡ heads-start b len) × (len / (4 + 2 * b) * (3 + 2 * l) ≤ len)
-start-is b len l e = (start-form b len l e, omega (arith, start-form b len l e, start-within b len))
-
--- the same of short numbers
-pub short-start : (len : ℕ) → (len / 8 * 7 ≡ heads-start 2 len) × (len / 8 * 7 ≤ len)
-unfolding link-bytes
-short-start len = start-is 2 len 2 refl
-
--- where there is memory for one term more than n, there is room for its row
-pub start-room : (b n len : ℕ) → n * term-bytes b + term-bytes b ≤ len → n * row-size (link-bytes b) + row-size (link-bytes b) ≤ heads-start b len
+pub start-is : (b len l rows : ℕ) → l ≡ link-bytes b → rows ≡ most-rows b len → (rows * (3 + 2 * l) ≡ heads-start b len) × (rows * (3 + 2 * l) ≤ len)
 unfolding heads-start
-start-room b n len h = row-before (row-size (link-bytes b)) in-rows
+start-is b len l rows e f = (rw (e, f), rw (e, f) (start-within b len))
+
+-- where there is memory for one term more than n, and there can be one, there is room for its row
+pub start-room : (b n len : ℕ) → n * term-bytes b + term-bytes b ≤ len → n < max-terms b → n * row-size (link-bytes b) + row-size (link-bytes b) ≤ heads-start b len
+unfolding heads-start
+start-room b n len h few = row-before (row-size (link-bytes b)) (rows-above b n len in-rows few)
   where
     more : (q r : ℕ) → n * r + r ≤ len → q * r ≤ len → len < q * r + r → n < q
     more q r p e m = go (decLt n q)
@@ -309,33 +313,50 @@ start-room b n len h = row-before (row-size (link-bytes b)) in-rows
         more (len / term-bytes b) (term-bytes b) h (quotient-room len (term-bytes b))
         (let d = div-add-mod' len (term-bytes b) in let m = mod-lt len (let z : 0 < term-bytes b = omega arith in z) in omega arith)
 
-pub row-memory : (b n len : ℕ) {l : ℕ} → l ≡ link-bytes b → n * term-bytes b + term-bytes b ≤ len → n * row-size l + row-size l ≤ len
-row-memory b n len e h = rw e (le-trans (start-room b n len h) (start-within b len))
+pub row-memory : (b n len : ℕ) {l : ℕ} → l ≡ link-bytes b → n * term-bytes b + term-bytes b ≤ len → n < max-terms b → n * row-size l + row-size l ≤ len
+row-memory b n len e h few = rw e (le-trans (start-room b n len h few) (start-within b len))
 
 -- what the kept terms cost is in the memory
 pub table-room : (b : ℕ) {job work : Bytes} {n : ℕ} → TableAs b job work n → n * term-bytes b ≤ length work
 table-room b {job} {work} {n} table = le-trans (row-least (term-bytes b) (quotient-least b n (length work) (table .below))) (quotient-room (length work) (term-bytes b))
 
-pub count-few : (l len start : ℕ) → (len - start - 4) / l < most-heads → (len - start - 4) / l ≡ head-count l len start
-unfolding head-count
-count-few l len start h = rw (lt-ltb ((len - start - 4) / l) most-heads h)
+-- there is always a head allowed, and no more than of any table
+pub heads-some : (l : ℕ) → 0 < most-heads-of l
+unfolding most-heads-of
+heads-some l = go (eqb l 2)
+  where
+    go : (t : Bool) → 0 < cond t 131072 most-heads
+    go true = omega arith
+    go false = omega arith
 
-pub count-most : (l len start : ℕ) → most-heads ≤ (len - start - 4) / l → most-heads ≡ head-count l len start
+heads-least : (l : ℕ) → most-heads-of l ≤ most-heads
+unfolding most-heads-of
+heads-least l = go (eqb l 2)
+  where
+    go : (t : Bool) → cond t 131072 most-heads ≤ most-heads
+    go true = omega arith
+    go false = omega arith
+
+pub count-few : (l len start : ℕ) → (len - start - 4) / l < most-heads-of l → (len - start - 4) / l ≡ head-count l len start
 unfolding head-count
-count-most l len start h = rw (le-ltb ((len - start - 4) / l) most-heads h)
+count-few l len start h = rw (lt-ltb ((len - start - 4) / l) (most-heads-of l) h)
+
+pub count-most : (l len start : ℕ) → most-heads-of l ≤ (len - start - 4) / l → most-heads-of l ≡ head-count l len start
+unfolding head-count
+count-most l len start h = rw (le-ltb ((len - start - 4) / l) (most-heads-of l) h)
 
 pub count-none : (l len start : ℕ) → len - start < 4 → 0 ≡ head-count l len start
 count-none l len start h =
     let e : len - start - 4 ≡ 0 = omega arith in
     let q : (len - start - 4) / l ≡ 0 = rw e (zero-div l) in
-    sym q ∙ count-few l len start (omega arith)
+    sym q ∙ count-few l len start (let m = heads-some l in omega arith)
 
 pub count-least : (l len start : ℕ) → (head-count l len start ≤ (len - start - 4) / l) × (head-count l len start ≤ most-heads)
-count-least l len start = go (decLt ((len - start - 4) / l) most-heads)
+count-least l len start = go (decLt ((len - start - 4) / l) (most-heads-of l)) (heads-least l)
   where
-    go : Dec ((len - start - 4) / l < most-heads) → (head-count l len start ≤ (len - start - 4) / l) × (head-count l len start ≤ most-heads)
-    go (yes h) = let e = count-few l len start h in (omega arith, omega arith)
-    go (no h) = let e = count-most l len start (omega arith) in (omega arith, omega arith)
+    go : Dec ((len - start - 4) / l < most-heads-of l) → most-heads-of l ≤ most-heads → (head-count l len start ≤ (len - start - 4) / l) × (head-count l len start ≤ most-heads)
+    go (yes h) m = let e = count-few l len start h in (omega arith, omega arith)
+    go (no h) m = let e = count-most l len start (omega arith) in (omega arith, omega arith)
 
 pub count-room : (l len start : ℕ) → 0 < l → 0 < head-count l len start → start + head-count l len start * l + 4 ≤ len
 count-room l len start some h =
@@ -433,6 +454,23 @@ carried-on work n h e = rw (le-ltb n 4 h, e)
 pub framed : (b : ℕ) {job work : Bytes} {n l start c : ℕ} → l ≡ link-bytes b → start ≡ heads-start b (length work) → c ≡ head-count l (length work) start
     → TableAs b job work n → TableOf l job work n start c
 framed b e f g table = rw (g, f, e) table
+
+-- a record is looked for from the newest row of its bucket
+pub sought-of : (b : ℕ) {job work x : Bytes} {n l first : ℕ} → l ≡ link-bytes b → TableAs b job work n → first ≡ first-of b work n x → Sought l job work n first x
+unfolding first-of
+sought-of b {job} {work} {x} e table f = rw e (sought-from x table refl f)
+
+-- which is what a head holds, or where there are none all rows
+pub first-held : (b : ℕ) (work x : Bytes) (n : ℕ) {l start c j r : ℕ} → l ≡ link-bytes b → start ≡ heads-start b (length work) → c ≡ head-count l (length work) start → (c ≡ 0 → ⊥)
+    → j ≡ bucket-of work c x → r ≡ number-at work (start + j * l) l → r ≡ first-of b work n x
+unfolding first-of head-at
+first-held b work x n {l} {start} {c} {j} {r} e f g some h q =
+    q ∙ sym (first-within l work n start c j (rw h (bucket-below work c x (omega (arith, some))))) ∙ rw (h, g, f, e)
+
+pub first-all : (b : ℕ) (work x : Bytes) (n : ℕ) {l start c : ℕ} → l ≡ link-bytes b → start ≡ heads-start b (length work) → c ≡ head-count l (length work) start → c ≡ 0 → n ≡ first-of b work n x
+unfolding first-of
+first-all b work x n {l} {start} {c} e f g none =
+    sym (first-outside l work n start c (bucket-of work c x) (let z = bucket-none work c x none in omega arith)) ∙ rw (g, f, e)
 
 pub unframed : (b : ℕ) {job work : Bytes} {n l start c : ℕ} → l ≡ link-bytes b → start ≡ heads-start b (length work) → c ≡ head-count l (length work) start
     → TableOf l job work n start c → TableAs b job work n

@@ -4,31 +4,39 @@
 -- in its last four bytes the seed from which the buckets are computed. What is found does not depend on the seed; how long it takes does.
 use mathlib.Core.Path.{_≡_}
 use mathlib.Core.Bool.{cond}
-use Prim.Native.Nat.{ℕ, zero, suc, _+_, _*_, _-_, _/_, _%_, _≤_, _<_}
+use Prim.Native.Nat.{ℕ, zero, suc, _+_, _*_, _-_, _/_, _%_, _≤_, _<_, min}
 use lib.ListN.{length, take, drop, getD}
 use lib.Seq.{sets}
 use lib.Dec.{eqb, ltb}
-use Rattle.theory.specs.Limit.{term-bytes}
+use Rattle.theory.specs.Limit.{number-bytes, term-bytes, max-terms}
 use Rattle.theory.specs.Record.{Bytes, bytes-of, number-length}
 use Rattle.rows.specs.Layout.{link-bytes, row-size, number-at, link-at}
 use Rattle.rows.specs.Rows.{row-record, Rows, stored-row}
 
 -- ---- the frame: where the heads stand
--- the most heads that a table has: about twice the most terms
+-- the most heads of any table
 abbrev pub most-heads : ℕ
 most-heads = 2097152
+
+-- the most of one whose links have l bytes: about twice the most terms
+unfoldable pub most-heads-of : ℕ → ℕ
+most-heads-of l = cond (eqb l number-bytes) 131072 most-heads
 
 -- the bytes of the seed
 abbrev pub seed-bytes : ℕ
 seed-bytes = 4
 
--- in a work memory of len bytes the heads stand after as many rows as it can ever hold
+-- how many rows a work memory of len bytes can ever hold: as many as terms fit, and no more than there can be terms
+unfoldable pub most-rows : ℕ → ℕ → ℕ
+most-rows b len = min (len / term-bytes b) (max-terms b)
+
+-- in a work memory of len bytes the heads stand after these
 unfoldable pub heads-start : ℕ → ℕ → ℕ
-heads-start b len = len / term-bytes b * row-size (link-bytes b)
+heads-start b len = most-rows b len * row-size (link-bytes b)
 
 -- how many heads of l bytes there are from `start` to the seed
 unfoldable pub head-count : ℕ → ℕ → ℕ → ℕ
-head-count l len start = cond (ltb ((len - start - seed-bytes) / l) most-heads) ((len - start - seed-bytes) / l) most-heads
+head-count l len start = cond (ltb ((len - start - seed-bytes) / l) (most-heads-of l)) ((len - start - seed-bytes) / l) (most-heads-of l)
 
 -- how many buckets a work memory of len bytes has
 abbrev pub bucket-count : ℕ → ℕ → ℕ
@@ -82,6 +90,11 @@ head-at l work start j = number-at work (start + j * l) l
 -- one more than the newest row of bucket j, of c buckets over n rows: a memory that is too small for heads has one bucket, with all rows
 unfoldable pub first-in : ℕ → Bytes → ℕ → ℕ → ℕ → ℕ → ℕ
 first-in l work n start c j = cond (ltb j c) (head-at l work start j) n
+
+-- the same of x's bucket, in a work memory where terms' numbers have b bytes
+unfoldable pub first-of : ℕ → Bytes → ℕ → Bytes → ℕ
+first-of b work n x =
+    first-in (link-bytes b) work n (heads-start b (length work)) (bucket-count b (length work)) (bucket-of work (bucket-count b (length work)) x)
 
 -- n rows are kept, with c heads from `start` on: each head names the newest row of its bucket, each link the one before its row in the
 -- row's bucket, and no two rows have one record

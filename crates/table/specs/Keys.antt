@@ -1,8 +1,9 @@
 -- The place of a record that is given by its parts. Numbers of terms have b bytes.
-use mathlib.Core.Bool.{Bool, cond}
+use mathlib.Core.Path.{_≡_}
+use mathlib.Core.Bool.{Bool, true, cond}
 use mathlib.Core.List.{List, [], _∷_, _++_}
 use Prim.Native.Nat.{ℕ, _+_, _-_, _*_, _^_, _≤_}
-use lib.ListN.{length}
+use lib.ListN.{length, take}
 use Rattle.theory.specs.Limit.{number-bytes, long-bytes, value-bytes, max-arguments}
 use Rattle.theory.specs.Record.{Bytes, bytes-of}
 use Rattle.theory.specs.Codes.{all-below}
@@ -42,6 +43,16 @@ last-number b = 256 ^ b - 1
 -- each of them can be a place
 unfoldable pub all-places : ℕ → List ℕ → Bool
 all-places b xs = all-below (last-number b) xs
+
+-- the length of a record of arguments; 0 where one of them can't be a place
+unfoldable pub built-length : ℕ → List ℕ → ℕ
+built-length b xs = cond (all-places b xs) (2 * number-bytes + length xs * b) 0
+
+-- an array of `space` bytes was made `key`, which begins with the record of a kind with these arguments
+pub record Built (b kind : ℕ) (xs : List ℕ) (space : ℕ) (key : Bytes) (end : ℕ) : Type 0 where
+  pub long : length key ≡ space
+  pub end-is : end ≡ built-length b xs
+  pub record-is : all-places b xs ≡ true → take end key ≡ record-of kind (words-bytes b xs)
 
 -- the place of the record of a kind whose body is arguments. Missing where one of them can't be a place
 unfoldable pub place-list : ℕ → ℕ → List ℕ → List Bytes → ℕ

@@ -3,10 +3,11 @@
 ghost use mathlib.Core.Path.{_≡_};
 ghost use Prim.Native.Nat.{_+_, _*_, _-_, _/_, _≤_, _<_};
 ghost use lib.ListN.{length};
+ghost use Rattle.theory.specs.Limit.{term-bytes};
 ghost use Rattle.rows.specs.Layout.{Bounded, link-bytes};
 ghost use Rattle.rows.specs.Rows.{kept-as, place-of};
 ghost use Rattle.terms.specs.Bodies.{Length};
-ghost use Rattle.table.specs.Buckets.{most-heads, seed-bytes, fold, hash-end, heads-start, head-count, hash-of, bucket-of, first-in, stored-head, Sought};
+ghost use Rattle.table.specs.Buckets.{most-heads, most-heads-of, seed-bytes, fold, hash-end, most-rows, heads-start, head-count, hash-of, bucket-of, first-in, first-of, stored-head, Sought};
 use rows::bytes::number;
 use rows::bytes::put_number;
 use rows::bytes::wide;
@@ -15,11 +16,14 @@ use rows::layout::FIXED_BYTES;
 use rows::layout::MISSING;
 use rows::layout::OFFSET_BYTES;
 use rows::link_at;
+use rows::link_bytes;
 use rows::offset_as;
 use terms::Term;
 
-// The most heads that a table has: about twice the most terms.
+// The most heads of any table, and of one with short links: about twice the most terms.
 const MOST_HEADS: usize = 2097152;
+
+const SHORT_HEADS: usize = 131072;
 
 // A record is its length, then its kind ..
 pub const KIND_AT: usize = Term::NUMBER_BYTES;
@@ -38,17 +42,34 @@ const HASH_END: usize = 2147483648;
 // The bytes of the seed.
 pub const SEED_BYTES: usize = 4;
 
+// How many terms fit into a work memory of `len` bytes.
+fn terms_in(len: usize, bytes: usize) -> usize
+    requires { ⌜ Length bytes ⌝ }
+    ensures { λ r. ⌜ r ≡ len / term-bytes bytes ⌝ }
+{
+    // By a constant where numbers are short: a division by one that is not known takes several times as long.
+    if bytes == Term::NUMBER_BYTES {
+        return len / (FIXED_BYTES + 2 * Term::NUMBER_BYTES);
+    }
+    len / (FIXED_BYTES + 2 * bytes)
+}
+
+// How many rows it can ever hold.
+fn most_rows(len: usize, bytes: usize) -> usize
+    requires { ⌜ Length bytes ⌝ }
+    ensures { λ r. ⌜ r ≡ most-rows bytes len ⌝ }
+{
+    let most = Term::max_terms(bytes);
+    let fit = terms_in(len, bytes);
+    if fit < most { fit } else { most }
+}
+
 // Where the heads start in a work memory of `len` bytes: after as many rows as it can ever hold.
 pub fn heads_start(len: usize, bytes: usize, link: usize) -> usize
     requires { ⌜ Length bytes × (link ≡ link-bytes bytes) ⌝ }
     ensures { λ r. ⌜ (r ≡ heads-start bytes len) × (r ≤ len) ⌝ }
 {
-    // By a constant where numbers are short: a division by one that is not known takes several times as long.
-    if bytes == Term::NUMBER_BYTES {
-        return len / (FIXED_BYTES + 2 * Term::NUMBER_BYTES)
-            * (OFFSET_BYTES + 2 * Term::NUMBER_BYTES);
-    }
-    len / (FIXED_BYTES + 2 * bytes) * (OFFSET_BYTES + 2 * link)
+    most_rows(len, bytes) * (OFFSET_BYTES + 2 * link)
 }
 
 // How many links fit into so many bytes; again by a constant where they are short.
@@ -62,6 +83,17 @@ fn links_in(left: usize, link: usize) -> usize
     left / link
 }
 
+// The most heads of a table, by the bytes of a link.
+fn most_heads(link: usize) -> usize
+    ensures { λ r. ⌜ r ≡ most-heads-of link ⌝ }
+{
+    if link == Term::NUMBER_BYTES {
+        SHORT_HEADS
+    } else {
+        MOST_HEADS
+    }
+}
+
 // How many heads there are.
 pub fn head_count(len: usize, start: usize, link: usize) -> usize
     requires { ⌜ Length link × (start ≤ len) ⌝ }
@@ -71,12 +103,9 @@ pub fn head_count(len: usize, start: usize, link: usize) -> usize
     if left < SEED_BYTES {
         return 0;
     }
+    let most = most_heads(link);
     let heads = links_in(left - SEED_BYTES, link);
-    if heads < MOST_HEADS {
-        heads
-    } else {
-        MOST_HEADS
-    }
+    if heads < most { heads } else { most }
 }
 
 // The same modulo 2 ^ 31 - 1, and not much above it: two shifts in place of a division.
@@ -125,6 +154,21 @@ pub fn first_in(work: &[u8], link: usize, n: usize, start: usize, c: usize, j: u
         return number(work, start + j * link, link);
     }
     n
+}
+
+// One more than the newest row of a record's bucket, of n rows.
+pub fn first_of(work: &[u8], bytes: usize, n: usize, wanted: &[u8]) -> usize
+    requires { ⌜ Length bytes ⌝ }
+    ensures { λ r. ⌜ r ≡ first-of bytes (now (work .entry)) n (now (wanted .entry)) ⌝ }
+{
+    let link = link_bytes(bytes);
+    let start = heads_start(work.len(), bytes, link);
+    let c = head_count(work.len(), start, link);
+    if c == 0 {
+        return n;
+    }
+    let j = bucket(work, c, wanted);
+    number(work, start + j * link, link)
 }
 
 // Stores v in the head of bucket j, where there is one.

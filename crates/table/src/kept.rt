@@ -12,6 +12,7 @@ ghost use Rattle.table.specs.Buckets.{TableAs, Table, TableOf, added-row
 ghost use Rattle.table.specs.Promise.{TermLimit, room-for, Grown, Cut};
 use super::buckets::bucket;
 use super::buckets::first_in;
+use super::buckets::first_of;
 use super::buckets::head_count;
 use super::buckets::heads_start;
 use super::buckets::put_head;
@@ -31,12 +32,8 @@ pub fn find_record(job: &[u8], work: &[u8], bytes: usize, n: usize, wanted: &[u8
     requires { ⌜ TableAs bytes (now job) (now work) n ⌝ }
     ensures { λ r. ⌜ r ≡ place-of (now (wanted .entry)) (records-as job work n bytes) ⌝ }
 {
-    let link = link_bytes(bytes);
-    let start = heads_start(work.len(), bytes, link);
-    let c = head_count(work.len(), start, link);
-    let j = bucket(work, c, wanted);
-    let first = first_in(work, link, n, start, c, j);
-    walk(job, work, link, n, first, wanted)
+    let first = first_of(work, bytes, n, wanted);
+    walk(job, work, link_bytes(bytes), n, first, wanted)
 }
 
 // What adding a record answers: the place of the kept record that equals it, the place of the new row, or that there is no room for one.

@@ -3,17 +3,20 @@ ghost use mathlib.Core.Path.{_≡_};
 ghost use mathlib.Core.List.{[], _∷_};
 ghost use Prim.Native.Nat.{_≤_};
 ghost use lib.ListN.{length, take};
-ghost use Rattle.theory.specs.Limit.{max-arguments};
+ghost use Rattle.theory.specs.Limit.{max-arguments, long-bytes};
 ghost use Rattle.terms.specs.Bodies.{Length};
 ghost use Rattle.rows.specs.Rows.{kept, place-of};
 ghost use Rattle.table.specs.Lent.{records-as, list-place, indexed-place, constant-place};
 ghost use Rattle.table.specs.Buckets.{TableAs, Table};
-ghost use Rattle.table.specs.Keys.{few-arguments, key-bytes, Roomy, last-number, place-list, place-indexed, place-constant};
+ghost use Rattle.table.specs.Keys.{few-arguments, key-bytes, Roomy, Built, last-number, place-list, place-indexed, place-constant};
 use super::buckets::BODY_AT;
 use super::buckets::KIND_AT;
+use super::buckets::first_of;
+use super::buckets::walk;
 use super::kept::find_record;
 use rows::bytes::put_number;
 use rows::layout::MISSING;
+use rows::link_bytes;
 use terms::Term;
 
 // So few arguments fit into a short array ..
@@ -57,8 +60,32 @@ fn last_number(bytes: usize) -> usize
     4294967295
 }
 
-// The place of the record of a kind with arguments of so many bytes, which is built in the array lent, or MISSING; MISSING too where a number is
-// none that these bytes hold, or the last of them, which is no place.
+// Builds the record of a kind with arguments of so many bytes in the array lent, and returns its length; 0 where a number is none that these bytes
+// hold, or the last of them, which is no place.
+fn build_key(bytes: usize, kind: u32, args: &[u32], key: &mut [u8]) -> usize
+    requires { ⌜ Length bytes × Roomy bytes (length (now args)) (length (now key)) ⌝ }
+    ensures { λ r. ⌜ Built bytes kind (now (args .entry)) (length (now (key .entry))) (now (key .exit)) r ⌝ }
+{
+    let limit = last_number(bytes);
+    let len = Term::NUMBER_BYTES + args.len() * bytes;
+    put_number(key, 0, Term::NUMBER_BYTES, len);
+    put_number(key, KIND_AT, Term::NUMBER_BYTES, kind as usize);
+    let mut at = BODY_AT;
+    let mut i: usize = 0;
+    while i < args.len() {
+        let x = args[i] as usize;
+        if limit <= x {
+            return 0;
+        }
+        put_number(key, at, bytes, x);
+        at += bytes;
+        i += 1;
+    }
+    at
+}
+
+// The place of the record of a kind with arguments of so many bytes, which is built in the array lent. What find_record does, here: what is lent is then
+// passed on no further.
 fn find_built(
     job: &[u8],
     work: &[u8],
@@ -71,22 +98,12 @@ fn find_built(
     requires { ⌜ TableAs bytes (now job) (now work) n × Roomy bytes (length (now args)) (length (now key)) ⌝ }
     ensures { λ r. ⌜ r ≡ place-list bytes kind (now (args .entry)) (records-as job work n bytes) ⌝ }
 {
-    let limit = last_number(bytes);
-    let len = Term::NUMBER_BYTES + args.len() * bytes;
-    put_number(key, 0, Term::NUMBER_BYTES, len);
-    put_number(key, KIND_AT, Term::NUMBER_BYTES, kind as usize);
-    let mut at = BODY_AT;
-    let mut i: usize = 0;
-    while i < args.len() {
-        let x = args[i] as usize;
-        if limit <= x {
-            return MISSING;
-        }
-        put_number(key, at, bytes, x);
-        at += bytes;
-        i += 1;
+    let end = build_key(bytes, kind, args, key);
+    if end == 0 {
+        return MISSING;
     }
-    find_record(job, work, bytes, n, &key[..at])
+    let first = first_of(work, bytes, n, &key[..end]);
+    walk(job, work, link_bytes(bytes), n, first, &key[..end])
 }
 
 // The place of the record of a kind with 0 to 64 arguments, of the job's own number length.
@@ -98,16 +115,32 @@ pub fn find_list(job: &[u8], work: &[u8], n: usize, kind: u32, args: &[u32]) -> 
     find_built(job, work, Term::number_length(job), n, kind, args, &mut key)
 }
 
-// The same of up to three, in a shorter array. A call for each of the two lengths: each is then compiled for its length.
+// The place of the record of a kind with up to three arguments where numbers are long, in a shorter array. A function of its own: what is lent is then
+// copied in it alone.
+fn find_long(job: &[u8], work: &[u8], n: usize, kind: u32, args: &[u32]) -> u32
+    requires { ⌜ TableAs long-bytes (now job) (now work) n × (length (now args) ≤ few-arguments) ⌝ }
+    ensures { λ r. ⌜ r ≡ place-list long-bytes kind (now (args .entry)) (records-as job work n long-bytes) ⌝ }
+{
+    let mut key = [0u8; KEY_BYTES];
+    find_built(job, work, Term::LONG_BYTES, n, kind, args, &mut key)
+}
+
+// The same in the job's own number length. Where numbers are short it does what find_built does, itself: steps look up little else, and so it is compiled
+// for numbers of two bytes, and into the loops over a circuit's gates.
 fn find_few(job: &[u8], work: &[u8], n: usize, kind: u32, args: &[u32]) -> u32
     requires { ⌜ Table (now job) (now work) n × (length (now args) ≤ few-arguments) ⌝ }
     ensures { λ r. ⌜ r ≡ list-place job work n kind (now (args .entry)) ⌝ }
 {
-    let mut key = [0u8; KEY_BYTES];
-    if Term::number_length(job) == Term::NUMBER_BYTES {
-        return find_built(job, work, Term::NUMBER_BYTES, n, kind, args, &mut key);
+    if Term::number_length(job) != Term::NUMBER_BYTES {
+        return find_long(job, work, n, kind, args);
     }
-    find_built(job, work, Term::LONG_BYTES, n, kind, args, &mut key)
+    let mut key = [0u8; KEY_BYTES];
+    let end = build_key(Term::NUMBER_BYTES, kind, args, &mut key);
+    if end == 0 {
+        return MISSING;
+    }
+    let first = first_of(work, Term::NUMBER_BYTES, n, &key[..end]);
+    walk(job, work, Term::NUMBER_BYTES, n, first, &key[..end])
 }
 
 // The place of the record of a kind with one argument.

@@ -12,7 +12,7 @@ use lib.ListN.{length, take, drop, getD, length-take, length-drop, List·getD-eq
 use lib.Seq.{take-nil, getD-take, getD-drop, drop-drop}
 use Rattle.theory.specs.Limit.{long-bytes}
 use Rattle.theory.specs.Term.{same-numbers}
-use Rattle.theory.specs.Record.{Bytes, AllBytes, little-endian, long-record, number-length}
+use Rattle.theory.specs.Record.{Bytes, AllBytes, little-endian, long-record, number-length, word}
 use Rattle.theory.proofs.Same.{same-numbers-eq}
 use Rattle.theory.proofs.Lengths.{either-length}
 use Rattle.terms.specs.Bodies.{Length}
@@ -74,45 +74,6 @@ module _ {bs : Bytes} {n : ℕ} where
       let e : n - i ≡ n = omega arith in
       (s .sum ∙ rw (e, z), rw e at (s .bound))
 
--- ---- the number length of a job
--- where a byte of the first record is another, it is two
-pub not-long : (job : Bytes) (i : ℕ) → i < 4 → (i < length job → getD job i 0 ≡ getD long-record i 0 → ⊥) → 2 ≡ number-length job
-unfolding number-length
-not-long job i h f = go (same-numbers (take 4 job) long-record) (same-numbers-eq (take 4 job) long-record)
-  where
-    go : (t : Bool) → (T t → take 4 job ≡ long-record) → _≡_ {A = ℕ} 2 (cond t 4 2)
-    go true e =
-        let l : length (take 4 job) ≡ 4 = ap length (e tt) in
-        let m = length-take 4 job in
-        absurd (f (omega arith) (sym (getD-take 4 job i 0 h) ∙ ap (λ (bs : Bytes). getD bs i 0) (e tt)))
-    go false e = refl
-
-pub is-long : (job : Bytes) → 4 ≤ length job → getD job 0 0 ≡ 2 → getD job 1 0 ≡ 0 → getD job 2 0 ≡ 103 → getD job 3 0 ≡ 0 → 4 ≡ number-length job
-unfolding number-length
-is-long [] h p q r s = absurd (omega arith)
-is-long (a ∷ []) h p q r s = absurd (omega arith)
-is-long (a ∷ b ∷ []) h p q r s = absurd (omega arith)
-is-long (a ∷ b ∷ c ∷ []) h p q r s = absurd (omega arith)
-is-long (a ∷ b ∷ c ∷ d ∷ rest) h p q r s = first a b c d p q r s
-  where
-    first : (a b c d : ℕ) → a ≡ 2 → b ≡ 0 → c ≡ 103 → d ≡ 0 → 4 ≡ number-length (a ∷ b ∷ c ∷ d ∷ rest)
-    first a b c d p q r s = rw (p, q, r, s)
-
--- it is two, or else four
-pub short-length : (job : Bytes) {r : ℕ} → r ≡ number-length job → r ≡ 2 → 2 ≡ number-length job
-short-length job e f = sym f ∙ e
-
-pub long-length : (job : Bytes) {r : ℕ} → r ≡ number-length job → (r ≡ 2 → ⊥) → 4 ≡ number-length job
-long-length job e f = either-length (λ b. (b ≡ 2 → ⊥) → 4 ≡ b) (λ g. absurd (g refl)) (λ g. refl) job (λ g. f (e ∙ g))
-
--- it is one of those that reading is proved for
-pub length-of : (job : Bytes) → Length (number-length job)
-length-of = either-length Length (record { some-bytes = omega arith; few-bytes = omega arith }) (record { some-bytes = omega arith; few-bytes = omega arith })
-
--- a number of so many bytes fits into 32 bits
-pub place-small : (b x : ℕ) → b ≤ long-bytes → x < 256 ^ b → x < 4294967296
-place-small b x h l = let q : 256 ^ b ≤ 256 ^ 4 = pow-le-pow-right (omega arith) h in omega arith
-
 -- ---- a number of few bytes, byte by byte
 byte-of : (s : Bytes) (at k : ℕ) → getD (drop k (drop at s)) 0 0 ≡ getD s (at + k) 0
 byte-of s at k = getD-drop k (drop at s) 0 0 ∙ ap (λ (j : ℕ). getD (drop at s) j 0) (add-zero k) ∙ getD-drop at s k 0
@@ -139,3 +100,48 @@ module _ (s : Bytes) (at : ℕ) {x : ℕ} (p : x ≡ getD s at 0) where
 
       pub four-bytes : {w : ℕ} → w ≡ getD s (at + 3) 0 → x + 256 * y + 65536 * z + 16777216 * w ≡ little-endian (take 4 (drop at s))
       four-bytes t = omega (arith, peel 3 s at 0, peel 2 s at 1, peel 1 s at 2, peel 0 s at 3, first-byte, q, r, t)
+
+-- ---- the number length of a job
+-- where the first record is another than that of long numbers, it is two
+pub not-long : (job : Bytes) → (4 ≤ length job → word (drop 0 job) ≡ 2 → word (drop 2 job) ≡ 103 → ⊥) → 2 ≡ number-length job
+unfolding number-length
+not-long job f = go (same-numbers (take 4 job) long-record) (same-numbers-eq (take 4 job) long-record)
+  where
+    its-words : (job : Bytes) → take 4 job ≡ long-record → (word (drop 0 job) ≡ 2) × (word (drop 2 job) ≡ 103)
+    its-words job e =
+        let byte : (i : ℕ) → i < 4 → getD job i 0 ≡ getD long-record i 0 = λ i h. sym (getD-take 4 job i 0 h) ∙ ap (λ (bs : Bytes). getD bs i 0) e in
+        (sym (two-bytes job 0 (sym (byte 0 (omega arith))) (sym (byte 1 (omega arith)))), sym (two-bytes job 2 (sym (byte 2 (omega arith))) (sym (byte 3 (omega arith)))))
+
+    go : (t : Bool) → (T t → take 4 job ≡ long-record) → _≡_ {A = ℕ} 2 (cond t 4 2)
+    go true e =
+        let l : length (take 4 job) ≡ 4 = ap length (e tt) in
+        let m = length-take 4 job in
+        let w = its-words job (e tt) in
+        absurd (f (omega arith) (w .0) (w .1))
+    go false e = refl
+
+pub is-long : (job : Bytes) → 4 ≤ length job → word (drop 0 job) ≡ 2 → word (drop 2 job) ≡ 103 → 4 ≡ number-length job
+unfolding number-length
+is-long [] h p q = absurd (omega arith)
+is-long (a ∷ []) h p q = absurd (omega arith)
+is-long (a ∷ b ∷ []) h p q = absurd (omega arith)
+is-long (a ∷ b ∷ c ∷ []) h p q = absurd (omega arith)
+is-long (a ∷ b ∷ c ∷ d ∷ rest) h p q = first a b c d (omega arith) (omega arith) (omega arith) (omega arith)
+  where
+    first : (a b c d : ℕ) → a ≡ 2 → b ≡ 0 → c ≡ 103 → d ≡ 0 → 4 ≡ number-length (a ∷ b ∷ c ∷ d ∷ rest)
+    first a b c d p q r s = rw (p, q, r, s)
+
+-- it is two, or else four
+pub short-length : (job : Bytes) {r : ℕ} → r ≡ number-length job → r ≡ 2 → 2 ≡ number-length job
+short-length job e f = sym f ∙ e
+
+pub long-length : (job : Bytes) {r : ℕ} → r ≡ number-length job → (r ≡ 2 → ⊥) → 4 ≡ number-length job
+long-length job e f = either-length (λ b. (b ≡ 2 → ⊥) → 4 ≡ b) (λ g. absurd (g refl)) (λ g. refl) job (λ g. f (e ∙ g))
+
+-- it is one of those that reading is proved for
+pub length-of : (job : Bytes) → Length (number-length job)
+length-of = either-length Length (record { some-bytes = omega arith; few-bytes = omega arith }) (record { some-bytes = omega arith; few-bytes = omega arith })
+
+-- a number of so many bytes fits into 32 bits
+pub place-small : (b x : ℕ) → b ≤ long-bytes → x < 256 ^ b → x < 4294967296
+place-small b x h l = let q : 256 ^ b ≤ 256 ^ 4 = pow-le-pow-right (omega arith) h in omega arith

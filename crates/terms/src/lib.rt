@@ -206,16 +206,10 @@ impl Term {
         if job.len() < 2 * Term::NUMBER_BYTES {
             return Term::NUMBER_BYTES;
         }
-        if job[0] != 2 {
+        if Term::number(job, 0) != 2 {
             return Term::NUMBER_BYTES;
         }
-        if job[1] != 0 {
-            return Term::NUMBER_BYTES;
-        }
-        if job[2] != Term::LONG_KIND {
-            return Term::NUMBER_BYTES;
-        }
-        if job[3] != 0 {
+        if Term::number(job, Term::NUMBER_BYTES) != Term::LONG_KIND as u32 {
             return Term::NUMBER_BYTES;
         }
         Term::LONG_BYTES

@@ -76,9 +76,10 @@ add-row-requires : tie.Need-add-row-requires
 add-row-requires c κs =
     let w = c .before .before .before .before in
     let t = table (w .before .before .before .before .before .before .before .before) in
-    let a = given w .args in (
-      row-memory (a .bytes) (a .n) (length (a .work .now)) (w .before .before .before .before .before .before .before .before .before .before .link-bytes .ensures)
-          (room-true (a .bytes) (a .limit) (a .n) (length (a .work .now)) (roomy (c .before)) .1),
+    let a = given w .args in
+    let r = room-true (a .bytes) (a .limit) (a .n) (length (a .work .now)) (roomy (c .before)) in (
+      row-memory (a .bytes) (a .n) (length (a .work .now)) (w .before .before .before .before .before .before .before .before .before .before .link-bytes .ensures) (r .1)
+          (let m = r .0 in omega arith),
       (λ h. omega (arith, t .cells h)),
       t .rows .link-length,
       (let r = rows-small (t .rows) in omega arith),

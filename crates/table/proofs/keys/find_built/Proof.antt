@@ -1,134 +1,48 @@
--- going through the arguments, the array has the record's head and those passed
-use mathlib.Core.Path.{_≡_, refl, sym, subst, _∙_}
-use Prim.Native.Nat.{ℕ, suc, _-_, _*_, _<_, _≤_}
-use native.Mathlib.Nat.{mul-le-mul-right}
+-- the record that was built is looked up
+use mathlib.Core.Path.{sym, ap, _∙_}
+use Prim.Native.Nat.{ℕ, _≤_}
 use native.Mathlib.Omega.{arith}
-use lib.ListN.{length, getD}
+use lib.ListN.{length, take}
 use lib.Seq.{length-take-le}
 use borrow.Author.Needs.{needs}
+use Rattle.rows.specs.Rows.{kept-as, place-of}
 use Rattle.rows.proofs.RowLaws.{link-back}
-use Rattle.table.specs.Keys.{Roomy}
-use Rattle.table.proofs.KeyLaws.{few-words, room-for-words, Building, building-end, building-none, building-start, building-turn, written-more, written-none, written-own, roomy-own}
+use Rattle.table.proofs.KeyLaws.{built-inside, built-missing, built-place}
+use Rattle.table.proofs.MemoryLaws.{sought-of}
 use Rattle.table.proofs.keys.find_built.Statement.{statement}
 use Rattle.table.proofs.keys.find_built.Tie as tie
 
-abbrev Inv-loop : tie.InvT-loop
-Inv-loop job work bytes n kind args key₀ limit len at₀ i₀ key at i = Building (length key₀) bytes kind args key at i × Roomy bytes (length args) (length key₀)
-
-abbrev μ-loop : tie.MeasureT-loop
-μ-loop job work bytes n kind args key₀ limit len at₀ i₀ key at i = length args - i
-
--- the arguments have few bytes
-few : (c : tie.Start Inv-loop μ-loop) → length (c .args .args .now) * c .args .bytes ≤ 256
-few c = few-words (link-back (c .pre .0 .rows .link-length) .few-bytes) (c .pre .1 .few)
-
-mul-len : tie.Need-mul-len Inv-loop μ-loop
-mul-len c = omega (arith, few (c .before .before .before .before .before))
-
-add-len : tie.Need-add-len Inv-loop μ-loop
-add-len c = omega (arith, few (c .before .before .before .before .before))
-
-put-number-requires : tie.Need-put-number-requires Inv-loop μ-loop
-put-number-requires c κs = let r = c .before .before .before .before .before .before .pre .1 .room in omega arith
-
-put-number-requires-2 : tie.Need-put-number-requires-2 Inv-loop μ-loop
-put-number-requires-2 c κs =
-    let p = c .before .before .before in
-    let s = p .before .before .before .before .before .before .before in
-    let r = s .pre .1 .room in
-    let w = written-more (written-none (s .args .key .now)) 2 _ (omega arith) (p .put-number .ensures) .long in
-    omega arith
-
-loop-holds : tie.Need-loop-holds Inv-loop μ-loop
-loop-holds c =
-    let s = c .before .before .before .before .before .before .before .before .before .before .before .before .before in
-    let r = s .pre .1 .room in
-    let w = written-more (written-more (written-none (s .args .key .now)) 2 _ (omega arith) (c .before .before .before .before .before .before .put-number .ensures)) 2 _ (omega arith) (c .before .before .put-number2 .ensures) in
-    (building-start _ _ _ (written-own w), roomy-own w (s .pre .1))
-
--- the array is as long as it was
-same : (p : tie.At-loop Inv-loop μ-loop) → length (p .loop .key) ≡ length (p .before .before .before .before .before .before .before .before .before .before .before .before .before .before .args .key .now)
-same p =
-    let c = p .before in
-    let s = c .before .before .before .before .before .before .before .before .before .before .before .before .before in
-    let r = s .pre .1 .room in
-    p .loop .inv .0 .written .long
-    ∙ written-more (written-more (written-none (s .args .key .now)) 2 _ (omega arith) (c .before .before .before .before .before .before .put-number .ensures)) 2 _ (omega arith) (c .before .before .put-number2 .ensures) .long
-
-cast-x : tie.Need-cast-x Inv-loop μ-loop
-cast-x c = omega (arith, c .shared-slice-known4 .given (c .before .before .loop .i))
-
-returns : tie.Need-returns Inv-loop μ-loop
-returns c =
-    let p = c .before .before .before in
-    let l = p .before .before .before .before .before .before .before .before .before in
-    let a = l .before .before .before .before .before .args in
-    building-none _ _ _ _ (p .loop .i) (c .before .before .loop-test .taken)
-    (subst (λ (m : ℕ). m ≤ getD (a .args .now) (p .loop .i) 0) (l .last-number .ensures) (c .if1 .taken))
-
-put-number-requires-3 : tie.Need-put-number-requires-3 Inv-loop μ-loop
-put-number-requires-3 c κs =
-    let p = c .before .before .before .before in
-    let r = room-for-words (suc (p .loop .i)) (p .loop .inv .1) (c .before .before .before .loop-test .taken) in
-    let f = p .loop .inv .0 .far in
-    let l = p .loop .inv .0 .written .long in
-    omega arith
-
-add-at : tie.Need-add-at Inv-loop μ-loop
-add-at c =
-    let p = c .before .before .before .before .before .before .before in
-    let s = p .before .before .before .before .before .before .before .before .before .before .before .before .before .before in
-    let q = mul-le-mul-right (s .args .bytes) (c .before .before .before .before .before .before .loop-test .taken) in
-    let f = p .loop .inv .0 .far in
-    omega (arith, q, few s)
-
-loop-again : tie.Need-loop-again Inv-loop μ-loop
-loop-again c =
-    let p = c .before .before .before .before .before .before .before in
-    let l = p .before .before .before .before .before .before .before .before .before in
-    let a = l .before .before .before .before .before .args in (
-      building-turn (p .loop .inv .0) (p .loop .inv .1) (c .before .before .before .before .before .before .loop-test .taken) _ refl
-          (subst (λ (m : ℕ). getD (a .args .now) (p .loop .i) 0 < m) (l .last-number .ensures) (c .before .before .before .before .if1 .left)) (c .before .before .put-number3 .ensures),
-      p .loop .inv .1,
-    )
-
 -- the record ends in the array
-inside : (c : tie.After-loop Inv-loop μ-loop) → c .before .loop .at ≤ length (c .before .loop .key)
-inside c = let p = c .before in let f = p .loop .inv .0 .far in let l = p .loop .inv .0 .written .long in omega (arith, room-for-words (p .loop .i) (p .loop .inv .1) (p .loop .inv .0 .many))
+inside : (c : tie.After-build-key) → c .build-key .result ≤ length (c .build-key .last .1 .1 .1 .0)
+inside c = omega (arith, built-inside (c .build-key .ensures) (c .before .before .before .before .before .before .pre .1), c .build-key .ensures .long)
 
-find-record-requires : tie.Need-find-record-requires Inv-loop μ-loop
-find-record-requires c κs = c .before .before .before .before .before .before .before .before .before .before .before .before .before .before .before .before .pre .0
+returns : tie.Need-returns
+returns c = built-missing (c .before .before .before .build-key .ensures) (c .if1 .taken) _
 
-same-length-2 : tie.Need-same-length-2 Inv-loop μ-loop
-same-length-2 c = same (c .before .before .before)
+walk-requires : tie.Need-walk-requires
+walk-requires c κs = let s = c .before .before .before .before .before .before .before .before .before .before .before .before .before in sought-of (s .args .bytes) (c .before .link-bytes .ensures) (s .pre .0) (c .before .before .first-of .ensures)
 
-returns-2 : tie.Need-returns-2 Inv-loop μ-loop
-returns-2 c = c .find-record .ensures ∙ building-end (c .before .before .before .loop .inv .0) (c .before .before .loop-test .left) _
+returns-2 : tie.Need-returns-2
+returns-2 c =
+    let a = c .before .before .before .before .before .before .before .before .before .before .before .before .before .before .args in
+    let k = c .before .before .before .before .before .before .before .before .build-key in
+    c .walk .ensures
+    ∙ ap (λ (l : ℕ). place-of (take (k .result) (k .last .1 .1 .1 .0)) (kept-as l (a .job .now) (a .work .now) (a .n))) (c .before .before .link-bytes .ensures)
+    ∙ built-place (k .ensures) (c .before .before .before .before .before .if1 .left) _
 
 pub find-built-spec : {M : Type 1} → statement M
 find-built-spec =
     tie.close
     (tie.spec
-    Inv-loop
-    μ-loop
-    (λ c κs. link-back (c .before .before .before .before .pre .0 .rows .link-length))
-    mul-len
-    add-len
-    put-number-requires
-    put-number-requires-2
-    loop-holds
-    (λ c. search needs)
-    (λ c. search needs)
-    cast-x
-    (λ c. same (c .before .before .before))
+    (λ c κs. let s = c .before .before .before .before .before in (link-back (s .pre .0 .rows .link-length), s .pre .1))
+    (λ c. c .before .before .before .build-key .ensures .long)
     returns
-    put-number-requires-3
-    add-at
-    (λ c. search needs)
-    (λ c. search needs)
-    loop-again
-    inside
-    (λ c. sym (length-take-le _ _ (inside (c .before))))
-    find-record-requires
-    same-length-2
+    (λ c. inside (c .before .before .before))
+    (λ c. sym (length-take-le _ _ (inside (c .before .before .before .before))))
+    (λ c κs. link-back (c .before .before .before .before .before .before .before .before .before .before .pre .0 .rows .link-length))
+    (λ c κs. search needs)
+    (λ c. inside (c .before .before .before .before .before .before))
+    (λ c. sym (length-take-le _ _ (inside (c .before .before .before .before .before .before .before))))
+    walk-requires
+    (λ c. c .before .before .before .before .before .before .before .before .build-key .ensures .long)
     returns-2)
