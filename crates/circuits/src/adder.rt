@@ -15,22 +15,23 @@ ghost use Rattle.theory.specs.Circuit.{sum-bit, next-carry, ripple-carry-adder,
 ghost use Rattle.table.specs.Buckets.{Table};
 ghost use Rattle.store.specs.Lent.{gates};
 
-// ripple_carry_adder, one bit of the sum: x, y and the carry into it.
-pub fn sum_bit(job: &[u8], work: &[u8], n: usize, x: u32, y: u32, carry: u32) -> u32
-    requires { ⌜ Table (now job) (now work) n ⌝ }
-    ensures { λ r. ⌜ r ≡ sum-bit (gates job work n) x y carry ⌝ }
-{
-    xor2(job, work, n, xor2(job, work, n, x, y), carry)
+// A bit of a sum, and the carry out of it.
+pub struct SumBit {
+    pub bit: u32,
+    pub carry: u32,
 }
 
-// ripple_carry_adder, the carry out of a bit.
-pub fn carry_bit(job: &[u8], work: &[u8], n: usize, x: u32, y: u32, carry: u32) -> u32
+// ripple_carry_adder, one bit: x, y and the carry into it. Where Rust builds their exclusive or for the sum and for the carry, it is looked up once.
+pub fn full_adder(job: &[u8], work: &[u8], n: usize, x: u32, y: u32, carry: u32) -> SumBit
     requires { ⌜ Table (now job) (now work) n ⌝ }
-    ensures { λ r. ⌜ r ≡ next-carry (gates job work n) x y carry ⌝ }
+    ensures { λ r. ⌜ r .bit ≡ sum-bit (gates job work n) x y carry ⌝ }
+    ensures { λ r. ⌜ r .carry ≡ next-carry (gates job work n) x y carry ⌝ }
 {
-    let both = and2(job, work, n, x, y);
     let one = xor2(job, work, n, x, y);
-    or2(job, work, n, both, and2(job, work, n, one, carry))
+    let both = and2(job, work, n, x, y);
+    let bit = xor2(job, work, n, one, carry);
+    let next = or2(job, work, n, both, and2(job, work, n, one, carry));
+    SumBit { bit, carry: next }
 }
 
 // A sum's bits, and the carry into the last of them.
@@ -60,9 +61,10 @@ pub fn ripple_carry_adder(
     let mut c = carry;
     let mut i = 0;
     while i < w {
-        bits[i] = sum_bit(job, work, n, x[i], y[i], c);
+        let sum = full_adder(job, work, n, x[i], y[i], c);
+        bits[i] = sum.bit;
         last = c;
-        c = carry_bit(job, work, n, x[i], y[i], c);
+        c = sum.carry;
         i += 1;
     }
     Sum { bits, carry: last }

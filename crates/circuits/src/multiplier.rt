@@ -1,6 +1,5 @@
 // Multiplication by rows: row j is x, j places up, where bit j of y is set.
-use crate::adder::carry_bit;
-use crate::adder::sum_bit;
+use crate::adder::full_adder;
 use crate::bits::Bits;
 use crate::bits::MAX_BITS;
 use crate::bits::ands;
@@ -38,8 +37,9 @@ fn add_row(
     while k < w - j {
         let product = and2(job, work, n, y, x[k]);
         let i = j + k;
-        out[i] = sum_bit(job, work, n, sum[i], product, c);
-        c = carry_bit(job, work, n, sum[i], product, c);
+        let next = full_adder(job, work, n, sum[i], product, c);
+        out[i] = next.bit;
+        c = next.carry;
         k += 1;
     }
     out

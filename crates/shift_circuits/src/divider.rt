@@ -1,5 +1,5 @@
 // Division, bit by bit; `standard` is false for the circuit as Rust has it, and true for the standard's division.
-use circuits::adder::carry_bit;
+use circuits::adder::full_adder;
 use circuits::adder::ripple_carry_adder;
 use circuits::bits::Bits;
 use circuits::bits::MAX_BITS;
@@ -86,7 +86,8 @@ fn used_carry(job: &[u8], work: &[u8], n: usize, x: u32, y: u32, last: u32, stan
     ensures { λ r. ⌜ r ≡ cond standard (next-carry (gates job work n) x y last) last ⌝ }
 {
     if standard {
-        carry_bit(job, work, n, x, y, last)
+        let top = full_adder(job, work, n, x, y, last);
+        top.carry
     } else {
         last
     }

@@ -16,7 +16,7 @@ loop-holds : tie.Need-loop-holds Inv-loop μ-loop
 loop-holds c = adder-start refl
 
 loop-again : tie.Need-loop-again Inv-loop μ-loop
-loop-again c = adder-turn (c .before .before .before .loop .inv) (c .before .sum-bit .ensures) (c .carry-bit .ensures) (search needs) (search needs)
+loop-again c = let a = c .full-adder .ensures in adder-turn (c .before .before .loop .inv) (a .0) (a .1) (search needs) (search needs)
 
 returns : tie.Need-returns Inv-loop μ-loop
 returns c = adder-end (c .before .loop .inv) (search needs) (search needs) (search needs) (search needs)
@@ -35,11 +35,6 @@ ripple-carry-adder-spec =
     (λ c κs. search needs)
     (λ c. search needs)
     (λ c. search needs)
-    (λ c. search needs)
-    (λ c. search needs)
-    (λ c. search needs)
-    (λ c. search needs)
-    (λ c κs. search needs)
     (λ c. search needs)
     (λ c. search needs)
     loop-again

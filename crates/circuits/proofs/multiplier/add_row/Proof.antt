@@ -15,7 +15,7 @@ loop-holds : tie.Need-loop-holds Inv-loop μ-loop
 loop-holds c = row-start (search needs) (search needs) (search needs) (search needs)
 
 loop-again : tie.Need-loop-again Inv-loop μ-loop
-loop-again c = row-turn (c .before .before .before .before .loop .inv) (c .before .before .and2 .ensures) (c .before .sum-bit .ensures) (c .carry-bit .ensures) (search needs) (search needs) (search needs) (search needs) (search needs)
+loop-again c = let a = c .full-adder .ensures in row-turn (c .before .before .before .loop .inv) (c .before .and2 .ensures) (a .0) (a .1) (search needs) (search needs) (search needs) (search needs) (search needs)
 
 returns : tie.Need-returns Inv-loop μ-loop
 returns c = row-end (c .before .loop .inv) (search needs) (search needs) (search needs) (search needs)
@@ -37,9 +37,6 @@ add-row-spec =
     (λ c κs. search needs)
     (λ c. search needs)
     (λ c. search needs)
-    (λ c. search needs)
-    (λ c. search needs)
-    (λ c κs. search needs)
     (λ c. search needs)
     (λ c. search needs)
     loop-again

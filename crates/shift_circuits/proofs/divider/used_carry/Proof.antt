@@ -9,5 +9,5 @@ used-carry-spec =
     tie.close
     (tie.spec
     (λ c κs. search needs)
-    (λ c. c .carry-bit .ensures ∙ sym (cond-true _ _ (c .before .if1 .taken)))
+    (λ c. c .full-adder .ensures .1 ∙ sym (cond-true _ _ (c .before .if1 .taken)))
     (λ c. sym (cond-false _ _ (c .if1 .left))))
