@@ -20,10 +20,11 @@ fn fold(x: u64) -> u64 {
     x % (1 << 31) + x / (1 << 31)
 }
 
-/// How many buckets the memory has: behind as many rows as it can hold, up to the seed.
+/// How many buckets the memory has: behind as many rows as it can ever hold, up to the seed, and about twice the most terms at most.
 fn buckets(format: Format) -> u64 {
-    let (row, link) = if format == Format::FourBytes { (9, 3) } else { (7, 2) };
-    ((WORK - WORK / format.term_bytes() * row - 4) / link) as u64
+    let (row, link, most) = if format == Format::FourBytes { (9, 3, 1 << 21) } else { (7, 2, 1 << 17) };
+    let rows = format.max_terms().min(WORK / format.term_bytes());
+    most.min((WORK - rows * row - 4) as u64 / link)
 }
 
 /// The words of a term's number in a record: the number and, in four bytes, 0.
