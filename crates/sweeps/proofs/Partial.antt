@@ -326,11 +326,15 @@ take_refines : (n : ℕ) (bs cs : Bytes) → AllRefine (map of_byte bs) (map of_
 take_refines zero bs cs r = empty
 take_refines (suc n) [] [] r = empty
 take_refines (suc n) (b ∷ bs) (c ∷ cs) (also p r) = also p (take_refines n bs cs r)
+take_refines (suc n) [] (c ∷ cs) r = elim r [ ]
+take_refines (suc n) (b ∷ bs) [] r = elim r [ ]
 
 drop_refines : (n : ℕ) (bs cs : Bytes) → AllRefine (map of_byte bs) (map of_byte cs) → AllRefine (map of_byte (drop n bs)) (map of_byte (drop n cs))
 drop_refines zero bs cs r = r
 drop_refines (suc n) [] [] r = empty
 drop_refines (suc n) (b ∷ bs) (c ∷ cs) (also p r) = drop_refines n bs cs r
+drop_refines (suc n) [] (c ∷ cs) r = elim r [ ]
+drop_refines (suc n) (b ∷ bs) [] r = elim r [ ]
 
 input_refines : (vs : List Term) (bs cs : Bytes) → AllRefine (map of_byte bs) (map of_byte cs) → (u : Term) → AllRefine (input_of vs bs u) (input_of vs cs u)
 input_refines [] bs cs r u = empty

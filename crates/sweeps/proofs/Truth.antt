@@ -52,6 +52,8 @@ none_good (s ∷ ss) h = let e = eqb→eq (suc (length ss)) 0 h in absurd (omega
 
 bv_good : (s : Sort) → T (is_bv_sort s) → T (good s)
 bv_good (bv n) h = tt
+bv_good bad h = elim h [ ]
+bv_good bool h = elim h [ ]
 
 one_good : (ss : List Sort) → T (takes (exactly 1) (length ss)) → T (is_bv_sort (first ss)) → Goods ss
 one_good [] h b = tt
@@ -61,6 +63,8 @@ one_good (s ∷ r ∷ ss) h b = let e = eqb→eq (suc (suc (length ss))) 1 h in 
 -- an Equals that is a gate is one of Bools
 bool_are : (s : Sort) (ss : List Sort) → T (same_sort s bool) → T (all_are s ss) → T (all_are bool ss)
 bool_are bool ss e h = h
+bool_are bad ss e h = elim e [ ]
+bool_are (bv _) ss e h = elim e [ ]
 
 equal_bools : (ss : List Sort) → T (good (sort_op Equals ss)) → T (bit_kind Equals (first ss)) → T (all_are bool ss)
 equal_bools ss g k = bool_are (first ss) ss (gate (first ss) k) (and_r (good (first ss)) _ (fitted Equals ss g))
@@ -85,6 +89,7 @@ args_good Equals ss g k = bools_good ss (equal_bools ss g k)
 args_good Ite ss g k = bools_good ss (fitted Ite ss g)
 args_good (BvBitOf i) ss g k = one_good ss (counted (BvBitOf i) ss g) (and_l (is_bv_sort (first ss)) _ (fitted (BvBitOf i) ss g))
 args_good BvBbTerm ss g k = bools_good ss (fitted BvBbTerm ss g)
+args_good _ ss g k = elim k [ ]
 
 -- ---- the arguments: what is said of each is true
 data ArgsTrue : List (List Known) → List Val → Type 0 where
@@ -164,6 +169,7 @@ module _ (ρ : Assign) (input : Term → List Known) where
       subst (λ (bs : List Bool). AllTrue (map lead (folds (known_op input) ts)) bs)
       (sym (subst (λ (n : ℕ). number_bits (to_number (map truth_of (values ρ ts))) 0 n ≡ map truth_of (values ρ ts)) (length-map (values ρ ts) truth_of) (bits_back (map truth_of (values ρ ts)))))
       (leads_true r (values_have ρ ts) (fitted BvBbTerm (sorts_of ts) g))
+  op_true _ ts g k f r = elim k [ ]
 
   mutual
     unfolding fold bit_level

@@ -30,6 +30,8 @@ use Rattle.text.proofs.Encoding.{record_length, record_lone}
 pub same_is : (x y : Bytes) → T (same_numbers x y) → x ≡ y
 same_is [] [] t = refl
 same_is (a ∷ x) (b ∷ y) t = ap₂ (λ (u : ℕ) (v : Bytes). u ∷ v) (eqb→eq a b (and_l (eqb a b) _ t)) (same_is x y (and_r (eqb a b) _ t))
+same_is [] (b ∷ y) t = elim t [ ]
+same_is (a ∷ x) [] t = elim t [ ]
 
 -- ---- the kept records and the list
 abbrev pub bytes_on : Plain → List Bytes

@@ -13,7 +13,7 @@ use Rattle.theory.specs.Limit.{number_bytes}
 use Rattle.theory.specs.Term.{Term, node, nil, same_numbers}
 use Rattle.theory.specs.Optional.{either, is_some}
 use Rattle.theory.specs.RuleTable.{Rule}
-use Rattle.theory.specs.Record.{Bytes, records_of, cut, kind_of, step_kind, long_kind, Item, term, step, read, is_step, step_count, number_length}
+use Rattle.theory.specs.Record.{Bytes, records_of, cut, kind_of, step_kind, long_kind, Item, step, read, is_step, step_count, number_length}
 use Rattle.theory.specs.Plain.{Plain, start, feed, feed_item, at_place}
 use Rattle.theory.proofs.Basics.{none_some, some_inj, foldl_append, getElem_lt, getElem_old, getElem_seam, snoc_elim}
 use Rattle.theory.proofs.Places.{at_place_is}

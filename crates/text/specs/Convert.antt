@@ -1,5 +1,5 @@
 -- Document 02, P13: a text read line by line, and the job that is written.
-use Rattle.std.specs.Prelude.{Bool, true, false, cond, List, [], ◌∷◌, ◌++◌, ℕ, zero, suc, eqb, ltb, length, drop, replicate}
+use Rattle.std.specs.Prelude.{Bool, true, false, cond, List, [], ◌∷◌, ◌++◌, ℕ, suc, eqb, ltb, length, drop, replicate}
 use Rattle.std.proofs.Math.Option.{Option, none, some}
 use Rattle.theory.specs.Term.{node, nil}
 use Rattle.theory.specs.Optional.{is_some, either}

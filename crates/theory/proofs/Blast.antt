@@ -76,6 +76,7 @@ truth_hom ρ = record {
 
 pub is_bb : (o : Op) → T (eqb (kind o) 31) → o ≡ BvBbTerm
 is_bb BvBbTerm h = refl
+is_bb _ h = elim h [ ]
 
 unfoldable pub bits_from : ℕ → ℕ → ℕ → List Bool
 bits_from x i zero = []

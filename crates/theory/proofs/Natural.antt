@@ -65,7 +65,8 @@ module _ {A B : Type 0} {G : Gates A} {H : Gates B} {h : A → B} (M : Hom G H h
   slt_from_hom r [] ys = refl
   slt_from_hom r (x ∷ xs) [] = refl
   slt_from_hom r (x ∷ []) (y ∷ ys) = sign_hom x y r
-  slt_from_hom r (x ∷ x' ∷ xs) (y ∷ ys) = rw (← less_hom x y r) (slt_from_hom (less_step G x y r) (x' ∷ xs) ys)
+  slt_from_hom r (x ∷ x' ∷ xs) (y ∷ ys) =
+      slt_from_hom (less_step G x y r) (x' ∷ xs) ys ∙ ap (λ z. slt_from H z (map h (x' ∷ xs)) (map h ys)) (less_hom x y r)
 
   pub slt_hom : (xs ys : List A) → h (slt G xs ys) ≡ slt H (map h xs) (map h ys)
   unfolding slt

@@ -26,6 +26,11 @@ use Rattle.theory.proofs.Distinct.{Entered, WellKept, tree_0, tree_1, kept_at}
 pub item_says : (i : Item) (o : Op) (ks : List ℕ) → T (item_is i o ks) → i ≡ term o ks
 item_says (term p js) o ks h =
     ap₂ term (same_op_eq p o (and_l (same_op p o) _ h)) (same_numbers_eq js ks (and_r (same_op p o) _ h))
+item_says (Rattle.theory.specs.Record.step _ _) o ks h = elim h [ ]
+item_says (Rattle.theory.specs.Record.chain _ _ _) o ks h = elim h [ ]
+item_says (Rattle.theory.specs.Record.back _) o ks h = elim h [ ]
+item_says Rattle.theory.specs.Record.unknown o ks h = elim h [ ]
+item_says Rattle.theory.specs.Record.misfit o ks h = elim h [ ]
 
 pub says_item : (b : ℕ) (o : Op) (ks : List ℕ) (e : Entry) → read b e.bytes ≡ term o ks → T (agrees b e o ks)
 says_item b o ks e h =

@@ -144,7 +144,7 @@ module _ (ρ : Assign) (n : ℕ) (f : ℕ → ℕ → ℕ → ℕ) (step : Term 
 
 module _ (ρ : Assign) (n : ℕ) (o : Op) (k : Bool → Bool → Bool) (f : ℕ → ℕ → ℕ → ℕ)
     (gate : (a b : Bool) → truth (k a b) ≡ meaning ρ o (truth a ∷ truth b ∷ []))
-    (number_of_lem : (xs ys : List Bool) → Pair xs ys → length xs ≡ n → to_number (zip_with k xs ys) ≡ f n (to_number xs) (to_number ys)) where
+    (number_of : (xs ys : List Bool) → Pair xs ys → length xs ≡ n → to_number (zip_with k xs ys) ≡ f n (to_number xs) (to_number ys)) where
   zipped_right : (a t : Term) → Bits ρ a n → Bits ρ t n
       → Bits ρ (zipped (two o) a t) n × (value ρ (zipped (two o) a t) ≡ num2 f (value ρ a) (value ρ t))
   unfolding fold
@@ -156,20 +156,20 @@ module _ (ρ : Assign) (n : ℕ) (o : Op) (k : Bool → Bool → Bool) (f : ℕ 
       let b : Bits ρ (zipped (two o) a t) n = subst (λ (m : ℕ). Bits ρ (zipped (two o) a t) m) l (bb_bits ρ (zip_with (two o) (get_term_bits a) (get_term_bits t)) ds r) in (
         b,
         bb_value ρ (zip_with (two o) (get_term_bits a) (get_term_bits t)) ds r
-            ∙ ap₂ number l (number_of_lem ba.bits bt.bits p ba.size) ∙ sym (ap₂ (num2 f) ba.means bt.means),
+            ∙ ap₂ number l (number_of ba.bits bt.bits p ba.size) ∙ sym (ap₂ (num2 f) ba.means bt.means),
       )
 
 -- an operation on 1 to 64 numbers of one width, whose circuit is a gate at each bit
 module _ (ρ : Assign) (n : ℕ) (o : Op) (k : Bool → Bool → Bool) (f : ℕ → ℕ → ℕ → ℕ)
     (gate : (a b : Bool) → truth (k a b) ≡ meaning ρ o (truth a ∷ truth b ∷ []))
-    (number_of_lem : (xs ys : List Bool) → Pair xs ys → length xs ≡ n → to_number (zip_with k xs ys) ≡ f n (to_number xs) (to_number ys)) where
+    (number_of : (xs ys : List Bool) → Pair xs ys → length xs ≡ n → to_number (zip_with k xs ys) ≡ f n (to_number xs) (to_number ys)) where
   pub zipped_fold : (ts : Terms) → guard (takes many (length (sorts_of ts)) && alike (sorts_of ts)) (first (sorts_of ts)) ≡ bv n
       → value ρ (fold_terms (zipped (two o)) (to_list ts)) ≡ fold1 (num2 f) (values ρ ts)
   unfolding fold_terms fold
   zipped_fold nil s = absurd (guard_yes _ bad (bv n) tt s).0
   zipped_fold (cons t ts) s =
       let h = many_sorts t ts n s in
-      term_fold ρ n f (zipped (two o)) (zipped_right ρ n o k f gate number_of_lem) t (bits_of ρ t n h.0) ts h.1
+      term_fold ρ n f (zipped (two o)) (zipped_right ρ n o k f gate number_of) t (bits_of ρ t n h.0) ts h.1
 
 pub and_holds : (ρ : Assign) (ts : Terms) (n : ℕ) → sort_of (node BvAnd ts) ≡ bv n
     → value ρ (fold_terms (zipped (two And)) (to_list ts)) ≡ value ρ (node BvAnd ts)

@@ -66,6 +66,8 @@ pub same_numbers_eq : (xs ys : List ℕ) → T (same_numbers xs ys) → xs ≡ y
 same_numbers_eq [] [] h = refl
 same_numbers_eq (x ∷ xs) (y ∷ ys) h =
     ap₂ (λ (z : ℕ) (zs : List ℕ). z ∷ zs) (eqb→eq x y (and_l (eqb x y) _ h)) (same_numbers_eq xs ys (and_r (eqb x y) _ h))
+same_numbers_eq [] (y ∷ ys) h = elim h [ ]
+same_numbers_eq (x ∷ xs) [] h = elim h [ ]
 
 pub same_op_eq : (o p : Op) → T (same_op o p) → o ≡ p
 unfolding same_op
@@ -91,6 +93,8 @@ mutual
   sames_eq : (ts us : Terms) → T (same_terms ts us) → ts ≡ us
   sames_eq nil nil h = refl
   sames_eq (cons t ts) (cons u us) h = ap₂ cons (same_eq t u (and_l (same_term t u) _ h)) (sames_eq ts us (and_r (same_term t u) _ h))
+  sames_eq nil (cons u us) h = elim h [ ]
+  sames_eq (cons t ts) nil h = elim h [ ]
 
 mutual
   unfolding same_term

@@ -13,6 +13,8 @@ use Rattle.theory.specs.Sort.{Sort, bad, bool, bv, guard, all_are, is_bv_sort, a
 
 pub is_bv : (s : Sort) → T (is_bv_sort s) → s ≡ bv (sort_width s)
 is_bv (bv n) h = refl
+is_bv bad h = elim h [ ]
+is_bv bool h = elim h [ ]
 
 -- ---- widths
 abbrev pub sized : Sort → Bool
@@ -41,6 +43,8 @@ le_width n h k = and_i (leb 1 n) (leb n 64) (le→leb 1 n h) (le→leb n 64 k)
 
 bv_width : (s : Sort) → T (sized s) → T (is_bv_sort s) → (1 ≤ sort_width s) × (sort_width s ≤ 64)
 bv_width (bv n) h b = width_le n h
+bv_width bad h b = elim b [ ]
+bv_width bool h b = elim b [ ]
 
 sized_op : (o : Op) (ss : List Sort) → all_sized ss → T (sized (sort_op o ss))
 sized_op True ss h = sized_guard _ bool (λ t. tt)

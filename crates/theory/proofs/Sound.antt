@@ -31,6 +31,12 @@ pub same_sort_eq : (a b : Sort) → T (same_sort a b) → a ≡ b
 same_sort_eq bad bad h = refl
 same_sort_eq bool bool h = refl
 same_sort_eq (bv m) (bv n) h = ap bv (eqb→eq m n h)
+same_sort_eq bad bool h = elim h [ ]
+same_sort_eq bad (bv n) h = elim h [ ]
+same_sort_eq bool bad h = elim h [ ]
+same_sort_eq bool (bv n) h = elim h [ ]
+same_sort_eq (bv m) bad h = elim h [ ]
+same_sort_eq (bv m) bool h = elim h [ ]
 
 guarded : {v : Val} {s : Sort} (b : Bool) → (T b → Has v s) → Has v (guard b s)
 unfolding guard
@@ -165,8 +171,8 @@ concat_lt m n x y h k = rw (pow-add 2 m n) (digits_lt h k)
 concat_has : {u : Val} {vs : List Val} {ss : List Sort} (m : ℕ)
     → Has u (bv m) → Each vs ss → T (all_bv ss) → Has (foldl concat2 u vs) (bv (m + sum_widths ss))
 concat_has m h none a = rw add-zero h
-concat_has m (is_number {x = x} h) (more {ss = ss} (is_number {n = n} {x = y} k) r) a =
-    rw (← add_assoc) (concat_has (m + n) (is_number (concat_lt m n x y h k)) r a)
+concat_has {u = u} m (is_number {x = x} h) (more {ss = ss} (is_number {n = n} {x = y} k) r) a =
+    rw (← add_assoc) (concat_has {u = number (m + n) (x * 2 ^ n + y)} (m + n) (is_number (concat_lt m n x y h k)) r a)
 concat_has m h (more any r) a = absurd a
 concat_has m h (more is_truth r) a = absurd a
 
