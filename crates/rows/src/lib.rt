@@ -5,6 +5,8 @@
 // numbers, its measure (the depth of its term, or its width) and a link to an earlier row.
 //
 // To read: layout (sizes), bytes (numbers), and here the parts of a row.
+#![tactic(auto)]
+
 pub mod bytes;
 pub mod layout;
 

@@ -2,7 +2,6 @@
 use mathlib.Core.Path.{◌≡◌, refl, sym, ap, ap₂, ◌∙◌, subst}
 use mathlib.Core.Bool.{Bool, true, false, true≢false, ◌||◌, cond}
 use mathlib.Core.List.{List, [], ◌∷◌, map}
-use mathlib.Core.Option.{some}
 use Prim.Native.Nat.{ℕ, suc, ◌-◌, ◌/◌, ◌<◌, ◌≤◌}
 use native.Mathlib.Omega.{arith}
 use lib.Dec.{T, eqb, eqb→eq, leb, leb→le}
@@ -34,6 +33,7 @@ gate_width Or ts h = no_width _
 gate_width Xor ts h = no_width _
 gate_width Equals ts h = no_width _
 gate_width Ite ts h = no_width _
+gate_width _ ts h = elim h [ ]
 
 some_width : (b : Bool) (n : ℕ) → T (good (guard b (bv n))) → sort_width (guard b (bv n)) ≡ n
 unfolding guard
@@ -43,6 +43,7 @@ some_width false n g = absurd g
 bb_width : (o : Op) (ts : Terms) → T (eqb (kind o) 31) → T (good (sort_of (node o ts))) → sort_width (sort_of (node o ts)) ≡ length (sorts_of ts)
 unfolding fold
 bb_width BvBbTerm ts h g = some_width _ (length (sorts_of ts)) g
+bb_width _ ts h g = elim h [ ]
 
 sorts_length : {A : Type 0} (f : A → Term) (ks : List A) → length (sorts_of (from_list (map f ks))) ≡ length ks
 unfolding folds
@@ -109,6 +110,7 @@ module _ (b : ℕ) (r : Bytes) (o : Op) (ks : List ℕ) (f : ℕ → Term) (says
 bool_told : (s : Sort) → T (good s) → T (sized s) → same_sort bool s ≡ eqb (sort_width s) 0
 bool_told bool g z = refl
 bool_told (bv n) g z = sym (ne_eqb n 0 (λ e. let h = leb→le 1 n (and_l (leb 1 n) _ z) in omega arith))
+bool_told Rattle.theory.specs.Sort.bad g z = elim g [ ]
 
 no_bool : (b : Bool) (n : ℕ) → same_sort bool (guard b (bv n)) ≡ false
 unfolding guard
@@ -118,6 +120,7 @@ no_bool false n = refl
 bb_no_bool : (o : Op) (ts : Terms) → T (eqb (kind o) 31) → same_sort bool (sort_of (node o ts)) ≡ false
 unfolding fold
 bb_no_bool BvBbTerm ts h = no_bool _ (length (sorts_of ts))
+bb_no_bool _ ts h = elim h [ ]
 
 module _ (o : Op) (ts : Terms) (fine : T (good (sort_of (node o ts)))) where
   abbrev w : ℕ

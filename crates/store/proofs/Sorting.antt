@@ -33,6 +33,7 @@ use Rattle.store.proofs.Keeping.{row_kept, row_says, row_sound}
 by_width : (s : Sort) → T (good s) → T (sized s) → (sort_width s ≡ 0 → bool ≡ s) × ((sort_width s ≡ 0 → ⊥) → bv (sort_width s) ≡ s)
 by_width bool g z = (λ e. refl, λ f. absurd (f refl))
 by_width (bv n) g z = (λ e. absurd (let h = leb→le 1 n (and_l (leb 1 n) _ z) in omega arith), λ f. refl)
+by_width bad g z = elim g [ ]
 
 width_least : (s : Sort) → T (sized s) → sort_width s ≤ 64
 width_least bad h = omega arith

@@ -11,7 +11,7 @@ ghost use Rattle.store.specs.Lent.{kept_term};
 use super::shelf::{row_depth, row_width};
 
 // The sort of a term: Bad where it does not fit, else Bool or a bit-vector of a width.
-#[derive(Drop)]
+#[derive(Clone, Copy)]
 pub enum Sort {
     Bad,
     Bool,

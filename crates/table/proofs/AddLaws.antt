@@ -12,7 +12,7 @@ use Rattle.theory.specs.Record.{Bytes, extent, number_length}
 use Rattle.theory.specs.Codes.{first_fault}
 use Rattle.terms.specs.Framing.{record_at}
 use Rattle.rows.specs.Layout.{link_bytes, missing, number_at, offset_at}
-use Rattle.rows.specs.Rows.{kept_as, measures, offsets, place_of}
+use Rattle.rows.specs.Rows.{kept_as, place_of}
 use Rattle.table.specs.Buckets.{TableAs, TableOf, added_row, bucket_count, bucket_of, first_in, head_count, heads_start, newest, row_bucket}
 use Rattle.table.specs.Promise.{TermLimit, Grown, added_code, added_for, count_after, in_bucket, is_kept, list_after, memory_after, room_for, with_row}
 use Rattle.rows.proofs.RowLaws.{and_first, and_second, get_d_kept, length_kept, rows_small}

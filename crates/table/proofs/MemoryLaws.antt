@@ -2,11 +2,11 @@
 use mathlib.Core.Path.{◌≡◌, refl, sym, ap, ap₂, ◌∙◌, subst}
 use mathlib.Core.Bool.{Bool, true, false, cond}
 use mathlib.Core.List.{[], ◌∷◌, ◌++◌}
-use Prim.Native.Nat.{ℕ, zero, suc, ◌+◌, ◌*◌, ◌-◌, ◌/◌, ◌^◌, ◌≤◌, ◌<◌, min}
-use native.Mathlib.Nat.{not-suc-le-zero, add-zero, le_trans, mod-lt, div-add-mod', zero-div, pow-le-pow_right}
+use Prim.Native.Nat.{ℕ, suc, ◌+◌, ◌*◌, ◌-◌, ◌/◌, ◌^◌, ◌≤◌, ◌<◌, min}
+use native.Mathlib.Nat.{not-suc-le-zero, le_trans, mod-lt, div-add-mod', zero-div, pow-le-pow_right}
 use native.Mathlib.Decide.{dec_lt}
 use native.Mathlib.Omega.{arith}
-use lib.Dec.{eqb, ltb}
+use lib.Dec.{eqb}
 use lib.ListN.{get_or-append, drop, get_or, get_or-replicate, length, length-append, length-drop, length-replicate, replicate, take}
 use lib.Seq.{sets, length-sets, take-nil, drop-nil}
 use borrow.Author.Tests.{le-ltb, lt-ltb}
@@ -18,10 +18,10 @@ use Rattle.terms.proofs.Numbers.{length_of}
 use Rattle.rows.specs.Layout.{link_at, link_bytes, measure_at, number_at, offset_at, row_size}
 use Rattle.rows.specs.Rows.{Rows, column, kept_as, measures, row_record, stored_row}
 use Rattle.rows.specs.Rows as Listed
-use Rattle.table.specs.Buckets.{Sought, TableAs, TableOf, added_row, bucket_count, bucket_of, dropped_from, dropped_row, first_in, first_of, head_at, head_count, heads_start, most_heads, most_heads_of, most_rows, newest, row_bucket, seed_bytes, seed_in, stored_head}
+use Rattle.table.specs.Buckets.{Sought, TableAs, TableOf, added_row, bucket_of, dropped_from, dropped_row, first_of, head_at, head_count, heads_start, most_heads, most_heads_of, most_rows, newest, row_bucket, seed_bytes, seed_in, stored_head}
 use Rattle.table.specs.Promise.{Cleared, Cut, Wiped, carried, cleared, dropped_rows}
-use Rattle.rows.proofs.RowLaws.{column_added, column_same, column_take, length_bytes, length_stored, link_back, link_before, link_cases, link_least, link_stored, link_whole, measure_before, measure_stored, number_after, number_after_stored, number_before, number_same, number_stored, offset_before, offset_stored, row_before, row_least, rows_stored}
-use Rattle.table.proofs.BucketLaws.{bucket_below, bucket_none, first_newest, first_outside, first_within, newest_low, sought_from}
+use Rattle.rows.proofs.RowLaws.{column_added, column_same, column_take, length_bytes, length_stored, link_before, link_least, link_stored, link_whole, measure_before, measure_stored, number_after, number_after_stored, number_before, number_same, number_stored, offset_before, offset_stored, row_before, row_least, rows_stored}
+use Rattle.table.proofs.BucketLaws.{bucket_below, bucket_none, first_outside, first_within, newest_low, sought_from}
 use Rattle.table.proofs.TableLaws.{table_less, table_more}
 
 -- ---- a stored head

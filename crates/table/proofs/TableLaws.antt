@@ -8,7 +8,7 @@ use borrow.Author.Count.{below_more}
 use Rattle.theory.specs.Record.{Bytes}
 use Rattle.terms.specs.Framing.{record_at}
 use Rattle.rows.specs.Layout.{link_at, offset_at, row_size}
-use Rattle.rows.specs.Rows.{Rows, row_record}
+use Rattle.rows.specs.Rows.{Rows}
 use Rattle.table.specs.Buckets.{TableOf, bucket_of, head_at, newest, row_bucket, seed_in}
 use Rattle.table.proofs.BucketLaws.{bucket_same, newest_here, newest_other, newest_same}
 

@@ -2,7 +2,7 @@
 -- of a bucket form a list, from the newest to the oldest: the bucket's head names the newest, and each row's link the one before it. A head
 -- and a link have l bytes, and hold 0 for no row, or one more than a row's index. The work memory has the rows first, then the heads, and
 -- in its last four bytes the seed from which the buckets are computed. What is found does not depend on the seed; how long it takes does.
-use Rattle.std.specs.Prelude.{◌≡◌, cond, ℕ, zero, suc, ◌+◌, ◌*◌, ◌-◌, ◌/◌, ◌%◌, ◌≤◌, ◌<◌, min, length, take, drop, get_or, eqb, ltb}
+use Rattle.std.specs.Prelude.{◌≡◌, cond, ℕ, zero, suc, ◌+◌, ◌*◌, ◌-◌, ◌/◌, ◌%◌, ◌≤◌, ◌<◌, min, length, drop, get_or, eqb, ltb}
 use Rattle.std.proofs.lemmas.List.Edits.{sets}
 use Rattle.theory.specs.Limit.{number_bytes, term_bytes, max_terms}
 use Rattle.theory.specs.Record.{Bytes, bytes_of, number_length}

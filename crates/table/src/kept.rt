@@ -25,7 +25,7 @@ pub fn find_record(job: &[u8], work: &[u8], bytes: usize, n: usize, wanted: &[u8
 }
 
 // What adding a record answers: the place of the kept record that equals it, the place of the new row, or that there is no room for one.
-#[derive(Drop)]
+#[derive(Clone, Copy)]
 pub enum Added {
     Found(u32),
     New(u32),

@@ -3,6 +3,8 @@
 // Callers say how many rows there are and hold the invariant `Table` (specs/Buckets.antt), which `clear` sets up and `add` and `drop_rows` keep.
 //
 // To read: buckets (the table), kept (find, add, drop), keys (records given by their parts), memory (clearing).
+#![tactic(auto)]
+
 mod buckets;
 mod kept;
 mod keys;

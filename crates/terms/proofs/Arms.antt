@@ -15,7 +15,7 @@ use Rattle.theory.specs.Kind.{Op, Arity, exactly, many, arity, takes}
 use Rattle.theory.specs.Record.{Bytes, little_endian, word, words, fits, arguments, term, unknown, Shape, plain, indexed, twice_indexed, valued, front, make, shapes, find_shape, shape_of}
 use Rattle.terms.specs.Framing.{part}
 use Rattle.terms.specs.Decoded.{Inside}
-use Rattle.terms.specs.Bodies.{Length, Body, front_of, fitting, made}
+use Rattle.terms.specs.Bodies.{Body, front_of, fitting, made}
 use Rattle.terms.proofs.Parts.{both, drop_take, words_take, make_take, length_part}
 use Rattle.terms.proofs.Forms.{known_shape}
 

@@ -11,11 +11,11 @@ use lib.Seq.{drop-drop, take-take}
 use borrow.Author.Tests.{le-leb, lt-leb, eq-eqb, ne_eqb, leb-true, leb-false, eqb-true}
 use Rattle.theory.specs.Limit.{number_bytes, max_arguments}
 use Rattle.theory.specs.Kind.{Arity, exactly, many, arity, takes}
-use Rattle.theory.specs.Record.{Bytes, little_endian, word, words, extent, whole, kind_of, body_of, fits, arguments, step, chain, back, unknown, misfit, premise_count, chain_front, before_literal, chain_fits, Shape, plain, indexed, twice_indexed, valued, front, make, shapes, find_shape, shape_of, read, read_term, read_step, read_chain, read_back}
+use Rattle.theory.specs.Record.{Bytes, little_endian, word, words, extent, whole, kind_of, body_of, fits, arguments, step, chain, back, unknown, misfit, premise_count, chain_front, chain_fits, Shape, plain, indexed, twice_indexed, valued, front, make, shapes, find_shape, shape_of, read, read_term, read_step, read_chain, read_back}
 use Rattle.terms.specs.declared.Frame.TheVariants.{Broken, Whole as Ends}
 use Rattle.terms.specs.declared.Form.TheVariants.{Unknown, Known}
 use Rattle.terms.specs.Framing.{part, record_at, frame_of}
-use Rattle.terms.specs.Bodies.{Length, form_of, front_of, sized, fitting, made, least, most}
+use Rattle.terms.specs.Bodies.{form_of, front_of, sized, fitting, made, least, most}
 use Rattle.terms.proofs.Parts.{both, drop_take, word_take, words_take, length_part, whole_parts}
 use Rattle.terms.proofs.Arms.{Sized, sized_whole}
 

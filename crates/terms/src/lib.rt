@@ -1,4 +1,6 @@
 // A job's bytes as decoded records: the numbers in them, where a record ends, and what it says.
+#![tactic(auto)]
+
 pub mod refusal;
 pub mod stop;
 
@@ -23,7 +25,7 @@ pub const CODE_AT: usize = 3 * Term::NUMBER_BYTES;
 pub const DEPTH_AT: usize = 4 * Term::NUMBER_BYTES;
 
 // An argument list: its place in the job's bytes, how many numbers stand there, and the bytes of each.
-#[derive(Drop)]
+#[derive(Clone, Copy)]
 pub struct Args {
     pub at: usize,
     pub count: usize,
@@ -31,7 +33,7 @@ pub struct Args {
 }
 
 // A term, with the numbers of its arguments. No record says `True` or `False`: they are terms 0 and 1.
-#[derive(Drop)]
+#[derive(Clone, Copy)]
 pub enum Term {
     True,
     False,
@@ -81,7 +83,7 @@ pub enum Term {
 }
 
 // The arguments of a term: so many numbers, or a list in the job.
-#[derive(Drop)]
+#[derive(Clone, Copy)]
 pub enum Operands {
     None,
     One(u32),
@@ -91,7 +93,7 @@ pub enum Operands {
 }
 
 // A term's kind: its number, and the numbers in it, 0 where there is none.
-#[derive(Drop)]
+#[derive(Clone, Copy)]
 pub struct Head {
     pub kind: u32,
     pub first: u32,
@@ -99,14 +101,14 @@ pub struct Head {
 }
 
 // What stands at a place of a job: no whole record, or a record of so many bytes.
-#[derive(Drop)]
+#[derive(Clone, Copy)]
 pub enum Frame {
     Broken,
     Whole(usize),
 }
 
 // What a record says: a term, a step's rule and literals, a chain's rule, premises and literal, a back's count, or why it can't be read.
-#[derive(Drop)]
+#[derive(Clone, Copy)]
 pub enum Item {
     Term(Term),
     Step(u32, Args),
@@ -119,7 +121,7 @@ pub enum Item {
 }
 
 // The body of a kind: so many bytes of numbers in front, then from a least to a greatest number of arguments.
-#[derive(Drop)]
+#[derive(Clone, Copy)]
 pub enum Form {
     Unknown,
     Known(usize, usize, usize),

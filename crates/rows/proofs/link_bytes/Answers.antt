@@ -1,0 +1,11 @@
+use borrow.Author.Tests.{eq-eqb, ne_eqb}
+use Rattle.rows.specs.Layout.{link_bytes}
+use Rattle.rows.proofs.link_bytes.Goals as goal
+
+pub returns-then-bytes-eq-LONG_BYTES : goal.returns-then-bytes-eq-LONG_BYTES
+unfolding link_bytes
+returns-then-bytes-eq-LONG_BYTES c = simp (eq-eqb _ _ c.if-bytes-eq-LONG_BYTES.true)
+
+pub returns-else-bytes-eq-LONG_BYTES : goal.returns-else-bytes-eq-LONG_BYTES
+unfolding link_bytes
+returns-else-bytes-eq-LONG_BYTES c = simp (ne_eqb _ _ c.if-bytes-eq-LONG_BYTES.false)

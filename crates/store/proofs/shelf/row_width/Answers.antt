@@ -1,0 +1,15 @@
+-- `row_width`: the job's number length, and the width for any.
+use Rattle.terms.proofs.Numbers.{short_length, long_length}
+use Rattle.store.proofs.shelf.row_width.Goals as goal
+
+pub row_width_as-requires : goal.row_width_as-requires
+row_width_as-requires c = let p = c.requires in (p.0, p.1, short_length _ c.number_length.ensures c.if-number_length-eq-NUMBER_BYTES.true)
+
+pub returns-then-number_length-eq-NUMBER_BYTES : goal.returns-then-number_length-eq-NUMBER_BYTES
+returns-then-number_length-eq-NUMBER_BYTES c = c.row_width_as.ensures
+
+pub row_width_as-requires-2 : goal.row_width_as-requires-2
+row_width_as-requires-2 c = let p = c.requires in (p.0, p.1, long_length _ c.number_length.ensures c.if-number_length-eq-NUMBER_BYTES.false)
+
+pub returns : goal.returns
+returns c = c.row_width_as-2.ensures

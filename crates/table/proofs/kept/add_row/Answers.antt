@@ -1,0 +1,16 @@
+use mathlib.Core.Path.{ap, ◌∙◌}
+use mathlib.Core.List.{List}
+use Prim.Native.Nat.{ℕ, ◌+◌}
+use native.Mathlib.Omega.{arith}
+use lib.ListN.{length}
+use Rattle.rows.proofs.RowLaws.{length_stored}
+use Rattle.table.specs.Buckets.{added_row, stored_head}
+use Rattle.table.proofs.kept.add_row.Goals as goal
+
+pub put_head-requires : goal.put_head-requires
+put_head-requires c = (c.requires.2, λ h. omega (arith, c.requires.1 h, ap length c.put_row.ensures, length_stored c.args.link c.args.work.now c.args.n c.args.offset c.args.measure c.args.first c.requires.0))
+
+pub returns : goal.returns
+unfolding added_row
+returns c = let a = c.args in
+    c.put_head.ensures ∙ ap (λ (w : List ℕ). stored_head a.link w a.start a.c a.j (a.n + 1)) c.put_row.ensures

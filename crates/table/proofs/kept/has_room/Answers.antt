@@ -1,0 +1,37 @@
+-- `has_room`: a place among the rack's, one among the stated, and what a term costs.
+use mathlib.Core.Path.{refl}
+use Prim.Native.Nat.{ℕ, ◌+◌, ◌*◌, ◌<◌, ◌≤◌}
+use native.Mathlib.Nat.{mul-le-mul_left}
+use native.Mathlib.Omega.{arith}
+use Rattle.terms.specs.Bodies.{Length}
+use Rattle.table.proofs.AddLaws.{room_memory, room_numbers}
+use Rattle.table.proofs.kept.has_room.Goals as goal
+
+-- what the terms cost is far below what a number holds
+cheap : (n b : ℕ) → Length b → 2 + n < 4294967296 → n * (4 + 2 * b) ≤ n * 12
+cheap n b l h = mul-le-mul_left n (let f = l.few_bytes in let z : 4 + 2 * b ≤ 12 = omega arith in z)
+
+pub returns-then-max_terms-n : goal.returns-then-max_terms-n
+returns-then-max_terms-n c = let a = c.args in
+    room_numbers a.bytes a.limit a.n a.len (omega (arith, c.max_terms.ensures, c.if-max_terms-n.true))
+
+pub returns-then-limit-n : goal.returns-then-limit-n
+returns-then-limit-n c = let a = c.args in room_numbers a.bytes a.limit a.n a.len (omega (arith, c.if-limit-n.true))
+
+pub overflow_mul-cost : goal.overflow_mul-cost
+overflow_mul-cost c = let l = c.requires.0.few_bytes in omega arith
+
+pub overflow_add-cost : goal.overflow_add-cost
+overflow_add-cost c = let l = c.requires.0.few_bytes in omega arith
+
+pub overflow_mul-result : goal.overflow_mul-result
+overflow_mul-result c = omega (arith, c.requires.1, cheap c.args.n c.args.bytes c.requires.0 c.requires.1)
+
+pub overflow_add-result : goal.overflow_add-result
+overflow_add-result c = let l = c.requires.0.few_bytes in
+    omega (arith, c.requires.1, cheap c.args.n c.args.bytes c.requires.0 c.requires.1)
+
+pub returns : goal.returns
+returns c = let a = c.args in
+    room_memory a.bytes a.limit a.n a.len refl (omega arith)
+    (omega (arith, c.max_terms.ensures, c.if-max_terms-n.false, c.if-limit-n.false))
