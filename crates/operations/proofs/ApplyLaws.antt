@@ -10,9 +10,7 @@ use Rattle.theory.specs.Value.{Assign, Val, number, bit, bit_at, xor, same, num2
 use Rattle.sweeps.specs.Sweep.{as_number}
 use Rattle.sweeps.proofs.Fitting.{fitted}
 use Rattle.operations.specs.declared.apply.Unary.{Unary}
-use Rattle.operations.specs.declared.apply.Unary.TheVariants as U
 use Rattle.operations.specs.declared.apply.Binary.{Binary}
-use Rattle.operations.specs.declared.apply.Binary.TheVariants as B
 use Rattle.operations.specs.Width.{Wide, Fits, Both}
 use Rattle.operations.specs.Apply.{unary_op, binary_op, sort_by, val_by, Number, One, Two, Bools3}
 use Rattle.operations.proofs.WordLaws.{pow_64}
@@ -20,12 +18,15 @@ use Rattle.operations.proofs.WordLaws.{pow_64}
 -- ---- widths
 pub word_wide : (m : ℕ) → T (is_bv_sort (sort_by m)) → m ≤ 64 → Wide m
 word_wide (suc m) b h = record { least = omega arith; most = h }
+word_wide zero b h = elim b [ ]
 
 pub word_fits : (m x : ℕ) → T (is_bv_sort (sort_by m)) → Number m x → Fits m x
 word_fits (suc m) x b h = record { wide = word_wide (suc m) b h.few; below = h.below }
+word_fits zero x b h = elim b [ ]
 
 word_both : (m x y : ℕ) → T (is_bv_sort (sort_by m)) → Number m x → Number m y → Both m x y
 word_both (suc m) x y b h k = record { wide = word_wide (suc m) b h.few; first = h.below; second = k.below }
+word_both zero x y b h k = elim b [ ]
 
 -- ---- Bools as numbers
 pub bit_back : (x : ℕ) → x < 2 → x ≡ bit (eqb x 1)
@@ -87,6 +88,7 @@ extend_bv k m g = and_l (is_bv_sort (sort_by m)) _ (fitted (K.SignExtend k) (sor
 
 width_of : (m : ℕ) → T (is_bv_sort (sort_by m)) → sort_width (sort_by m) ≡ m
 width_of (suc m) b = refl
+width_of zero b = elim b [ ]
 
 pub is_bvnot : (m x r : ℕ) → One K.BvNot m x → r ≡ not_n m x → Is1 K.BvNot m x r
 unfolding meaning

@@ -2,8 +2,6 @@
 use Rattle.std.proofs.Common.{◌≡◌, ℕ, zero, suc, ◌+◌, ◌*◌, ◌%◌, ◌^◌, ◌<◌, ◌≤◌, ◌&&◌, ◌||◌, eqb, sym, refl, ap, ◌∙◌, subst, ap₂, mod-lt, add-one, arith, pow_pos, pow_mono, pow-add, shl_exact}
 use lib.Arith.{digits_lt}
 use lib.Bits.{bit_and, bit_or, bit_xor, and_lt, or_lt, xor_lt, and_zero_l, and_zero_r, and_self, or_zero_l, or_zero_r, or_self}
-use Rattle.theory.specs.Kind as K
-use Rattle.theory.specs.Sort.{is_width}
 use Rattle.theory.specs.Value.{Val, truth, number, value_width, number_of, bit, num2, concat2, and_n, or_n, xor_n, add_n, mul_n}
 use Rattle.operations.specs.declared.apply.Many.{Many}
 use Rattle.operations.specs.declared.apply.Many.TheVariants as M

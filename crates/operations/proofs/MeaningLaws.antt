@@ -111,6 +111,7 @@ sort_size (suc m) = refl
 
 bv_one : (m : ℕ) → T (is_bv_sort (sort_by m)) → 1 ≤ m
 bv_one (suc m) h = omega arith
+bv_one zero h = elim h [ ]
 
 joined : (w : ℕ) (ms : List ℕ) → T (all_bv (sorts_by ms)) → w + sum_widths (sorts_by ms) ≤ 64 → Joined w ms
 joined w [] h l = omega arith

@@ -12,7 +12,7 @@ use crate::words::{
 use theory::sign::signed_less;
 
 // The operations of one argument.
-#[derive(Drop)]
+#[derive(Clone, Copy)]
 pub enum Unary {
     Not,
     BvNot,
@@ -33,7 +33,7 @@ pub enum Unary {
 }
 
 // The operations of two arguments.
-#[derive(Drop)]
+#[derive(Clone, Copy)]
 pub enum Binary {
     Xor,
     Equals,
@@ -49,7 +49,7 @@ pub enum Binary {
 }
 
 // The operations of one argument or more.
-#[derive(Drop)]
+#[derive(Clone, Copy)]
 pub enum Many {
     And,
     Or,
@@ -63,7 +63,7 @@ pub enum Many {
 }
 
 // A width and a number.
-#[derive(Drop)]
+#[derive(Clone, Copy)]
 pub struct Word {
     pub width: u32,
     pub value: u64,

@@ -1,5 +1,7 @@
 // The operations of terms on machine numbers: what theory's Value says of them, for widths 1 to 64.
 //
 // To read: words (numbers of n bits), apply (one operation, on the widths and numbers of its arguments).
+#![tactic(auto)]
+
 pub mod apply;
 pub mod words;

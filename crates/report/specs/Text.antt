@@ -1,6 +1,6 @@
 -- The text of what a run came to, and where it is written.
 use Rattle.std.specs.Prelude.{◌≡◌, cond, ◌&&◌, [], ◌++◌, ℕ, ◌+◌, ◌*◌, ◌≤◌, leb, length, take, drop}
-use Rattle.std.specs.Borrow.{Bor}
+use Rattle.std.specs.Borrow.{MutBor}
 use denote.Triple.Both.{Both}
 use Rattle.theory.specs.Limit.{answer_bytes}
 use Rattle.theory.specs.Record.{Bytes}
@@ -15,7 +15,7 @@ pub record Wrote (old : Bytes) (at : ℕ) (text new : Bytes) (end : ℕ) : Type 
   pub end_is : end ≡ at + length text
 
 -- the lent memory `out` has a text at `at` afterwards
-abbrev pub WroteAt : Both (Bor Bytes) (Bor Bytes) → ℕ → Bytes → ℕ → Type 0
+abbrev pub WroteAt : Both (MutBor Bytes) (MutBor Bytes) → ℕ → Bytes → ℕ → Type 0
 WroteAt out at text end = Wrote out.entry.now at text out.exit.now end
 
 -- no first line is longer than this, and no line of an answer than that

@@ -1,4 +1,6 @@
 // The text of what a run came to: a line of totals, then a line for each answer.
+#![tactic(auto)]
+
 ghost use Rattle.std.specs.Prelude.{◌≡◌, [], ◌∷◌, ◌++◌, ◌+◌, ◌*◌, ◌<◌, ◌≤◌, length, drop};
 ghost use Rattle.theory.specs.Limit.{answer_bytes};
 ghost use Rattle.terms.specs.Bodies.{Length};

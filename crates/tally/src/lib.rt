@@ -1,4 +1,6 @@
 // The tally that a host lends: what the jobs of its service came to, counted field by field.
+#![tactic(auto)]
+
 ghost use Rattle.std.specs.Prelude.{◌≡◌, cond, ◌+◌, ◌*◌, ◌≤◌, length, drop};
 ghost use Rattle.theory.specs.Answer.{decode_answer, decode_answers};
 ghost use Rattle.theory.specs.Limit.{answer_bytes};
@@ -10,7 +12,7 @@ use terms::{CODE_AT, DEPTH_AT, Term};
 
 // Jobs, and their answers by class of code. Each field saturates.
 #[repr(C)]
-#[derive(Drop)]
+#[derive(Clone, Copy)]
 pub struct Tally {
     pub jobs: u64,
     pub held: u64,
