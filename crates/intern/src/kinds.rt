@@ -16,7 +16,7 @@ use store::sorts::Sort;
 use terms::{Operands, Term};
 
 // What a kind asks of its arguments, and the sort that it gives.
-#[derive(Drop)]
+#[derive(Clone, Copy)]
 pub enum Asks {
     // no arguments; a Bool
     Nothing,
@@ -49,7 +49,7 @@ pub enum Asks {
 }
 
 // The sort of a term, and its depth where it has a sort.
-#[derive(Drop)]
+#[derive(Clone, Copy)]
 pub struct SortAndDepth {
     pub sort: Sort,
     pub depth: usize,

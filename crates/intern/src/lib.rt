@@ -1,4 +1,6 @@
 // Keeps and drops terms: the store is emptied at the start of a job, grown by a record's term, and cut back to a count of terms.
+#![tactic(auto)]
+
 pub mod arguments;
 mod guards;
 mod kinds;
@@ -18,14 +20,14 @@ use terms::Term;
 
 // What a caller states: the greatest width of a bit-vector, and the greatest number of terms, `true` and `false` counted. Above the rack's they
 // are the rack's.
-#[derive(Drop)]
+#[derive(Clone, Copy)]
 pub struct Limits {
     pub width: u32,
     pub terms: u32,
 }
 
 // The result for a record's term: it has no sort or is too wide, there is no room for it, or it is kept, and there are so many rows then.
-#[derive(Drop)]
+#[derive(Clone, Copy)]
 pub enum Interned {
     Unsorted,
     Spent,

@@ -1,0 +1,11 @@
+use Prim.Native.Nat.{◌-◌}
+use Rattle.terms.specs.Decoded.{numbers_of}
+use Rattle.store.specs.Store.{listed}
+use Rattle.intern.proofs.Arguing.{Deepening}
+use Rattle.intern.proofs.arguments.deepest.Given as goal
+
+abbrev pub invariant-loop-i : goal.invariant-loop-i
+invariant-loop-i l = Deepening (listed l.job l.work l.n) (numbers_of l.job l.ops) l.most l.i
+
+abbrev pub decreases-loop-i : goal.decreases-loop-i
+decreases-loop-i l = l.end - l.i
