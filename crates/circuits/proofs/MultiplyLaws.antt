@@ -56,12 +56,12 @@ module _ (g : Gates ℕ) (y j : ℕ) (sum xs : List ℕ) (n : ℕ) where
       ∙ get_d_bits (n - j) (sum_at g g.false_gate above product) 0 k b)
 
 -- k places of the row are added, and c is the carry into the next
-pub record Adding_row (g : Gates ℕ) (y j : ℕ) (sum xs : List ℕ) (n : ℕ) (out : List ℕ) (c k : ℕ) : Type 0 where
+pub record AddingRow (g : Gates ℕ) (y j : ℕ) (sum xs : List ℕ) (n : ℕ) (out : List ℕ) (c k : ℕ) : Type 0 where
   pub fill : Filling (bit_of 0 (row g y j sum xs n)) n out (j + k)
   pub into : c ≡ carry_at g g.false_gate (above g y j sum xs n) (product g y j sum xs n) k
 
 module _ {g : Gates ℕ} {y j : ℕ} {sum xs : List ℕ} {n : ℕ} where
-  pub row_start : length sum ≡ 64 → j ≤ n → n ≤ 64 → n ≤ length xs → Adding_row g y j sum xs n sum g.false_gate 0
+  pub row_start : length sum ≡ 64 → j ≤ n → n ≤ 64 → n ≤ length xs → AddingRow g y j sum xs n sum g.false_gate 0
   row_start e h b m =
       let l : n ≤ length sum = omega arith in
       let z : j + 0 ≡ j = omega arith in
@@ -74,9 +74,9 @@ module _ {g : Gates ℕ} {y j : ℕ} {sum xs : List ℕ} {n : ℕ} where
         into = refl;
       }
 
-  pub row_turn : {out : List ℕ} {c p v c' k : ℕ} → Adding_row g y j sum xs n out c k → p ≡ g.and_gate y (get_or xs k 0)
+  pub row_turn : {out : List ℕ} {c p v c' k : ℕ} → AddingRow g y j sum xs n out c k → p ≡ g.and_gate y (get_or xs k 0)
       → v ≡ sum_bit g (get_or sum (j + k) 0) p c → c' ≡ next_carry g (get_or sum (j + k) 0) p c
-      → k < n - j → j ≤ n → n ≤ 64 → n ≤ length sum → n ≤ length xs → Adding_row g y j sum xs n (set out (j + k) v) c' (k + 1)
+      → k < n - j → j ≤ n → n ≤ 64 → n ≤ length sum → n ≤ length xs → AddingRow g y j sum xs n (set out (j + k) v) c' (k + 1)
   row_turn {out} {v} {k} inv a e f b h i l m =
       let z : j + (k + 1) ≡ j + k + 1 = omega arith in
       record {
@@ -85,7 +85,7 @@ module _ {g : Gates ℕ} {y j : ℕ} {sum xs : List ℕ} {n : ℕ} where
         into = rw add-one (f ∙ ap₂ (λ (p c : ℕ). next_carry g (get_or sum (j + k) 0) p c) a inv.into);
       }
 
-  pub row_end : {out : List ℕ} {c k : ℕ} → Adding_row g y j sum xs n out c k → n - j ≤ k → j ≤ n → n ≤ length sum → n ≤ length xs
+  pub row_end : {out : List ℕ} {c k : ℕ} → AddingRow g y j sum xs n out c k → n - j ≤ k → j ≤ n → n ≤ length sum → n ≤ length xs
       → take n out ≡ row g y j sum xs n
   row_end inv b h l m = reached inv.fill (omega arith) (row_length g y j sum xs n h l m)
 

@@ -9,7 +9,7 @@ use crate::bits::{Bits, MAX_BITS, nots};
 use store::gates::{FALSE, TRUE, and2, or2, xor2};
 
 // A bit of a sum, and the carry out of it.
-#[derive(Drop)]
+#[derive(Clone, Copy)]
 pub struct SumBit {
     pub bit: u32,
     pub carry: u32,

@@ -17,7 +17,7 @@ use store::gates::FALSE;
 use terms::{Args, Term};
 
 // The operations that take an argument list.
-#[derive(Drop)]
+#[derive(Clone, Copy)]
 pub enum Operation {
     And,
     Or,

@@ -1,5 +1,7 @@
 // The rules of operations that take an argument list: and, or, xor, mult and add. Each takes the place of a step's literal, and
 // answers with the verdict on it.
+#![tactic(auto)]
+
 mod folds;
 
 ghost use Rattle.std.specs.Prelude.{◌≡◌, ◌+◌, ◌<◌};

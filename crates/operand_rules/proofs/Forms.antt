@@ -8,7 +8,7 @@ use native.Mathlib.Omega.{arith}
 use lib.Dec.{T, eqb, ltb, ltb→lt}
 use lib.Ieee.Fits.{and_l, and_r}
 use lib.ListN.{length, get_or}
-use types.Run.{OneOf}
+use borrow.Enum.Refused.{Among, opened}
 use denote.Enum.Declared.{tag_of}
 use Rattle.theory.specs.Limit.{first_terms}
 use Rattle.theory.specs.Kind.{Op, Equals, kind, arity, takes}
@@ -55,9 +55,9 @@ others k =
     without k
     (1 ∷ 2 ∷ 3 ∷ 4 ∷ 5 ∷ 6 ∷ 7 ∷ 8 ∷ 9 ∷ 10 ∷ 11 ∷ 12 ∷ 13 ∷ 14 ∷ 15 ∷ 16 ∷ 17 ∷ 18 ∷ 19 ∷ 20 ∷ 21 ∷ 22 ∷ 23 ∷ 24 ∷ 25 ∷ 26 ∷ 27 ∷ 28 ∷ 29 ∷ 30 ∷ 31 ∷ 32 ∷ 33 ∷ 34 ∷ 35 ∷ [])
 
-pub not_kind : (k : ℕ) (t : Decoded) → OneOf (0 ∷ others k) (tag_of E.the_type t) → T (all_other (get_or kinds k 0) (0 ∷ others k))
+pub not_kind : (k : ℕ) (t : Decoded) → Among (0 ∷ others k) (tag_of E.the_type t) → T (all_other (get_or kinds k 0) (0 ∷ others k))
     → eqb (kind (op_of t)) (get_or kinds k 0) ≡ false
-not_kind k t e h = other_kind (get_or kinds k 0) 0 (others k) t e h
+not_kind k t e h = other_kind (get_or kinds k 0) 0 (others k) t (opened e) h
 
 module _ {job work : Bytes} {n p : ℕ} {t : Decoded} (s : TermAt job work n p t) where
   -- a term of another kind has not the form
@@ -68,7 +68,7 @@ module _ {job work : Bytes} {n p : ℕ} {t : Decoded} (s : TermAt job work n p t
       ∙ ap (λ (b : Bool). form (cond b (some (to_list (from_list (map (tree_at (listed job work n)) (arguments_of job t))))) none) f) e)
 
   -- the else of a pattern
-  pub no_case : (k : ℕ) → OneOf (0 ∷ others k) (tag_of E.the_type t) → T (all_other (get_or kinds k 0) (0 ∷ others k)) → (f : List Term → Verdict)
+  pub no_case : (k : ℕ) → Among (0 ∷ others k) (tag_of E.the_type t) → T (all_other (get_or kinds k 0) (0 ∷ others k)) → (f : List Term → Verdict)
       → wrong_form ≡ form (args_of (get_or kinds k 0) (tree job work n p)) f
   no_case k e h f = no_form (get_or kinds k 0) (not_kind k t e h) f
 
@@ -172,7 +172,7 @@ module _ {job work : Bytes} {n p : ℕ} {t : Decoded} (s : TermAt job work n p t
   }
 
   -- ---- the literal of a rule
-  pub no_equation : (rule : Rule) → OneOf (0 ∷ others 9) (tag_of E.the_type t) → wrong_form ≡ verdict rule (tree job work n p)
+  pub no_equation : (rule : Rule) → Among (0 ∷ others 9) (tag_of E.the_type t) → wrong_form ≡ verdict rule (tree job work n p)
   unfolding verdict
   no_equation rule e = no_case 9 e tt _
 

@@ -6,7 +6,8 @@ use Prim.Native.Nat.{ℕ, zero, suc, ◌+◌, ◌^◌, ◌<◌, ◌≤◌}
 use native.Mathlib.Nat.{add-zero, zero-add}
 use native.Mathlib.Omega.{arith}
 use borrow.Author.Tests.{lt-ltb, le-leb}
-use types.Run.{OneOf, miss}
+use types.Run.{miss}
+use borrow.Enum.Refused.{Among, opened}
 use denote.Enum.Declared.{tag_of}
 use Rattle.theory.specs.Limit.{first_terms}
 use Rattle.theory.specs.Kind.{Const}
@@ -32,10 +33,10 @@ use Rattle.operand_rules.proofs.Numbers.{few}
 use Rattle.theory.proofs.Indexed.{bits_same}
 
 -- the else: no bit-vector
-pub not_bits : (u : Term) (v : Verdict) (r : Sort) → OneOf (0 ∷ 1 ∷ []) (tag_of E.the_type r) → sort_read r ≡ sort_of u → not_bit_vector ≡ of_bits u v
+pub not_bits : (u : Term) (v : Verdict) (r : Sort) → Among (0 ∷ 1 ∷ []) (tag_of E.the_type r) → sort_read r ≡ sort_of u → not_bit_vector ≡ of_bits u v
 not_bits u v Bad k e = ap (λ (s : Th.Sort). cond (is_bv_sort s) v not_bit_vector) e
 not_bits u v IsBool k e = ap (λ (s : Th.Sort). cond (is_bv_sort s) v not_bit_vector) e
-not_bits u v (Bv w) k e = absurd (miss (0 ∷ 1 ∷ []) 2 tt k)
+not_bits u v (Bv w) k e = absurd (miss (0 ∷ 1 ∷ []) 2 tt (opened k))
 
 -- a width fits into as many bits
 const_sort : (w : ℕ) → 1 ≤ w → w ≤ 64 → sort_of (node (Const w w) nil) ≡ bv w

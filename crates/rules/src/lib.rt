@@ -1,4 +1,6 @@
 // The 30 rules, by their numbers.
+#![tactic(auto)]
+
 ghost use Rattle.std.specs.Prelude.{◌≡◌, true, ◌+◌, ◌<◌};
 ghost use Rattle.std.proofs.Math.Option.{some};
 ghost use Rattle.theory.specs.Limit.{first_terms};

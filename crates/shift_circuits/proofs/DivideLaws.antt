@@ -155,7 +155,8 @@ module _ (g : Gates ℕ) (standard : Bool) (x0 : ℕ) (xs ys q r r1 q1 : List �
   stepped e a s l b m t c u v lq h = λ i. (quotient i, rest i)
     where
       quotient : quot ≡ (divide_step g standard x0 xs ys (q, r)).0
-      quotient = u ∙ with_left (g.ite_gate below) g.false_gate q1 n lq h ∙ rw (b, l, s, a, c, e)
+      quotient = u ∙ with_left (g.ite_gate below) g.false_gate q1 n lq h
+          ∙ ap (λ (z : ℕ). map (g.ite_gate z g.false_gate) (take n q1)) (c ∙ ap (λ (z : List ℕ). no_carry g standard z ys) e) ∙ rw (b, l, s, a)
 
       rest : rem ≡ (divide_step g standard x0 xs ys (q, r)).1
       rest = v ∙ rw (t, m, s, a, c, e)

@@ -25,24 +25,24 @@ power s h = shl_exact 1 s 64 (omega arith) (omega arith) ∙ one
     one = omega arith
 
 -- ---- a stage to the left, t being 2 ^ s
-pub record Shl_stage (g : Gates ℕ) (s t y : ℕ) (ps : List ℕ) (n : ℕ) (out : List ℕ) (i : ℕ) : Type 0 where
+pub record ShlStage (g : Gates ℕ) (s t y : ℕ) (ps : List ℕ) (n : ℕ) (out : List ℕ) (i : ℕ) : Type 0 where
   pub places : t ≡ 2 ^ s
   pub fill : Filling (bit_of 0 (shl_stage g s y (take n ps))) n out i
 
 module _ {g : Gates ℕ} {s t y : ℕ} {ps : List ℕ} {n : ℕ} {out : List ℕ} where
-  pub shl_start : length out ≡ 64 → t ≡ 2 ^ s → Shl_stage g s t y ps n out 0
+  pub shl_start : length out ≡ 64 → t ≡ 2 ^ s → ShlStage g s t y ps n out 0
   shl_start e z = record { places = z; fill = fill_start e }
 
-  pub shl_low : {i f v : ℕ} → Shl_stage g s t y ps n out i → v ≡ g.ite_gate y f (get_or ps i 0) → f ≡ g.false_gate
-      → i < t → i < n → n ≤ 64 → n ≤ length ps → Shl_stage g s t y ps n (set out i v) (i + 1)
+  pub shl_low : {i f v : ℕ} → ShlStage g s t y ps n out i → v ≡ g.ite_gate y f (get_or ps i 0) → f ≡ g.false_gate
+      → i < t → i < n → n ≤ 64 → n ≤ length ps → ShlStage g s t y ps n (set out i v) (i + 1)
   shl_low {i} inv e z b h k l =
       record {
         places = inv.places;
         fill = fill_turn inv.fill (e ∙ rw (z, ← get_or-take n ps i 0 h) (sym (shl_stage_below g 0 s y (take n ps) i (rw (length-take-le n ps l) h) (rw (← inv.places) b)))) h k;
       }
 
-  pub shl_high : {i f v : ℕ} → Shl_stage g s t y ps n out i → v ≡ g.ite_gate y f (get_or ps i 0) → f ≡ get_or ps (i - t) 0
-      → t ≤ i → i < n → n ≤ 64 → n ≤ length ps → Shl_stage g s t y ps n (set out i v) (i + 1)
+  pub shl_high : {i f v : ℕ} → ShlStage g s t y ps n out i → v ≡ g.ite_gate y f (get_or ps i 0) → f ≡ get_or ps (i - t) 0
+      → t ≤ i → i < n → n ≤ 64 → n ≤ length ps → ShlStage g s t y ps n (set out i v) (i + 1)
   shl_high {i} inv e z b h k l =
       record {
         places = inv.places;
@@ -52,23 +52,23 @@ module _ {g : Gates ℕ} {s t y : ℕ} {ps : List ℕ} {n : ℕ} {out : List ℕ
             (sym (shl_stage_above g 0 s y (take n ps) i (rw (length-take-le n ps l) h) (rw (← inv.places) b)))) h k;
       }
 
-  pub shl_end : {i : ℕ} → Shl_stage g s t y ps n out i → n ≤ i → n ≤ length ps → take n out ≡ shl_stage g s y (take n ps)
+  pub shl_end : {i : ℕ} → ShlStage g s t y ps n out i → n ≤ i → n ≤ length ps → take n out ≡ shl_stage g s y (take n ps)
   shl_end inv h l =
       reached inv.fill h (length_shl_bits g y (take n ps) (replicate (2 ^ s) g.false_gate ++ take n ps) (rw (length-append (replicate (2 ^ s) g.false_gate) (take n ps)) (omega arith)) ∙ length-take-le n ps l)
 
 -- ---- a stage to the right; `stays` is not y
-pub record Shr_stage (g : Gates ℕ) (fill s t y stays : ℕ) (ps : List ℕ) (n : ℕ) (out : List ℕ) (i : ℕ) : Type 0 where
+pub record ShrStage (g : Gates ℕ) (fill s t y stays : ℕ) (ps : List ℕ) (n : ℕ) (out : List ℕ) (i : ℕ) : Type 0 where
   pub places : t ≡ 2 ^ s
   pub small : t ≤ 9223372036854775808
   pub flips : stays ≡ g.not_gate y
   pub filled : Filling (bit_of 0 (shr_stage g fill s y (take n ps))) n out i
 
 module _ {g : Gates ℕ} {fill s t y stays : ℕ} {ps : List ℕ} {n : ℕ} {out : List ℕ} where
-  pub shr_start : length out ≡ 64 → t ≡ 2 ^ s → s < 64 → stays ≡ g.not_gate y → Shr_stage g fill s t y stays ps n out 0
+  pub shr_start : length out ≡ 64 → t ≡ 2 ^ s → s < 64 → stays ≡ g.not_gate y → ShrStage g fill s t y stays ps n out 0
   shr_start e z b f = record { places = z; small = rw z (pow_mono {i = s} {j = 63} (omega arith)); flips = f; filled = fill_start e }
 
-  pub shr_low : {i v : ℕ} → Shr_stage g fill s t y stays ps n out i → v ≡ g.ite_gate stays (get_or ps i 0) (get_or ps (i + t) 0)
-      → i + t < n → i < n → n ≤ 64 → n ≤ length ps → Shr_stage g fill s t y stays ps n (set out i v) (i + 1)
+  pub shr_low : {i v : ℕ} → ShrStage g fill s t y stays ps n out i → v ≡ g.ite_gate stays (get_or ps i 0) (get_or ps (i + t) 0)
+      → i + t < n → i < n → n ≤ 64 → n ≤ length ps → ShrStage g fill s t y stays ps n (set out i v) (i + 1)
   shr_low {i} inv e b h k l =
       record {
         places = inv.places;
@@ -80,8 +80,8 @@ module _ {g : Gates ℕ} {fill s t y stays : ℕ} {ps : List ℕ} {n : ℕ} {out
             (sym (shr_stage_in g 0 fill s y (take n ps) i (rw (length-take-le n ps l, ← inv.places) b)))) h k;
       }
 
-  pub shr_high : {i v : ℕ} → Shr_stage g fill s t y stays ps n out i → v ≡ g.ite_gate y fill (get_or ps i 0)
-      → n ≤ i + t → i < n → n ≤ 64 → n ≤ length ps → Shr_stage g fill s t y stays ps n (set out i v) (i + 1)
+  pub shr_high : {i v : ℕ} → ShrStage g fill s t y stays ps n out i → v ≡ g.ite_gate y fill (get_or ps i 0)
+      → n ≤ i + t → i < n → n ≤ 64 → n ≤ length ps → ShrStage g fill s t y stays ps n (set out i v) (i + 1)
   shr_high {i} inv e b h k l =
       record {
         places = inv.places;
@@ -93,7 +93,7 @@ module _ {g : Gates ℕ} {fill s t y stays : ℕ} {ps : List ℕ} {n : ℕ} {out
             (sym (shr_stage_out g 0 fill s y (take n ps) i (rw (length-take-le n ps l) h) (rw (length-take-le n ps l, ← inv.places) b)))) h k;
       }
 
-  pub shr_end : {i : ℕ} → Shr_stage g fill s t y stays ps n out i → n ≤ i → n ≤ length ps → take n out ≡ shr_stage g fill s y (take n ps)
+  pub shr_end : {i : ℕ} → ShrStage g fill s t y stays ps n out i → n ≤ i → n ≤ length ps → take n out ≡ shr_stage g fill s y (take n ps)
   shr_end inv h l = reached inv.filled h (length_shr_bits g fill y (take n ps) (drop (2 ^ s) (take n ps)) ∙ length-take-le n ps l)
 
 -- ---- over the stages
@@ -126,16 +126,16 @@ module _ {f : List ℕ → List ℕ} {ys : List ℕ} {n stages : ℕ} {res : Lis
   pub stages_end : {s : ℕ} → Staging f ys n stages res s → stages ≤ s → take n res ≡ f (take (clog2 n) (take n ys))
   stages_end {s} inv h = rw (← inv.count, le_antisymm h inv.passed) inv.says
 
-pub record Shl_stages (g : Gates ℕ) (xs ys : List ℕ) (n stages : ℕ) (res : List ℕ) (s : ℕ) : Type 0 where
+pub record ShlStages (g : Gates ℕ) (xs ys : List ℕ) (n stages : ℕ) (res : List ℕ) (s : ℕ) : Type 0 where
   pub run : Staging (λ bs. shl_stages g 0 bs (take n xs)) ys n stages res s
 
 module _ {g : Gates ℕ} {xs ys : List ℕ} {n stages : ℕ} where
-  pub shl_stages_start : stages ≡ clog2 n → Shl_stages g xs ys n stages xs 0
+  pub shl_stages_start : stages ≡ clog2 n → ShlStages g xs ys n stages xs 0
   unfolding shl_stages
   shl_stages_start e = record { run = stages_start e refl }
 
-  pub shl_stages_turn : {res res' : List ℕ} {s : ℕ} → Shl_stages g xs ys n stages res s → take n res' ≡ shl_stage g s (get_or ys s 0) (take n res)
-      → s < stages → n ≤ length ys → Shl_stages g xs ys n stages res' (s + 1)
+  pub shl_stages_turn : {res res' : List ℕ} {s : ℕ} → ShlStages g xs ys n stages res s → take n res' ≡ shl_stage g s (get_or ys s 0) (take n res)
+      → s < stages → n ≤ length ys → ShlStages g xs ys n stages res' (s + 1)
   shl_stages_turn {s} inv e h l =
       let b : s < n = omega (arith, inv.run.few) in
       record {
@@ -143,19 +143,19 @@ module _ {g : Gates ℕ} {xs ys : List ℕ} {n stages : ℕ} where
             (e ∙ rw (← get_or-take n ys s 0 b, inv.run.says) (sym (shl_stages_take g 0 (take n ys) (take n xs) s (rw (length-take-le n ys l) b))));
       }
 
-  pub shl_stages_end : {res : List ℕ} {s : ℕ} → Shl_stages g xs ys n stages res s → stages ≤ s → take n res ≡ shl_stages g 0 (take (clog2 n) (take n ys)) (take n xs)
+  pub shl_stages_end : {res : List ℕ} {s : ℕ} → ShlStages g xs ys n stages res s → stages ≤ s → take n res ≡ shl_stages g 0 (take (clog2 n) (take n ys)) (take n xs)
   shl_stages_end inv h = stages_end inv.run h
 
-pub record Shr_stages (g : Gates ℕ) (fill : ℕ) (xs ys : List ℕ) (n stages : ℕ) (res : List ℕ) (s : ℕ) : Type 0 where
+pub record ShrStages (g : Gates ℕ) (fill : ℕ) (xs ys : List ℕ) (n stages : ℕ) (res : List ℕ) (s : ℕ) : Type 0 where
   pub run : Staging (λ bs. shr_stages g fill 0 bs (take n xs)) ys n stages res s
 
 module _ {g : Gates ℕ} {fill : ℕ} {xs ys : List ℕ} {n stages : ℕ} where
-  pub shr_stages_start : stages ≡ clog2 n → Shr_stages g fill xs ys n stages xs 0
+  pub shr_stages_start : stages ≡ clog2 n → ShrStages g fill xs ys n stages xs 0
   unfolding shr_stages
   shr_stages_start e = record { run = stages_start e refl }
 
-  pub shr_stages_turn : {res res' : List ℕ} {s : ℕ} → Shr_stages g fill xs ys n stages res s → take n res' ≡ shr_stage g fill s (get_or ys s 0) (take n res)
-      → s < stages → n ≤ length ys → Shr_stages g fill xs ys n stages res' (s + 1)
+  pub shr_stages_turn : {res res' : List ℕ} {s : ℕ} → ShrStages g fill xs ys n stages res s → take n res' ≡ shr_stage g fill s (get_or ys s 0) (take n res)
+      → s < stages → n ≤ length ys → ShrStages g fill xs ys n stages res' (s + 1)
   shr_stages_turn {s} inv e h l =
       let b : s < n = omega (arith, inv.run.few) in
       record {
@@ -163,7 +163,7 @@ module _ {g : Gates ℕ} {fill : ℕ} {xs ys : List ℕ} {n stages : ℕ} where
             (e ∙ rw (← get_or-take n ys s 0 b, inv.run.says) (sym (shr_stages_take g 0 fill (take n ys) (take n xs) s (rw (length-take-le n ys l) b))));
       }
 
-  pub shr_stages_end : {res : List ℕ} {s : ℕ} → Shr_stages g fill xs ys n stages res s → stages ≤ s → take n res ≡ shr_stages g fill 0 (take (clog2 n) (take n ys)) (take n xs)
+  pub shr_stages_end : {res : List ℕ} {s : ℕ} → ShrStages g fill xs ys n stages res s → stages ≤ s → take n res ≡ shr_stages g fill 0 (take (clog2 n) (take n ys)) (take n xs)
   shr_stages_end inv h = stages_end inv.run h
 
 -- ---- the whole shift: the stages, and then the bound

@@ -8,7 +8,7 @@ use native.Mathlib.Omega.{arith}
 use lib.Dec.{T, eqb, eqb→eq, eqb_refl, leb, leb→le, ltb→lt}
 use lib.Ieee.Fits.{and_l, and_r}
 use lib.ListN.{length, get_or}
-use types.Run.{OneOf}
+use borrow.Enum.Refused.{Among}
 use denote.Enum.Declared.{tag_of}
 use Rattle.theory.specs.Limit.{first_terms, max_width}
 use Rattle.theory.specs.Kind.{Op, BvConcat, BvExtract, SignExtend, ZeroExtend, Repeat, kind, indices, arity, takes}
@@ -68,7 +68,7 @@ module _ {job work : Bytes} {n p : ℕ} {t : Decoded} (s : TermAt job work n p t
       ap (args_of (kind o)) (made_of s o ops e d) ∙ ap (λ (b : Bool). cond b (some (to_list (from_list us))) none) (same_eqb (kind o)) ∙ ap some (to_from_list us)
 
   -- none, in the else of a pattern
-  pub args_not : (k : ℕ) → OneOf (0 ∷ others k) (tag_of E.the_type t) → T (all_other (get_or kinds k 0) (0 ∷ others k)) → args_of (get_or kinds k 0) (tree job work n p) ≡ none
+  pub args_not : (k : ℕ) → Among (0 ∷ others k) (tag_of E.the_type t) → T (all_other (get_or kinds k 0) (0 ∷ others k)) → args_of (get_or kinds k 0) (tree job work n p) ≡ none
   unfolding args_of
   args_not k e h =
       ap (args_of (get_or kinds k 0)) s.made

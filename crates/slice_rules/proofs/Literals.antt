@@ -5,7 +5,7 @@ use mathlib.Core.List.{List, [], ◌∷◌, map}
 use mathlib.Core.Option.{Option, none, some}
 use Prim.Native.Nat.{ℕ, zero, suc, ◌+◌, ◌-◌, ◌*◌, ◌^◌, ◌<◌, ◌≤◌}
 use native.Mathlib.Omega.{arith}
-use types.Run.{OneOf}
+use borrow.Enum.Refused.{Among}
 use denote.Enum.Declared.{tag_of}
 use lib.Dec.{T, eqb, ltb, ltb→lt}
 use lib.Ieee.Fits.{and_l, and_r}
@@ -46,7 +46,7 @@ module _ {job work : Bytes} {n p : ℕ} {t : Decoded} (s : TermAt job work n p t
   constant_form w x e d f =
       sym (ap (λ (q : Option (List Term)). constant q (f (index_of 1 (tree job work n p)))) (args_are s (Const w x) None e d) ∙ ap f (index_is s 1 (Const w x) e))
 
-  pub no_constant : OneOf (0 ∷ others 4) (tag_of E.the_type t) → (v : Verdict) → not_constant ≡ constant (args_of constant_kind (tree job work n p)) v
+  pub no_constant : Among (0 ∷ others 4) (tag_of E.the_type t) → (v : Verdict) → not_constant ≡ constant (args_of constant_kind (tree job work n p)) v
   no_constant e v = sym (ap (λ (q : Option (List Term)). constant q v) (args_not s 4 e tt))
 
 -- ---- a literal bit, by its number

@@ -6,7 +6,7 @@ use mathlib.Core.Option.{Option, none, some}
 use Prim.Native.Nat.{ℕ, suc, ◌+◌, ◌<◌, ◌≤◌}
 use native.Mathlib.Numerals.{add-one}
 use native.Mathlib.Omega.{arith}
-use types.Run.{OneOf}
+use borrow.Enum.Refused.{Among}
 use denote.Enum.Declared.{tag_of}
 use lib.Dec.{eqb}
 use lib.ListN.{length, drop, get_or, length-map, drop_of_length-le}
@@ -77,7 +77,7 @@ two_of_is f (x ∷ y ∷ []) h = refl
 two_of_is f (x ∷ y ∷ z ∷ ks) h = absurd (omega arith)
 
 module _ {job work : Bytes} {n p : ℕ} {t : Decoded} (s : TermAt job work n p t) where
-  pub not_and : OneOf (0 ∷ others 15) (tag_of E.the_type t) → Conjunction job work n p Other
+  pub not_and : Among (0 ∷ others 15) (tag_of E.the_type t) → Conjunction job work n p Other
   not_and e = record { arguments = sym (ap (either none two_of) (args_not s 15 e tt)); kept = tt }
 
   module _ {a : Args} where

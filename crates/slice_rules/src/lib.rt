@@ -1,4 +1,6 @@
 // The rules that take bit-vectors apart, join them or move their bits: each takes the place of a step's literal, and answers with the verdict on it.
+#![tactic(auto)]
+
 pub mod constants;
 pub mod moves;
 pub mod parts;

@@ -16,14 +16,14 @@ use store::terms_at::term_at;
 use terms::{Args, Term};
 
 // The arguments of a conjunction of just two, or none.
-#[derive(Drop)]
+#[derive(Clone, Copy)]
 pub enum Pair {
     Two(u32, u32),
     Other,
 }
 
 // A slice that is as it should be, with its lower index, or the verdict on it.
-#[derive(Drop)]
+#[derive(Clone, Copy)]
 pub enum Slice {
     Next(u32),
     Refused(Verdict),

@@ -1,9 +1,0 @@
-use borrow.Author.Rules.{rules}
-use Rattle.circuits.proofs.compare.sign_bit.Statement.{statement}
-use Rattle.circuits.proofs.compare.sign_bit.Tie as tie
-
-returns : tie.Need-returns
-returns c = cc
-
-pub sign-bit-spec : {M : Type 1} → statement M
-sign-bit-spec = tie.close (tie.spec (λ c κs. search rules) (λ c κs. search rules) returns)

@@ -1,0 +1,32 @@
+use borrow.Author.Rules.{rules}
+use mathlib.Core.Path.{ap, ◌∙◌}
+use Rattle.theory.specs.Term.{Term}
+use Rattle.theory.specs.Verdict.{held}
+use Rattle.theory.specs.Rule.{compare}
+use Rattle.operand_rules.specs.Rules.{tree}
+use Rattle.operand_rules.proofs.Numbers.{ends, bits_end}
+use Rattle.list_rules.specs.Lists.{arguments, folded_bits, expected}
+use Rattle.list_rules.proofs.Lists.{first_of, first_operand, alike_at, alone_number, many_bits}
+use Rattle.list_rules.proofs.folds.folded_check.Goals as goal
+
+pub returns-then-count-least : goal.returns-then-count-least
+returns-then-count-least c = let a = c.args in
+    ends held (first_of c.requires.alike).store c.requires.claimed (expected a.op (arguments a.job.now a.work.now a.n a.list))
+    (alone_number c.requires c.argument-first.ensures a.op (search rules))
+    c.compare.ensures
+
+pub width_at-w-requires : goal.width_at-w-requires
+width_at-w-requires c = first_operand c.requires c.argument-first.ensures
+
+pub fold_arguments-bits-requires : goal.fold_arguments-bits-requires
+fold_arguments-bits-requires c = alike_at c.requires c.argument-first.ensures c.width_at-w.ensures.value
+
+pub compare_bits-requires : goal.compare_bits-requires
+compare_bits-requires c = record { table = (first_of c.requires.alike).store.table; w_le_max_width = c.width_at-w.ensures.bound.1 }
+
+pub returns : goal.returns
+returns c = let a = c.args in
+    bits_end held (first_of c.requires.alike).store c.requires.claimed (folded_bits a.op (arguments a.job.now a.work.now a.n a.list))
+    c.fold_arguments-bits.ensures c.compare_bits.ensures
+    ∙ ap (λ (t : Term). compare held t (tree a.job.now a.work.now a.n a.claim))
+    (many_bits a.job.now a.work.now a.n a.list a.op (search rules))

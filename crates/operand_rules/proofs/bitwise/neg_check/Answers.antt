@@ -1,0 +1,20 @@
+use mathlib.Core.Path.{sym, ap, ◌∙◌}
+use Rattle.theory.specs.Gates.{term_gates}
+use Rattle.theory.specs.Bits.{get_term_bits}
+use Rattle.theory.specs.Circuit.{negate}
+use Rattle.theory.proofs.Natural.{negate_hom}
+use Rattle.theory.specs.Verdict.{held}
+use Rattle.operand_rules.specs.Rules.{tree}
+use Rattle.operand_rules.proofs.Numbers.{operand_as, store_hom, bits_end}
+use Rattle.operand_rules.proofs.bitwise.neg_check.Goals as goal
+
+pub get_term_bits-xs-requires : goal.get_term_bits-xs-requires
+get_term_bits-xs-requires c = operand_as c.requires.only c.width_at-w.ensures.value
+
+pub returns : goal.returns
+returns c = let a = c.args in
+    let st = c.requires.only.store in
+    let xs = get_term_bits (tree a.job.now a.work.now a.n a.x) in
+    bits_end held st c.requires.claimed (negate term_gates xs)
+    (c.negate-bits.ensures ∙ ap (negate _) c.get_term_bits-xs.ensures ∙ sym (negate_hom (store_hom st) xs))
+    c.compare_bits.ensures

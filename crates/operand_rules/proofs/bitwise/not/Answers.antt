@@ -1,0 +1,27 @@
+use mathlib.Core.Path.{refl, ap, sym, ◌∙◌}
+use Rattle.theory.specs.Kind.{BvNot}
+use Rattle.theory.specs.RuleTable.{by_not}
+use Rattle.theory.specs.Rule.{on_sides}
+use Rattle.terms.specs.Decoded.{op_of, operands_of}
+use Rattle.operand_rules.proofs.Forms.{no_equation, sides, no_case, one_form, left_below, right_below, one_given}
+use Rattle.operand_rules.proofs.bitwise.not.Goals as goal
+
+pub returns-in_default : goal.returns-in_default
+returns-in_default c = no_equation c.term_at.ensures by_not c.in_default.in_default-own.keys2
+
+pub term_at-requires-2 : goal.term_at-requires-2
+term_at-requires-2 c = (c.requires.0, left_below c.term_at.ensures _ _ _ (ap operands_of c.in-Equals.is) c.requires.1)
+
+pub returns-in_default-term_at : goal.returns-in_default-term_at
+unfolding on_sides
+returns-in_default-term_at c = no_case c.term_at-2.ensures 13 c.in_default-term_at.in_default-term_at-own.keys2 tt _ ∙ sides c.term_at.ensures by_not c.in-Equals.is
+
+pub not_check-requires : goal.not_check-requires
+not_check-requires c = let d = ap operands_of c.in-Equals.is in
+    one_given c.term_at-2.ensures c.requires.0 (left_below c.term_at.ensures _ _ _ d c.requires.1) BvNot (λ ss. refl) _ _
+    (ap op_of c.in-BvNot.is) (ap operands_of c.in-BvNot.is) (right_below c.term_at.ensures _ _ _ d c.requires.1)
+
+pub returns : goal.returns
+unfolding on_sides
+returns c = c.not_check.ensures ∙ sym (one_form c.term_at-2.ensures BvNot _ (ap op_of c.in-BvNot.is) (ap operands_of c.in-BvNot.is) _)
+    ∙ sides c.term_at.ensures by_not c.in-Equals.is

@@ -1,0 +1,27 @@
+use mathlib.Core.Path.{refl, ap, sym, ◌∙◌}
+use Rattle.theory.specs.Kind.{BvXNor}
+use Rattle.theory.specs.RuleTable.{by_xnor}
+use Rattle.theory.specs.Rule.{on_sides}
+use Rattle.terms.specs.Decoded.{op_of, operands_of}
+use Rattle.operand_rules.proofs.Forms.{no_equation, sides, no_case, two_form, left_below, right_below, two_given}
+use Rattle.operand_rules.proofs.bitwise.xnor.Goals as goal
+
+pub returns-in_default : goal.returns-in_default
+returns-in_default c = no_equation c.term_at.ensures by_xnor c.in_default.in_default-own.keys2
+
+pub term_at-requires-2 : goal.term_at-requires-2
+term_at-requires-2 c = (c.requires.0, left_below c.term_at.ensures _ _ _ (ap operands_of c.in-Equals.is) c.requires.1)
+
+pub returns-in_default-term_at : goal.returns-in_default-term_at
+unfolding on_sides
+returns-in_default-term_at c = no_case c.term_at-2.ensures 20 c.in_default-term_at.in_default-term_at-own.keys2 tt _ ∙ sides c.term_at.ensures by_xnor c.in-Equals.is
+
+pub xnor_check-requires : goal.xnor_check-requires
+xnor_check-requires c = let d = ap operands_of c.in-Equals.is in
+    two_given c.term_at-2.ensures c.requires.0 (left_below c.term_at.ensures _ _ _ d c.requires.1) BvXNor (λ ss. refl) _ _ _
+    (ap op_of c.in-BvXNor.is) (ap operands_of c.in-BvXNor.is) (right_below c.term_at.ensures _ _ _ d c.requires.1)
+
+pub returns : goal.returns
+unfolding on_sides
+returns c = c.xnor_check.ensures ∙ sym (two_form c.term_at-2.ensures BvXNor _ _ (ap op_of c.in-BvXNor.is) (ap operands_of c.in-BvXNor.is) _)
+    ∙ sides c.term_at.ensures by_xnor c.in-Equals.is

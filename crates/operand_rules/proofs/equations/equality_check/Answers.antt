@@ -1,0 +1,30 @@
+use borrow.Author.Rules.{rules}
+use mathlib.Core.Path.{sym, ap₂, ◌∙◌}
+use Rattle.theory.specs.Circuit.{equality}
+use Rattle.theory.specs.Verdict.{held}
+use Rattle.theory.proofs.Natural.{equality_hom}
+use Rattle.operand_rules.proofs.Numbers.{widths, store_hom, ends}
+use Rattle.operand_rules.proofs.Sorts.{not_bits, operand_told, is_bits}
+use Rattle.operand_rules.proofs.equations.equality_check.Goals as goal
+
+pub returns-in_default : goal.returns-in_default
+returns-in_default c = not_bits _ _ c.sort_at.result c.in_default.in_default-own.keys2 c.sort_at.ensures
+
+pub get_term_bits-xs-requires : goal.get_term_bits-xs-requires
+get_term_bits-xs-requires c = let p = c.requires in
+    operand_told p.store p.left c.sort_at.ensures c.in-Bv.is
+
+pub get_term_bits-ys-requires : goal.get_term_bits-ys-requires
+get_term_bits-ys-requires c = let p = c.requires in
+    operand_told p.store p.right (c.sort_at.ensures ∙ sym p.same) c.in-Bv.is
+
+pub equality-requires : goal.equality-requires
+equality-requires c = let p = c.requires in
+    record { table = search rules; le_w = widths (operand_told p.store p.left c.sort_at.ensures c.in-Bv.is) }
+
+pub returns : goal.returns
+returns c = let p = c.requires in
+    is_bits _ (operand_told p.store p.left c.sort_at.ensures c.in-Bv.is)
+    (ends held p.store p.claimed _
+    (c.equality.ensures ∙ ap₂ (equality _) c.get_term_bits-xs.ensures c.get_term_bits-ys.ensures ∙ sym (equality_hom (store_hom p.store) _ _))
+    c.compare.ensures)

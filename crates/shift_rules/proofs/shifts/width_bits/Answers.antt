@@ -1,0 +1,5 @@
+use Rattle.operand_rules.proofs.Sorts.{width_numbers}
+use Rattle.shift_rules.proofs.shifts.width_bits.Goals as goal
+
+pub returns : goal.returns
+returns c = width_numbers c.requires.store c.args.w c.requires.le_w.0 c.requires.le_w.1 c.constant-size.ensures c.select_bits.ensures

@@ -1,0 +1,24 @@
+use mathlib.Core.Path.{ap, ◌∙◌}
+use Prim.Native.Nat.{ℕ, ◌*◌, ◌≤◌}
+use native.Mathlib.Omega.{arith}
+use Rattle.theory.specs.Limit.{max_width}
+use Rattle.theory.specs.Move.{repetition}
+use Rattle.theory.specs.Bits.{get_term_bits, bb, moved_bits}
+use Rattle.theory.specs.Verdict.{held}
+use Rattle.theory.specs.Rule.{compare}
+use Rattle.operand_rules.specs.Rules.{tree}
+use Rattle.operand_rules.proofs.Numbers.{operand_as}
+use Rattle.slice_rules.proofs.moves.repeat_check.Goals as goal
+
+pub overflow_mul-size : goal.overflow_mul-size
+overflow_mul-size c = let q : c.args.k * c.width_at-w.result ≤ max_width = rw c.width_at-w.ensures.value c.requires.fits in
+    omega arith
+
+pub moved_check-requires : goal.moved_check-requires
+moved_check-requires c = let p = c.requires in let e = c.width_at-w.ensures.value in
+    record { operand = (operand_as p.one.only e, p.one.claimed); size_le_max_width = ((let q = p.fits in rw e q), (omega arith), (omega arith)) }
+
+pub returns : goal.returns
+returns c = let a = c.args in
+    let t = tree a.job.now a.work.now a.n in
+    c.moved_check.ensures ∙ ap (λ (v : ℕ). compare held (bb (moved_bits (repetition a.k v) (get_term_bits (t a.x)))) (t a.claim)) c.width_at-w.ensures.value

@@ -1,0 +1,23 @@
+use mathlib.Core.Path.{ap, ◌∙◌}
+use Prim.Native.Nat.{ℕ}
+use native.Mathlib.Omega.{arith}
+use native.Mathlib.Nat.{mod-lt, le_of_lt}
+use Rattle.theory.specs.Move.{left_rotation}
+use Rattle.theory.specs.Bits.{get_term_bits, bb, moved_bits}
+use Rattle.theory.specs.Verdict.{held}
+use Rattle.theory.specs.Rule.{compare}
+use Rattle.operand_rules.specs.Rules.{tree}
+use Rattle.operand_rules.proofs.Numbers.{operand_as}
+use Rattle.slice_rules.proofs.moves.rotate_left_check.Goals as goal
+
+pub overflow_sub-shift : goal.overflow_sub-shift
+overflow_sub-shift c = le_of_lt (mod-lt c.args.k c.width_at-w.ensures.bound.0)
+
+pub moved_check-requires : goal.moved_check-requires
+moved_check-requires c = let p = c.requires in let e = c.width_at-w.ensures.value in
+    record { operand = (operand_as p.only e, p.claimed); size_le_max_width = (c.width_at-w.ensures.bound.1, (omega arith), (omega arith)) }
+
+pub returns : goal.returns
+returns c = let a = c.args in
+    let t = tree a.job.now a.work.now a.n in
+    c.moved_check.ensures ∙ ap (λ (v : ℕ). compare held (bb (moved_bits (left_rotation a.k v) (get_term_bits (t a.x)))) (t a.claim)) c.width_at-w.ensures.value
