@@ -136,7 +136,7 @@ module _ (job work memory : Bytes) (n answered : ℕ) where
   pub premise_none : {number : ℕ} → number ≡ 0 → none ≡ premise_place E number
   premise_none {number} e = rw e
 
-  module _ {number : ℕ} (Some_number : number ≡ 0 → ⊥) where
+  module _ {number : ℕ} (some_number : number ≡ 0 → ⊥) where
     next : number ≡ suc (number - 1)
     next = omega arith
 

@@ -8,7 +8,7 @@ use native.Mathlib.Omega.{arith}
 use lib.Dec.{leb}
 use borrow.Author.Tests.{leb-true}
 use lib.ListN.{get_elem?}
-use types.Run.{OneOf}
+use borrow.Enum.Refused.{Among}
 use denote.Enum.Declared.{tag_of}
 use Rattle.theory.specs.Kind.{Equals}
 use Rattle.theory.specs.Term.{Term}
@@ -67,7 +67,7 @@ refused_is by claim h (some ts) = h ts
 
 module _ {job work : Bytes} {n p : ℕ} {t : Decoded} (s : TermAt job work n p t) (by : ChainRule) where
   -- the claim is no equation
-  pub no_claim : OneOf (0 ∷ others 9) (tag_of E.the_type t)
+  pub no_claim : Among (0 ∷ others 9) (tag_of E.the_type t)
       → (q : Option (List Term)) → cond (is_some q) wrong_form premise_broken ≡ joined by q (tree job work n p)
   unfolding chain_verdict
   no_claim e = refused_is by (tree job work n p) (λ ts. no_case s 9 e tt _)

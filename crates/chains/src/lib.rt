@@ -1,4 +1,6 @@
 // Chains: steps that join the equalities of earlier steps. A premise is an earlier step that is held and whose literal has not been dropped since.
+#![tactic(auto)]
+
 mod joining;
 pub mod premises;
 

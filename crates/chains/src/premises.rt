@@ -15,14 +15,14 @@ use store::terms_at::term_at;
 use terms::{Args, Item, Term};
 
 // The place of a premise's literal, or that there is no such premise.
-#[derive(Drop)]
+#[derive(Clone, Copy)]
 pub enum Premise {
     Literal(u32),
     Broken,
 }
 
 // The two sides of a premise, or that there are none.
-#[derive(Drop)]
+#[derive(Clone, Copy)]
 pub enum Sides {
     Of(u32, u32),
     None,

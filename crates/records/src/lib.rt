@@ -1,4 +1,6 @@
 // One record of a job: its tests in document 01's order, and what it does to the terms and the answers where it passes.
+#![tactic(auto)]
+
 ghost use Rattle.std.specs.Prelude.{◌≡◌, true, cond, [], ◌∷◌, ℕ, suc, ◌+◌, ◌*◌, ◌<◌, ◌≤◌, leb, length, drop};
 ghost use Rattle.theory.specs.Limit as L;
 ghost use Rattle.theory.specs.Limit.{answer_bytes, first_terms};
@@ -33,7 +35,7 @@ const LAST_CHAIN_RULE: u32 = 33;
 
 // The result of a record: the code that stops the job or 0, and then the answers written, the rows kept, and the repeats: 1 where it is a term that
 // was found, not new.
-#[derive(Drop)]
+#[derive(Clone, Copy)]
 pub struct Turn {
     pub code: u32,
     pub answers: usize,

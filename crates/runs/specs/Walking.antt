@@ -1,6 +1,6 @@
 -- Where a job stands between two records, what the next record does to it, and what the job comes to.
 use Rattle.std.specs.Prelude.{◌≡◌, true, false, cond, ℕ, zero, suc, ◌+◌, ◌-◌, ◌*◌, ◌≤◌, ◌<◌, leb, length, take, drop}
-use Rattle.std.specs.Borrow.{Bor}
+use Rattle.std.specs.Borrow.{Bor, MutBor}
 use denote.Triple.Both.{Both}
 use Rattle.theory.specs.Limit.{Limits, first_terms, max_job, answer_bytes}
 use Rattle.theory.specs.Record.{Bytes, extent, whole, records_of, total_length, number_length}
@@ -23,7 +23,7 @@ abbrev pub told : Outcome → Returned
 told o = record { stop = o.stop; records = o.records; answers = o.answers; terms = o.terms; repeats = o.repeats }
 
 -- all that a call does under stated limits, with a job, a work memory and an answers' memory as they are lent
-abbrev pub job_call : {X Y Z : Type 0} → Limits → Both (Bor Bytes) X → Both (Bor Bytes) Y → Both (Bor Bytes) Z → Call
+abbrev pub job_call : {X Y Z : Type 0} → Limits → Both (Bor Bytes) X → Both (MutBor Bytes) Y → Both (MutBor Bytes) Z → Call
 job_call limits job work answers = call limits job.entry.now work.entry.now answers.entry.now
 
 -- a state by its parts

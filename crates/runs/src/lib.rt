@@ -1,4 +1,6 @@
 // A job run to its end: its records one after the other, the terms kept in work memory, and an answer for each step.
+#![tactic(auto)]
+
 pub mod finished;
 pub mod walk;
 
@@ -16,7 +18,7 @@ pub const MAX_JOB: usize = 16777216;
 // What a job comes to: the code that stopped it or 0, the records done, the answers written, the terms kept at the end, and the repeats: the term
 // records done whose term was there already.
 #[repr(C)]
-#[derive(Drop)]
+#[derive(Clone, Copy)]
 pub struct Outcome {
     pub stop: u32,
     pub records: u32,

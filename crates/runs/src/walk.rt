@@ -10,7 +10,7 @@ use terms::{Frame, Term, stop};
 
 // Where a job stands: the place of the next record, the code that stopped the job or 0, the records done, the answers written, the rows kept,
 // the repeats.
-#[derive(Drop)]
+#[derive(Clone, Copy)]
 pub struct State {
     pub at: usize,
     pub stop: u32,

@@ -7,7 +7,7 @@ use Prim.Native.Nat.{ℕ}
 use native.Mathlib.Omega.{arith}
 use lib.Dec.{eqb}
 use lib.ListN.{get_elem?}
-use types.Run.{OneOf}
+use borrow.Enum.Refused.{Among}
 use denote.Enum.Declared.{tag_of}
 use Rattle.theory.specs.Kind.{Equals, kind}
 use Rattle.theory.specs.Term.{Term, node, to_list, from_list}
@@ -32,7 +32,7 @@ use Rattle.steps.specs.Answering.{equation_depth}
 
 module _ {job work : Bytes} {n p : ℕ} {t : Decoded} (s : TermAt job work n p t) where
   -- a term of another kind has none
-  pub no_sides : OneOf (0 ∷ others 9) (tag_of E.the_type t) → sides (tree job work n p) ≡ none
+  pub no_sides : Among (0 ∷ others 9) (tag_of E.the_type t) → sides (tree job work n p) ≡ none
   unfolding args_of
   no_sides e =
       ap sides s.made
@@ -44,7 +44,7 @@ module _ {job work : Bytes} {n p : ℕ} {t : Decoded} (s : TermAt job work n p t
   two_sides {l} {r} e = ap sides (made_of s Equals (TwoArgs l r) (ap op_of e) (ap operands_of e))
 
   -- their depth
-  pub no_depth : OneOf (0 ∷ others 9) (tag_of E.the_type t) → 0 ≡ equation_depth (tree job work n p)
+  pub no_depth : Among (0 ∷ others 9) (tag_of E.the_type t) → 0 ≡ equation_depth (tree job work n p)
   no_depth e = sym (ap (either 0 (λ (q : Sides). depth q.1)) (no_sides e))
 
   pub right_of : {l r : ℕ} → t ≡ D.Equals l r → depth (tree job work n r) ≡ equation_depth (tree job work n p)

@@ -11,7 +11,7 @@ use rows::layout::OFFSET_BYTES;
 use terms::{ANSWER_KIND_AT, CODE_AT, DEPTH_AT, RULE_AT, Term};
 
 // The answer to a step, but for its rule: the verdict's code, and a depth.
-#[derive(Drop)]
+#[derive(Clone, Copy)]
 pub struct Reply {
     pub code: u32,
     pub depth: usize,

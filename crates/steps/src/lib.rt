@@ -1,4 +1,6 @@
 // The answer to a step's clause: the verdict's code, and the depth of the right side where the step is accepted.
+#![tactic(auto)]
+
 pub mod answers;
 
 ghost use Rattle.std.specs.Prelude.{◌≡◌, true, ◌+◌, ◌<◌};
