@@ -11,7 +11,7 @@ use lib.ListN.{length, drop, get_or}
 use Rattle.theory.specs.Limit.{first_terms}
 use Rattle.theory.specs.Kind.{many, arity, takes}
 use Rattle.theory.specs.Sort.{Sort, good, sort_width, sort_op, sort_of}
-use Rattle.theory.specs.Value.{Assign, Val, truth, meaning, value}
+use Rattle.theory.specs.Value.{Assign, Val, truth, meaning}
 use Rattle.theory.specs.Record.{Bytes}
 use Rattle.theory.specs.Plain.{Plain}
 use Rattle.theory.specs.Codes.{all_below}

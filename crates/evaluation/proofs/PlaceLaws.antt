@@ -32,11 +32,13 @@ pub sort_back : (s : Sort) → T (good s) → T (sized s) → sort_by (sort_widt
 sort_back bool g z = refl
 sort_back (bv zero) g z = absurd z
 sort_back (bv (suc n)) g z = refl
+sort_back bad g z = elim g [ ]
 
 pub bits_back : (s : Sort) → T (good s) → T (sized s) → bits_by (sort_width s) ≡ sort_bits s
 bits_back bool g z = refl
 bits_back (bv zero) g z = absurd z
 bits_back (bv (suc n)) g z = refl
+bits_back bad g z = elim g [ ]
 
 width_few : (s : Sort) → T (sized s) → sort_width s ≤ 64
 width_few bad z = omega arith
@@ -50,6 +52,7 @@ bit_truth false = refl
 pub val_back : {v : Val} {s : Sort} → Has v s → T (good s) → T (sized s) → val_by (sort_width s) (as_number v) ≡ v
 val_back (is_truth {b}) g z = ap truth (bit_truth b)
 val_back (is_number {n} {x} h) g z = val_word n x (leb→le 1 n (and_l (leb 1 n) _ z))
+val_back {v = v} Rattle.theory.proofs.Sound.any g z = elim g [ ]
 
 -- ---- at a place
 module _ {job work : Bytes} {n : ℕ} {num : ℕ → ℕ} (able : Evaluable job work n num) where

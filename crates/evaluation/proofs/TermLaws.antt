@@ -1,11 +1,10 @@
 -- A term at a place: its arguments may be evaluated, and what they come to is its value.
 use mathlib.Core.Path.{◌≡◌, refl, sym, ap, subst, ◌∙◌}
 use mathlib.Core.List.{List, [], ◌∷◌, map}
-use Prim.Native.Nat.{ℕ, ◌+◌, ◌<◌}
+use Prim.Native.Nat.{ℕ, ◌+◌}
 use native.Mathlib.Omega.{arith}
 use lib.Dec.{T}
 use Rattle.theory.specs.Limit.{first_terms}
-use Rattle.theory.specs.Kind as K
 use Rattle.theory.specs.Kind.{Op}
 use Rattle.theory.specs.Term.{Term, fold, folds, from_list}
 use Rattle.theory.specs.Sort.{Sort, good, sort_op, sort_of}

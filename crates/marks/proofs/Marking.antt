@@ -11,7 +11,6 @@ use borrow.Author.Tests.{eq-eqb, eqb-true, eqb-false}
 use Rattle.rows.specs.Layout.{row_size, link_bytes, link_size}
 use Rattle.theory.specs.Limit.{first_terms}
 use Rattle.theory.specs.Term.{Term, Terms, node, nil, cons, from_list}
-use Rattle.theory.specs.Sort.{sort_of, sort_width}
 use Rattle.theory.specs.Record.{Bytes, number_length}
 use Rattle.theory.specs.Plain.{Plain}
 use Rattle.theory.specs.Claim.{element}
@@ -20,7 +19,6 @@ use Rattle.theory.proofs.Basics.{T_same, true_T, or_left, or_right}
 use Rattle.theory.proofs.Places.{tree_at, more_below}
 use Rattle.theory.specs.Listed.{AllGood}
 use Rattle.theory.proofs.Distinct.{WellKept, kept_at, trees_distinct}
-use Rattle.theory.proofs.Distinct as D
 use Rattle.terms.specs.Framing.{record_at}
 use Rattle.rows.specs.Rows.{kept, kept_as}
 use Rattle.rows.proofs.RowLaws.{column_same}

@@ -11,7 +11,7 @@ use Rattle.theory.specs.Limit.{first_terms}
 use Rattle.theory.specs.Record.{Bytes}
 use Rattle.theory.specs.Places.{tree_at}
 use Rattle.theory.proofs.Basics.{T_true}
-use Rattle.rows.specs.Layout.{link_at, row_size, link_bytes, link_size}
+use Rattle.rows.specs.Layout.{link_at, row_size, link_size}
 use Rattle.rows.specs.Rows.{stored_link}
 use Rattle.rows.proofs.RowLaws.{link_here, link_other}
 use Rattle.store.specs.Store.{listed}

@@ -1,6 +1,8 @@
 // Marks on the kept terms of a job whose records are all taken: which of them stand in the asked one. A row's mark is in the bytes of its
 // link, which is not needed any more. Marks are threaded: the link of a marked row holds the next marked place, so that a pass over the marked
 // terms meets no other.
+#![tactic(auto)]
+
 ghost use Rattle.std.specs.Prelude.{◌≡◌, suc, ◌+◌, ◌-◌, ◌*◌, ◌^◌, ◌≤◌, ◌<◌, length};
 ghost use Rattle.theory.specs.Limit.{first_terms};
 ghost use Rattle.terms.specs.Decoded.{OperandsPlaced, Inside, words_in, numbers_of};

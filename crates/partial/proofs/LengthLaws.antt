@@ -50,3 +50,4 @@ length_known input (node Equals ts) h g v = bool_bits _ g
 length_known input (node Ite ts) h g v = bool_bits _ g
 length_known input (node (BvBitOf j) ts) h g v = bool_bits _ g
 length_known input (node BvBbTerm ts) h g v = length_leads (folds (known_op input) ts) ∙ length_folds (known_op input) sort_op ts ∙ wide_bits _ (length (sorts_of ts)) g
+length_known input _ h g v = elim h [ ]

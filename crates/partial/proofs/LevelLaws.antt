@@ -16,7 +16,6 @@ use Rattle.theory.specs.Claim.{element}
 use Rattle.theory.proofs.Basics.{true_T, T_true}
 use Rattle.theory.proofs.Distinct.{tree_0, tree_1}
 use Rattle.theory.specs.Places.{tree_at}
-use Rattle.terms.specs.declared.Term.TheVariants as D
 use Rattle.store.specs.Store.{listed}
 use Rattle.store.specs.Shelf.{args_at}
 use Rattle.store.proofs.Keeping.{first_args}

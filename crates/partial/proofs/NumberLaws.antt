@@ -57,16 +57,16 @@ known_end (x ∷ l) zero h = absurd (omega arith)
 known_end (x ∷ l) (suc i) h = known_end l i (omega arith)
 
 -- what is left decides
-pub record Known_from (inputs : Bytes) (i : ℕ) : Type 0 where
+pub record KnownFrom (inputs : Bytes) (i : ℕ) : Type 0 where
   pub most : i ≤ length inputs
   pub is : all_below 3 (drop i inputs) ≡ all_below 3 inputs
 
 module _ {inputs : Bytes} where
-  pub known_start : Known_from inputs 0
+  pub known_start : KnownFrom inputs 0
   known_start = record { most = omega arith; is = refl }
 
-  module _ {i : ℕ} (s : Known_from inputs i) (l : i < length inputs) where
-    pub known_turn : get_or inputs i 0 ≤ 2 → Known_from inputs (i + 1)
+  module _ {i : ℕ} (s : KnownFrom inputs i) (l : i < length inputs) where
+    pub known_turn : get_or inputs i 0 ≤ 2 → KnownFrom inputs (i + 1)
     known_turn h = record {
       most = omega arith;
       is = ap (λ (j : ℕ). all_below 3 (drop j inputs)) (add-one i)
@@ -76,7 +76,7 @@ module _ {inputs : Bytes} where
     pub known_stop : 2 < get_or inputs i 0 → false ≡ all_below 3 inputs
     known_stop h = sym (sym s.is ∙ known_from inputs i l ∙ ap (λ (b : Bool). b && all_below 3 (drop (suc i) inputs)) (le-ltb (get_or inputs i 0) 3 (omega arith)))
 
-  pub known_done : {i : ℕ} → Known_from inputs i → length inputs ≤ i → true ≡ all_below 3 inputs
+  pub known_done : {i : ℕ} → KnownFrom inputs i → length inputs ≤ i → true ≡ all_below 3 inputs
   known_done {i} s h = sym (sym s.is ∙ known_end inputs i h)
 
 -- ---- is it derivable?
@@ -256,3 +256,7 @@ module _ {job work after : Bytes} {n asked : ℕ} (m : Marks job work n asked af
 
   pub bits_moved : (inputs : Bytes) → bits_of (listed job after n) asked inputs ≡ bits_of (listed job work n) asked inputs
   bits_moved inputs = ap (λ (list : Plain). bits_of list asked inputs) m.list_is
+
+-- what is promised of the result and two memories, and of the work memory
+pub with_work : {A B C D : Type 0} → A × (B × C) → D → record { code : A; outputs : B; values : C; work : D }
+with_work q d = record { code = q.0; outputs = q.1.0; values = q.1.1; work = d }

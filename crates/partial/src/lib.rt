@@ -1,4 +1,6 @@
 // The bits of a term of the final store where only part of its inputs is known.
+#![tactic(auto)]
+
 pub mod inputs;
 pub mod levels;
 pub mod number;

@@ -8,8 +8,6 @@ use lib.Dec.{T, leb, eqb, leb→le}
 use lib.Ieee.Fits.{and_l, and_r}
 use lib.ListN.{length, take, drop, get_or, length-drop}
 use lib.Seq.{get_or-drop, get_or-take, length-take-le}
-use types.Run.{OneOf}
-use denote.Enum.Declared.{tag_of}
 use borrow.Author.Tests.{eq-eqb}
 use Rattle.theory.specs.Limit.{first_terms}
 use Rattle.theory.specs.Kind.{Op, True, False, Not, And, Or, Xor, Equals, Ite, BoolVar, BvVar, Const, BvBitOf, BvBbTerm, kind}
@@ -31,8 +29,6 @@ use Rattle.terms.specs.declared.Args.{Args}
 use Rattle.terms.specs.declared.Term.{Term as Decoded}
 use Rattle.terms.specs.declared.Term.TheVariants as D
 use Rattle.terms.specs.Decoded.{Inside, OperandsPlaced, op_of, operands_of, arguments_of, words_in}
-use Rattle.terms.proofs.Cases.{other_kind}
-use Rattle.terms.specs.contracts.Term as E
 use Rattle.store.specs.Store.{listed}
 use Rattle.store.specs.Shelf.{TermOn, args_at}
 use Rattle.sweeps.specs.Variables.{is_variable, sort_bits, bits_in}
@@ -185,6 +181,7 @@ good_bv false m g = absurd g
 pub only_bool : (s : Sort) → T (good s) → T (sized s) → sort_width s ≡ 0 → s ≡ bool
 only_bool bool g z e = refl
 only_bool (bv m) g z e = let a = leb→le 1 m (and_l (leb 1 m) _ z) in absurd (omega arith)
+only_bool bad g z e = elim g [ ]
 
 pub bv_bool : (m : ℕ) → bv m ≡ bool → ⊥
 bv_bool m e = let z : ◌≡◌ {A = ℕ} 0 1 = ap tag (sym e) in omega arith
@@ -332,22 +329,26 @@ no_more (node Equals ts) h w a b c = w (bool_width _)
 no_more (node Ite ts) h w a b c = w (bool_width _)
 no_more (node (BvBitOf j) ts) h w a b c = w (bool_width _)
 no_more (node BvBbTerm ts) h w a b c = not_true c
+no_more _ h w a b c = elim h [ ]
 
--- the cases of a decoded term after the first, but for one
-abbrev not_variable : List ℕ
-not_variable = 1 ∷ 2 ∷ 4 ∷ 5 ∷ 6 ∷ 7 ∷ 8 ∷ 9 ∷ 10 ∷ 11 ∷ 12 ∷ 13 ∷ 14 ∷ 15 ∷ 16 ∷ 17 ∷ 18 ∷ 19 ∷ 20 ∷ 21 ∷ 22 ∷ 23 ∷ 24 ∷ 25 ∷ 26 ∷ 27 ∷ 28 ∷ 29 ∷ 30 ∷ 31 ∷ 32 ∷ 33 ∷ 34 ∷ 35 ∷ []
+-- a decoded term that is none of these has another kind
+not_variable : (t : Decoded) → ((m v : ℕ) → t ≡ D.BvVar m v → ⊥) → eqb (kind (op_of t)) 11 ≡ false
+not_variable (D.BvVar m v) h = absurd (h m v refl)
+not_variable t h = refl
 
-abbrev not_const : List ℕ
-not_const = 1 ∷ 2 ∷ 3 ∷ 5 ∷ 6 ∷ 7 ∷ 8 ∷ 9 ∷ 10 ∷ 11 ∷ 12 ∷ 13 ∷ 14 ∷ 15 ∷ 16 ∷ 17 ∷ 18 ∷ 19 ∷ 20 ∷ 21 ∷ 22 ∷ 23 ∷ 24 ∷ 25 ∷ 26 ∷ 27 ∷ 28 ∷ 29 ∷ 30 ∷ 31 ∷ 32 ∷ 33 ∷ 34 ∷ 35 ∷ []
+not_const : (t : Decoded) → ((m v : ℕ) → t ≡ D.Const m v → ⊥) → eqb (kind (op_of t)) 12 ≡ false
+not_const (D.Const m v) h = absurd (h m v refl)
+not_const t h = refl
 
-abbrev not_row : List ℕ
-not_row = 1 ∷ 2 ∷ 3 ∷ 4 ∷ 5 ∷ 6 ∷ 7 ∷ 8 ∷ 9 ∷ 10 ∷ 11 ∷ 13 ∷ 14 ∷ 15 ∷ 16 ∷ 17 ∷ 18 ∷ 19 ∷ 20 ∷ 21 ∷ 22 ∷ 23 ∷ 24 ∷ 25 ∷ 26 ∷ 27 ∷ 28 ∷ 29 ∷ 30 ∷ 31 ∷ 32 ∷ 33 ∷ 34 ∷ 35 ∷ []
+not_row : (t : Decoded) → ((a : Args) → t ≡ D.BvBbTerm a → ⊥) → eqb (kind (op_of t)) 31 ≡ false
+not_row (D.BvBbTerm a) h = absurd (h a refl)
+not_row t h = refl
 
 pub bit_never : {job work : Bytes} {n x i : ℕ} → BitAsked job work n x i → {t : Decoded} → TermOn job work n x t → {w : ℕ} → w ≡ sort_width (sort_of (tree_at (listed job work n) x)) → (w ≡ 0 → ⊥)
-    → OneOf (0 ∷ not_variable) (tag_of E.the_type t) → OneOf (0 ∷ not_const) (tag_of E.the_type t) → OneOf (0 ∷ not_row) (tag_of E.the_type t) → ⊥
+    → ((m v : ℕ) → t ≡ D.BvVar m v → ⊥) → ((m v : ℕ) → t ≡ D.Const m v → ⊥) → ((a : Args) → t ≡ D.BvBbTerm a → ⊥) → ⊥
 bit_never {job} {work} {n} {x} s {t} h e z a b c =
     no_more (tree_of (listed job work n) (op_of t) (arguments_of job t)) (kind_made s.closed s.low s.marked h t refl) (λ q. z (e ∙ ap (λ (y : Term). sort_width (sort_of y)) (made s.closed s.low s.marked h t refl) ∙ q))
-    (other_kind 11 0 not_variable t a tt) (other_kind 12 0 not_const t b tt) (other_kind 31 0 not_row t c tt)
+    (not_variable t a) (not_const t b) (not_row t c)
 
 -- a variable, by its decoded term
 pub bv_variable : {job work : Bytes} {n x : ℕ} {t : Decoded} → TermOn job work n x t → (m v : ℕ) → t ≡ D.BvVar m v → T (is_variable (tree_at (listed job work n) x))

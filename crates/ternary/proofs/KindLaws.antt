@@ -2,7 +2,7 @@
 use mathlib.Core.Path.{◌≡◌, sym, ap, subst, ◌∙◌}
 use mathlib.Core.Bool.{Bool, false, ◌||◌}
 use mathlib.Core.List.{[], ◌∷◌}
-use Prim.Native.Nat.{ℕ, zero, suc, ◌+◌, ◌-◌, ◌<◌}
+use Prim.Native.Nat.{ℕ, zero, suc, ◌+◌, ◌<◌}
 use native.Mathlib.Omega.{arith}
 use lib.Dec.{T, eqb}
 use borrow.Author.Tests.{ne_eqb}
@@ -28,6 +28,7 @@ side_bool : (s : Sort) → T (good s) → T (sized s) → {w : ℕ} → w ≡ so
 side_bool bool g z e = ap (λ (k : ℕ). eqb k 0) e
 side_bool (bv zero) g z e = absurd z
 side_bool (bv (suc m)) g z {w} e = ne_eqb w 0 (λ q. omega arith)
+side_bool Rattle.theory.specs.Sort.bad g z {w = w} e = elim g [ ]
 
 module _ {job work : Bytes} {n place : ℕ} {t : Decoded} (h : TermOn job work n place t) where
   pub kind_at : (u : Decoded) → t ≡ u → {b : Bool} → b ≡ bit_kind_in (tree_of (listed job work n) (op_of u) (arguments_of job u)) → b ≡ bit_kind_in (tree_at (listed job work n) place)

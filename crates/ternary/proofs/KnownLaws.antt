@@ -7,7 +7,6 @@ use native.Mathlib.Omega.{arith}
 use lib.Dec.{T, ltb, ltb→lt}
 use lib.Ieee.Fits.{and_l, and_r}
 use lib.ListN.{length, drop, get_or}
-use Rattle.theory.specs.Kind.{True, False, Not, And, Or, Xor, Equals, Ite, BoolVar, BvBitOf}
 use Rattle.theory.specs.Term.{Term, fold}
 use Rattle.theory.specs.Sort.{Sort, bool, bv, guard, good, sort_op, sort_of, sort_width, all_are, same_sort, is_bv_sort, fitting}
 use Rattle.theory.specs.Record.{Bytes}
@@ -41,6 +40,8 @@ map_map f (k ∷ ks) = ap (λ (bs : List Known). lead (f k) ∷ bs) (map_map f k
 
 bv_bits : (s : Sort) → T (is_bv_sort s) → sort_width s ≡ sort_bits s
 bv_bits (bv m) h = refl
+bv_bits Rattle.theory.specs.Sort.bad h = elim h [ ]
+bv_bits bool h = elim h [ ]
 
 module _ {job work : Bytes} {n place : ℕ} (s : KnownAsked job work n place) {t : Decoded} (h : TermOn job work n place t) where
   abbrev list : Plain
@@ -49,8 +50,8 @@ module _ {job work : Bytes} {n place : ℕ} (s : KnownAsked job work n place) {t
   bool_is : sort_of (tree_at list place) ≡ bool
   bool_is = only_bool (sort_of (tree_at list place)) (good_at list place s.closed.shelf.sorted (omega (arith, s.closed.shelf.count, s.low))) (sorts_sized (tree_at list place)) s.bool_there
 
-  abbrev Args_bool : Decoded → Type 0
-  Args_bool u = T (all_are bool (map (λ (k : ℕ). sort_of (tree_at list k)) (arguments_of job u)))
+  abbrev ArgsAreBool : Decoded → Type 0
+  ArgsAreBool u = T (all_are bool (map (λ (k : ℕ). sort_of (tree_at list k)) (arguments_of job u)))
 
   module _ (u : Decoded) (e : t ≡ u) where
     -- the bit from what the arguments' bits come to
@@ -61,7 +62,7 @@ module _ {job work : Bytes} {n place : ℕ} (s : KnownAsked job work n place) {t
     known_out f input sound own = f input sound own ∙ ap (λ (bs : List Known). known_byte (lead bs)) (sym (known_made s.closed s.low s.marked h u e input))
 
     -- a Bool argument's bit
-    pub cell_is : Args_bool u → {inputs values : Bytes} (input : Term → List Known) → Sound input list job work inputs values place → (i : ℕ) → i < length (arguments_of job u)
+    pub cell_is : ArgsAreBool u → {inputs values : Bytes} (input : Term → List Known) → Sound input list job work inputs values place → (i : ℕ) → i < length (arguments_of job u)
         → cell_bit values (get_or (arguments_of job u) i 0) ≡ lead (known input (tree_at list (get_or (arguments_of job u) i 0)))
     cell_is a input sound i l = ap of_byte (arg_bit s.closed s.low s.marked h u e a input sound i l) ∙ byte_back _
 
@@ -102,7 +103,7 @@ module _ {job work : Bytes} {n place : ℕ} (s : KnownAsked job work n place) {t
       ∙ ap₂ (λ (j k : Known). known_byte (xor_known j k)) (cell_is (D.Xor x y) e (fitted_here (D.Xor x y) e) input sound 0 (omega arith)) (cell_is (D.Xor x y) e (fitted_here (D.Xor x y) e) input sound 1 (omega arith)))
 
   -- an Equals that is bit-level is one of Bools
-  equal_bools : (x y : ℕ) (e : t ≡ D.Equals x y) → Args_bool (D.Equals x y)
+  equal_bools : (x y : ℕ) (e : t ≡ D.Equals x y) → ArgsAreBool (D.Equals x y)
   unfolding fold
   equal_bools x y e =
       let k = kind_made s.closed s.low s.marked h (D.Equals x y) e in
@@ -128,7 +129,7 @@ module _ {job work : Bytes} {n place : ℕ} (s : KnownAsked job work n place) {t
       ∙ (λ i. known_byte (ite_known (cell_is (D.Ite z x y) e q input sound 0 (omega arith) i) (cell_is (D.Ite z x y) e q input sound 1 (omega arith) i) (cell_is (D.Ite z x y) e q input sound 2 (omega arith) i))))
 
   -- a row
-  leads_are : (u : Decoded) (e : t ≡ u) → Args_bool u → {inputs values : Bytes} (input : Term → List Known) → Sound input list job work inputs values place
+  leads_are : (u : Decoded) (e : t ≡ u) → ArgsAreBool u → {inputs values : Bytes} (input : Term → List Known) → Sound input list job work inputs values place
       → map (cell_bit values) (arguments_of job u) ≡ map lead (map (λ (k : ℕ). known input (tree_at list k)) (arguments_of job u))
   leads_are u e a {inputs} {values} input sound =
       row_same (cell_bit values) (λ (k : ℕ). lead (known input (tree_at list k))) (arguments_of job u) (cell_is u e a input sound) ∙ map_map (λ (k : ℕ). known input (tree_at list k)) (arguments_of job u)

@@ -1,5 +1,7 @@
 // Bits of which some are not known: the gates on them, a term's bits read from the cells, and the bit of a Bool from
 // its arguments'.
+#![tactic(auto)]
+
 pub mod bits;
 pub mod gates;
 pub mod kinds;

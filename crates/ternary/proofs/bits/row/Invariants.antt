@@ -1,0 +1,9 @@
+use Rattle.terms.specs.Decoded.{words_in}
+use Rattle.ternary.proofs.BitLaws.{Rowing}
+use Rattle.ternary.proofs.bits.row.Given as goal
+
+abbrev pub invariant-loop-i : goal.invariant-loop-i
+invariant-loop-i l = Rowing l.values l.or (words_in l.job l.a) l.acc l.i
+
+abbrev pub decreases-loop-i : goal.decreases-loop-i
+decreases-loop-i l = l.i
