@@ -1,6 +1,6 @@
 -- What a text comes to, as the code says it.
 use Rattle.std.specs.Prelude.{◌≡◌, cond, ◌≤◌, eqb, length, take, drop}
-use Rattle.std.specs.Borrow.{Bor}
+use Rattle.std.specs.Borrow.{Bor, MutBor}
 use denote.Triple.Both.{Both}
 use Rattle.theory.specs.Record.{Bytes}
 use Rattle.text.specs.Convert.{Outcome, written, refused, convert, Returned, Call, call}
@@ -12,7 +12,7 @@ abbrev pub told : Converted → Returned
 told r = record { code = r.code; line = r.line; length = r.length }
 
 -- all that a call does with a text, a work memory and a job's memory as they are lent
-abbrev pub text_call : {X Y Z : Type 0} → Both (Bor Bytes) X → Both (Bor Bytes) Y → Both (Bor Bytes) Z → Call
+abbrev pub text_call : {X Y Z : Type 0} → Both (Bor Bytes) X → Both (MutBor Bytes) Y → Both (MutBor Bytes) Z → Call
 text_call text work job = call text.entry.now work.entry.now job.entry.now
 
 -- the job, or the place of the first line that is refused

@@ -1,6 +1,8 @@
 // A text of declarations and steps read into a job.
 //
 // To read: line (one line), and here the text.
+#![tactic(auto)]
+
 mod line;
 
 ghost use Rattle.std.specs.Prelude.{[], ◌≡◌};
@@ -17,7 +19,7 @@ const REFUSED: u32 = 25;
 
 // What a text comes to: 0 and the job's length, or 25 and the place of the first line that is refused.
 #[repr(C)]
-#[derive(Drop)]
+#[derive(Clone, Copy)]
 pub struct Converted {
     pub code: u32,
     pub line: u64,
@@ -25,7 +27,7 @@ pub struct Converted {
 }
 
 // What the lines come to: 0 and the job's length, or the place of the first line that is refused.
-#[derive(Drop)]
+#[derive(Clone, Copy)]
 pub struct Lines {
     pub refused: u64,
     pub length: usize,

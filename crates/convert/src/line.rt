@@ -12,7 +12,7 @@ use writer::places::{Put, Spot};
 
 // Between two lines, where `ok` says so: where the declarations end in the text, how many there are, whether a step was read, and where the
 // job stands.
-#[derive(Drop)]
+#[derive(Clone, Copy)]
 pub struct State {
     pub ok: bool,
     pub declarations: usize,

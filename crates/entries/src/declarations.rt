@@ -16,6 +16,7 @@ use writer::places::{Put, Spot, put_term};
 const NUMBER_END: usize = 65536;
 
 // A declaration where `declared` variables are declared: the name is new and its number fits; the variable is put.
+#[tactic(auto, using(heads::proofs::ConstantLaws::made_not, heads::proofs::ConstantLaws::made_said, names::proofs::NameLaws::declared_said, names::proofs::NameLaws::declared_not, crate::proofs::DeclareLaws::declared_none, crate::proofs::DeclareLaws::declares_put, crate::proofs::DeclareLaws::declare_1, crate::proofs::DeclareLaws::declare_2, crate::proofs::DeclareLaws::declare_3, crate::proofs::DeclareLaws::declare_4))]
 pub fn declare(
     line: &[u8],
     declarations: &[u8],

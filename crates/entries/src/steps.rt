@@ -19,6 +19,7 @@ use writer::places::{Put, Spot, put_step};
 const MAX_NESTING: usize = 200;
 
 // name (cl before the literal: the place after it, or 0.
+#[tactic(auto, using(words::proofs::WordLaws::word_inside, names::proofs::MarkLaws::first_is, names::proofs::MarkLaws::first_none, names::proofs::MarkLaws::passes_not, names::proofs::MarkLaws::passed_is, names::proofs::MarkLaws::passed_not, crate::proofs::StepLaws::front_1, crate::proofs::StepLaws::front_2, crate::proofs::StepLaws::front_3, crate::proofs::StepLaws::front_4))]
 fn step_front(line: &[u8], at: usize) -> usize
     requires { at ≤ length line.now }
     ensures { Passed line.now (step_front (drop at line.now)) result }
@@ -37,6 +38,7 @@ fn step_front(line: &[u8], at: usize) -> usize
 }
 
 // ) :rule name) after the literal: the rule's number, or 0.
+#[tactic(auto, using(words::proofs::WordLaws::word_inside, names::proofs::MarkLaws::first_is, names::proofs::MarkLaws::first_none, names::proofs::MarkLaws::passed_is, names::proofs::MarkLaws::passed_not, names::proofs::MarkLaws::end_some, names::proofs::MarkLaws::end_none, crate::proofs::StepLaws::back_1, crate::proofs::StepLaws::back_2, crate::proofs::StepLaws::back_3, crate::proofs::StepLaws::back_4, crate::proofs::StepLaws::back_5, crate::proofs::StepLaws::back_6))]
 fn step_back(line: &[u8], at: usize) -> u32
     requires { at ≤ length line.now }
     ensures { some_number result ≡ step_back (drop at line.now) }
@@ -63,6 +65,7 @@ fn step_back(line: &[u8], at: usize) -> u32
 }
 
 // A step after `(step`: its literal is read and put, then the step.
+#[tactic(auto, using(reader::proofs::LoopLaws::read_said, reader::proofs::LoopLaws::read_bad, names::proofs::MarkLaws::passed_is, names::proofs::MarkLaws::passed_not, crate::proofs::StepLaws::stepped_none, crate::proofs::StepLaws::stepped, crate::proofs::StepLaws::step_1, crate::proofs::StepLaws::step_2, crate::proofs::StepLaws::step_3, crate::proofs::StepLaws::step_4, crate::proofs::StepLaws::rule_none, crate::proofs::StepLaws::rule_some))]
 pub fn take_step(
     line: &[u8],
     at: usize,

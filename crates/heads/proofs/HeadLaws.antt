@@ -1,17 +1,14 @@
 -- How a term begins.
 use mathlib.Core.Path.{◌≡◌, refl, sym, ap, ap₂, subst, ◌∙◌}
 use mathlib.Core.Bool.{Bool, true, false, cond}
-use mathlib.Core.Logic.{inl, inr}
-use mathlib.Core.List.{List, [], ◌∷◌}
+use mathlib.Core.List.{List, []}
 use mathlib.Core.Option.{Option, none, some}
 use Prim.Native.Nat.{ℕ, zero, suc, ◌≤◌}
 use native.Mathlib.Omega.{arith}
 use lib.Dec.{eqb}
 use lib.ListN.{length, drop}
 use borrow.Author.Tests.{ne_eqb}
-use types.Run.{OneOf}
-use denote.Enum.Declared.{tag_of}
-use Rattle.theory.specs.Kind.{Op, True, False, kind}
+use Rattle.theory.specs.Kind.{Op, True, False}
 use Rattle.theory.specs.Term.{same_numbers}
 use Rattle.theory.specs.Optional.{is_some, either}
 use Rattle.theory.specs.Record.{Bytes, Shape, plain, indexed, twice_indexed, valued, shape_of}
@@ -21,7 +18,6 @@ use Rattle.text.specs.Reading.{bind, Number, a_number, Word, first_word, index, 
 use Rattle.words.specs.declared.tokens.Token.{Token}
 use Rattle.words.specs.declared.tokens.Token.TheVariants as T
 use Rattle.words.specs.Words.{piece, told_token, Lexed}
-use Rattle.words.specs.contracts.tokens.Token as E
 use Rattle.words.proofs.WordLaws.{word_next}
 use Rattle.names.specs.declared.kinds.Kind.{Kind}
 use Rattle.names.specs.Kinds.{shaped, kind_at, op_of, Known, family_of}
@@ -196,18 +192,12 @@ unfolding head
 head_is vars bs e = ap (heads vars) (sym e)
 
 neither : (f : Next → Option Head) → ((bs : Bytes) → f (followed right bs) ≡ none) → ((bs : Bytes) → f (followed end bs) ≡ none) → ((bs : Bytes) → f (followed bad bs) ≡ none)
-    → (line : Bytes) (r : Token) → OneOf (0 ∷ 1 ∷ 3 ∷ 4 ∷ []) (tag_of E.the_type r) → OneOf (0 ∷ 1 ∷ 2 ∷ 3 ∷ []) (tag_of E.the_type r) → f (told_token line r) ≡ none
+    → (line : Bytes) (r : Token) → ((a : ℕ) → r ≡ T.Left a → ⊥) → ((a b : ℕ) → r ≡ T.Word a b → ⊥) → f (told_token line r) ≡ none
 neither f a b c line T.End j k = b []
 neither f a b c line (T.Bad x) j k = c (drop x line)
 neither f a b c line (T.Right x) j k = a (drop x line)
-neither f a b c line (T.Left x) (inl j) k = absurd (omega arith)
-neither f a b c line (T.Left x) (inr (inl j)) k = absurd (omega arith)
-neither f a b c line (T.Left x) (inr (inr (inl j))) k = absurd (omega arith)
-neither f a b c line (T.Left x) (inr (inr (inr j))) k = absurd (omega arith)
-neither f a b c line (T.Word x y) j (inl k) = absurd (omega arith)
-neither f a b c line (T.Word x y) j (inr (inl k)) = absurd (omega arith)
-neither f a b c line (T.Word x y) j (inr (inr (inl k))) = absurd (omega arith)
-neither f a b c line (T.Word x y) j (inr (inr (inr k))) = absurd (omega arith)
+neither f a b c line (T.Left x) j k = absurd (j x refl)
+neither f a b c line (T.Word x y) j k = absurd (k x y refl)
 
 pub alone_none : (q : Option Shape) {r : ℕ} → r ≡ family_of q → (r ≡ 1 → ⊥) → bind q alone ≡ none
 alone_none none e f = refl
@@ -226,7 +216,7 @@ module _ {line : Bytes} {at : ℕ} {r : Token} (l : Lexed line at r) where
   pub opened_left : {a : ℕ} → r ≡ T.Left a → opened (drop at line) ≡ branched (indexed_operation (drop a line))
   opened_left e = opened_is (drop at line) (left_next e)
 
-  pub opened_none : OneOf (0 ∷ 1 ∷ 3 ∷ 4 ∷ []) (tag_of E.the_type r) → OneOf (0 ∷ 1 ∷ 2 ∷ 3 ∷ []) (tag_of E.the_type r) → opened (drop at line) ≡ none
+  pub opened_none : ((a : ℕ) → r ≡ T.Left a → ⊥) → ((a b : ℕ) → r ≡ T.Word a b → ⊥) → opened (drop at line) ≡ none
   opened_none j k = opened_is (drop at line) l.is ∙ neither opens (λ bs. refl) (λ bs. refl) (λ bs. refl) line r j k
 
   pub left_1 : {a : ℕ} → r ≡ T.Left a → indexed_operation (drop a line) ≡ none → opened (drop at line) ≡ none
@@ -263,7 +253,7 @@ module _ {line : Bytes} {at : ℕ} {r : Token} (l : Lexed line at r) where
     pub head_left : {a : ℕ} → r ≡ T.Left a → head vars (drop at line) ≡ opened (drop a line)
     head_left e = head_is vars (drop at line) (left_next e)
 
-    pub head_none : OneOf (0 ∷ 1 ∷ 3 ∷ 4 ∷ []) (tag_of E.the_type r) → OneOf (0 ∷ 1 ∷ 2 ∷ 3 ∷ []) (tag_of E.the_type r) → head vars (drop at line) ≡ none
+    pub head_none : ((a : ℕ) → r ≡ T.Left a → ⊥) → ((a b : ℕ) → r ≡ T.Word a b → ⊥) → head vars (drop at line) ≡ none
     head_none j k = head_is vars (drop at line) l.is ∙ neither (heads vars) (λ bs. refl) (λ bs. refl) (λ bs. refl) line r j k
 
     pub head_word : {s e : ℕ} → r ≡ T.Word s e → {q : Option Op} → atom vars (piece s e line) ≡ q → head vars (drop at line) ≡ bind q (λ o. some (leaf o (drop e line)))

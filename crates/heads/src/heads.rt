@@ -26,7 +26,7 @@ const INDEXED: u32 = 2;
 const TWICE_INDEXED: u32 = 3;
 
 // How a term begins: it is whole, or its operation was read; and the place after that.
-#[derive(Drop)]
+#[derive(Clone, Copy)]
 pub enum Start {
     Bad,
     Leaf(Kind, usize),
@@ -34,13 +34,14 @@ pub enum Start {
 }
 
 // A kind that was read, and the place after it.
-#[derive(Drop)]
+#[derive(Clone, Copy)]
 pub enum Operation {
     Bad,
     Is(Kind, usize),
 }
 
 // A constant of so many bits for each digit.
+#[tactic(auto, using(names::proofs::KindLaws::number_said, names::proofs::KindLaws::number_bad, crate::proofs::ConstantLaws::scaled_low, crate::proofs::ConstantLaws::scaled_high, crate::proofs::ConstantLaws::wide, crate::proofs::ConstantLaws::no_value, crate::proofs::ConstantLaws::constant_is, crate::proofs::ConstantLaws::made_const, crate::proofs::ConstantLaws::made_none))]
 fn digits(word: &[u8], bits: usize, base: u64) -> Atom
     requires { (1 ≤ bits) × (bits ≤ 4) × (2 ≤ base) × (base ≤ 16) }
     ensures { Made (digits_of bits base word.now) result }
@@ -63,6 +64,7 @@ fn digits(word: &[u8], bits: usize, base: u64) -> Atom
 }
 
 // A word that is a whole term: true, false, a variable, #b or #x.
+#[tactic(auto, using(crate::proofs::ConstantLaws::made_is, crate::proofs::ConstantLaws::made_none, crate::proofs::ConstantLaws::made_not, crate::proofs::ConstantLaws::made_said, crate::proofs::ConstantLaws::true_made, crate::proofs::ConstantLaws::false_made, crate::proofs::ConstantLaws::atom_true, crate::proofs::ConstantLaws::atom_false, crate::proofs::ConstantLaws::atom_variable, crate::proofs::ConstantLaws::atom_short, crate::proofs::ConstantLaws::atom_other, crate::proofs::ConstantLaws::atom_binary, crate::proofs::ConstantLaws::atom_hex, crate::proofs::ConstantLaws::atom_none))]
 fn read_atom(word: &[u8], declarations: &[u8]) -> Atom
     ensures { Made (atom (declared_in declarations.now) word.now) result }
 {
@@ -100,6 +102,7 @@ fn read_atom(word: &[u8], declarations: &[u8]) -> Atom
 }
 
 // bvN n) after (_
+#[tactic(auto, using(words::proofs::WordLaws::word_inside, names::proofs::MarkLaws::first_is, names::proofs::MarkLaws::first_none, names::proofs::MarkLaws::passed_is, names::proofs::MarkLaws::passed_not, names::proofs::KindLaws::index_said, names::proofs::KindLaws::index_not, names::proofs::KindLaws::number_said, names::proofs::KindLaws::number_bad, crate::proofs::ConstantLaws::const_known, crate::proofs::ConstantLaws::bv_1, crate::proofs::ConstantLaws::bv_2, crate::proofs::ConstantLaws::bv_3, crate::proofs::ConstantLaws::bv_4, crate::proofs::ConstantLaws::bv_5, crate::proofs::HeadLaws::operates, crate::proofs::HeadLaws::operates_not))]
 fn read_constant(line: &[u8], at: usize) -> Operation
     requires { at ≤ length line.now }
     ensures { Operates line.now (bv_constant (drop at line.now)) result }
@@ -128,6 +131,7 @@ fn read_constant(line: &[u8], at: usize) -> Operation
 }
 
 // The numbers of kind k, of which it has one or two.
+#[tactic(auto, using(names::proofs::KindLaws::index_said, names::proofs::KindLaws::index_not, names::proofs::KindLaws::family_indexed, names::proofs::KindLaws::family_twice, names::proofs::KindLaws::known, crate::proofs::HeadLaws::operates, crate::proofs::HeadLaws::operates_not, crate::proofs::HeadLaws::one_bad, crate::proofs::HeadLaws::one_is, crate::proofs::HeadLaws::two_bad, crate::proofs::HeadLaws::two_half, crate::proofs::HeadLaws::two_is, crate::proofs::HeadLaws::numbers_none, crate::proofs::HeadLaws::shape_some))]
 fn read_numbers(line: &[u8], at: usize, k: u32) -> Operation
     requires { (at ≤ length line.now) × (k < kinds_end) }
     ensures { Operates line.now (numbers_of (shape_of k) (drop at line.now)) result }
@@ -166,6 +170,7 @@ fn read_numbers(line: &[u8], at: usize, k: u32) -> Operation
 }
 
 // _ name i ..) after ((
+#[tactic(auto, using(words::proofs::WordLaws::word_inside, names::proofs::MarkLaws::first_is, names::proofs::MarkLaws::first_none, names::proofs::MarkLaws::passed_is, names::proofs::MarkLaws::passed_not, crate::proofs::HeadLaws::operates, crate::proofs::HeadLaws::operates_not, crate::proofs::HeadLaws::operation_said, crate::proofs::HeadLaws::operation_bad, crate::proofs::HeadLaws::indexed_1, crate::proofs::HeadLaws::indexed_2, crate::proofs::HeadLaws::indexed_3, crate::proofs::HeadLaws::indexed_4))]
 fn read_indexed(line: &[u8], at: usize) -> Operation
     requires { at ≤ length line.now }
     ensures { Operates line.now (indexed_operation (drop at line.now)) result }
@@ -189,6 +194,7 @@ fn read_indexed(line: &[u8], at: usize) -> Operation
 }
 
 // After a parenthesis: a constant, an operation with numbers, or one without.
+#[tactic(auto, using(words::proofs::WordLaws::word_inside, names::proofs::KindLaws::known, names::proofs::KindLaws::family_plain, crate::proofs::HeadLaws::begins_not, crate::proofs::HeadLaws::begins_leaf, crate::proofs::HeadLaws::begins_branch, crate::proofs::HeadLaws::operation_said, crate::proofs::HeadLaws::operation_bad, crate::proofs::HeadLaws::left_inside, crate::proofs::HeadLaws::opened_none, crate::proofs::HeadLaws::left_1, crate::proofs::HeadLaws::left_2, crate::proofs::HeadLaws::word_1, crate::proofs::HeadLaws::word_2, crate::proofs::HeadLaws::word_3, crate::proofs::HeadLaws::word_4, crate::proofs::HeadLaws::alone_none, crate::proofs::HeadLaws::shape_some))]
 fn begin_opened(line: &[u8], at: usize) -> Start
     requires { at ≤ length line.now }
     ensures { Begins line.now (opened (drop at line.now)) result }
@@ -224,6 +230,7 @@ fn begin_opened(line: &[u8], at: usize) -> Start
 }
 
 // How the term at `at` of the line begins; the variables are those that `declarations` declare.
+#[tactic(auto, using(words::proofs::WordLaws::word_inside, crate::proofs::ConstantLaws::made_not, crate::proofs::ConstantLaws::made_said, crate::proofs::HeadLaws::begins_not, crate::proofs::HeadLaws::begins_leaf, crate::proofs::HeadLaws::begins_is, crate::proofs::HeadLaws::left_inside, crate::proofs::HeadLaws::head_left, crate::proofs::HeadLaws::head_none, crate::proofs::HeadLaws::head_word))]
 pub fn begin(line: &[u8], at: usize, declarations: &[u8]) -> Start
     requires { at ≤ length line.now }
     ensures { Begins line.now

@@ -1,14 +1,10 @@
 -- Tokens that must follow; words.
 use mathlib.Core.Path.{◌≡◌, refl, sym, ap, subst, ◌∙◌}
 use mathlib.Core.Bool.{Bool, true, false, cond}
-use mathlib.Core.Logic.{inl, inr}
-use mathlib.Core.List.{[], ◌∷◌}
 use mathlib.Core.Option.{Option, none, some}
 use Prim.Native.Nat.{ℕ, zero, suc, ◌<◌, ◌≤◌}
 use native.Mathlib.Omega.{arith}
 use lib.ListN.{length, drop}
-use types.Run.{OneOf}
-use denote.Enum.Declared.{tag_of}
 use Rattle.theory.specs.Term.{same_numbers}
 use Rattle.theory.specs.Optional.{is_some}
 use Rattle.theory.specs.Record.{Bytes}
@@ -18,7 +14,6 @@ use Rattle.text.specs.Reading.{bind, Word, first_word}
 use Rattle.words.specs.declared.tokens.Token.{Token}
 use Rattle.words.specs.declared.tokens.Token.TheVariants as T
 use Rattle.words.specs.Words.{piece, told_token, Lexed}
-use Rattle.words.specs.contracts.tokens.Token as E
 use Rattle.words.proofs.WordLaws.{word_inside, word_next}
 use Rattle.names.specs.Marks.{told_passed, Passed}
 
@@ -73,57 +68,45 @@ module _ {line : Bytes} {at : ℕ} {r : Token} (l : Lexed line at r) where
     pub word_other : same_numbers (piece s e line) w ≡ false → Passed line (after (word w) (drop at line)) 0
     word_other t = passes_not (after_word ∙ ap (λ (b : Bool). cond b (some (drop e line)) none) t)
 
-no_left : (line bs : Bytes) (r : Token) → told_token line r ≡ next bs → OneOf (0 ∷ 1 ∷ 3 ∷ 4 ∷ []) (tag_of E.the_type r) → after left bs ≡ none
+no_left : (line bs : Bytes) (r : Token) → told_token line r ≡ next bs → ((a : ℕ) → r ≡ T.Left a → ⊥) → after left bs ≡ none
 no_left line bs T.End e k = after_next left bs e
 no_left line bs (T.Bad a) e k = after_next left bs e
 no_left line bs (T.Right a) e k = after_next left bs e
 no_left line bs (T.Word s a) e k = after_next left bs e
-no_left line bs (T.Left a) e (inl k) = absurd (omega arith)
-no_left line bs (T.Left a) e (inr (inl k)) = absurd (omega arith)
-no_left line bs (T.Left a) e (inr (inr (inl k))) = absurd (omega arith)
-no_left line bs (T.Left a) e (inr (inr (inr k))) = absurd (omega arith)
+no_left line bs (T.Left a) e k = absurd (k a refl)
 
-no_right : (line bs : Bytes) (r : Token) → told_token line r ≡ next bs → OneOf (0 ∷ 1 ∷ 2 ∷ 4 ∷ []) (tag_of E.the_type r) → after right bs ≡ none
+no_right : (line bs : Bytes) (r : Token) → told_token line r ≡ next bs → ((a : ℕ) → r ≡ T.Right a → ⊥) → after right bs ≡ none
 no_right line bs T.End e k = after_next right bs e
 no_right line bs (T.Bad a) e k = after_next right bs e
 no_right line bs (T.Left a) e k = after_next right bs e
 no_right line bs (T.Word s a) e k = after_next right bs e
-no_right line bs (T.Right a) e (inl k) = absurd (omega arith)
-no_right line bs (T.Right a) e (inr (inl k)) = absurd (omega arith)
-no_right line bs (T.Right a) e (inr (inr (inl k))) = absurd (omega arith)
-no_right line bs (T.Right a) e (inr (inr (inr k))) = absurd (omega arith)
+no_right line bs (T.Right a) e k = absurd (k a refl)
 
-no_end : (line bs : Bytes) (r : Token) → told_token line r ≡ next bs → OneOf (1 ∷ 2 ∷ 3 ∷ 4 ∷ []) (tag_of E.the_type r) → after end bs ≡ none
+no_end : (line bs : Bytes) (r : Token) → told_token line r ≡ next bs → (r ≡ T.End → ⊥) → after end bs ≡ none
 no_end line bs (T.Bad a) e k = after_next end bs e
 no_end line bs (T.Left a) e k = after_next end bs e
 no_end line bs (T.Right a) e k = after_next end bs e
 no_end line bs (T.Word s a) e k = after_next end bs e
-no_end line bs T.End e (inl k) = absurd (omega arith)
-no_end line bs T.End e (inr (inl k)) = absurd (omega arith)
-no_end line bs T.End e (inr (inr (inl k))) = absurd (omega arith)
-no_end line bs T.End e (inr (inr (inr k))) = absurd (omega arith)
+no_end line bs T.End e k = absurd (k refl)
 
-no_word : (w line bs : Bytes) (r : Token) → told_token line r ≡ next bs → OneOf (0 ∷ 1 ∷ 2 ∷ 3 ∷ []) (tag_of E.the_type r) → after (word w) bs ≡ none
+no_word : (w line bs : Bytes) (r : Token) → told_token line r ≡ next bs → ((a b : ℕ) → r ≡ T.Word a b → ⊥) → after (word w) bs ≡ none
 no_word w line bs T.End e k = after_next (word w) bs e
 no_word w line bs (T.Bad a) e k = after_next (word w) bs e
 no_word w line bs (T.Left a) e k = after_next (word w) bs e
 no_word w line bs (T.Right a) e k = after_next (word w) bs e
-no_word w line bs (T.Word s a) e (inl k) = absurd (omega arith)
-no_word w line bs (T.Word s a) e (inr (inl k)) = absurd (omega arith)
-no_word w line bs (T.Word s a) e (inr (inr (inl k))) = absurd (omega arith)
-no_word w line bs (T.Word s a) e (inr (inr (inr k))) = absurd (omega arith)
+no_word w line bs (T.Word s a) e k = absurd (k s a refl)
 
 module _ {line : Bytes} {at : ℕ} {r : Token} (l : Lexed line at r) where
-  pub left_not : OneOf (0 ∷ 1 ∷ 3 ∷ 4 ∷ []) (tag_of E.the_type r) → Passed line (after left (drop at line)) 0
+  pub left_not : ((a : ℕ) → r ≡ T.Left a → ⊥) → Passed line (after left (drop at line)) 0
   left_not k = passes_not (no_left line (drop at line) r l.is k)
 
-  pub right_not : OneOf (0 ∷ 1 ∷ 2 ∷ 4 ∷ []) (tag_of E.the_type r) → Passed line (after right (drop at line)) 0
+  pub right_not : ((a : ℕ) → r ≡ T.Right a → ⊥) → Passed line (after right (drop at line)) 0
   right_not k = passes_not (no_right line (drop at line) r l.is k)
 
-  pub end_not : OneOf (1 ∷ 2 ∷ 3 ∷ 4 ∷ []) (tag_of E.the_type r) → false ≡ is_some (after end (drop at line))
+  pub end_not : (r ≡ T.End → ⊥) → false ≡ is_some (after end (drop at line))
   end_not k = sym (ap is_some (no_end line (drop at line) r l.is k))
 
-  pub word_not : (w : Bytes) → OneOf (0 ∷ 1 ∷ 2 ∷ 3 ∷ []) (tag_of E.the_type r) → Passed line (after (word w) (drop at line)) 0
+  pub word_not : (w : Bytes) → ((a b : ℕ) → r ≡ T.Word a b → ⊥) → Passed line (after (word w) (drop at line)) 0
   word_not w k = passes_not (no_word w line (drop at line) r l.is k)
 
 -- ---- the end of the line
@@ -146,15 +129,12 @@ a_word w bs = record { name = w; rest = bs }
 pub first_is : {line : Bytes} {at : ℕ} {r : Token} {s e : ℕ} → Lexed line at r → r ≡ T.Word s e → first_word (drop at line) ≡ some (a_word (piece s e line) (drop e line))
 first_is {line} {at} l f = first_of (drop at line) (sym (word_next l f))
 
-not_first : (line bs : Bytes) (r : Token) → told_token line r ≡ next bs → OneOf (0 ∷ 1 ∷ 2 ∷ 3 ∷ []) (tag_of E.the_type r) → first_word bs ≡ none
+not_first : (line bs : Bytes) (r : Token) → told_token line r ≡ next bs → ((a b : ℕ) → r ≡ T.Word a b → ⊥) → first_word bs ≡ none
 not_first line bs T.End e k = first_of bs e
 not_first line bs (T.Bad a) e k = first_of bs e
 not_first line bs (T.Left a) e k = first_of bs e
 not_first line bs (T.Right a) e k = first_of bs e
-not_first line bs (T.Word s a) e (inl k) = absurd (omega arith)
-not_first line bs (T.Word s a) e (inr (inl k)) = absurd (omega arith)
-not_first line bs (T.Word s a) e (inr (inr (inl k))) = absurd (omega arith)
-not_first line bs (T.Word s a) e (inr (inr (inr k))) = absurd (omega arith)
+not_first line bs (T.Word s a) e k = absurd (k s a refl)
 
-pub first_none : {line : Bytes} {at : ℕ} {r : Token} → Lexed line at r → OneOf (0 ∷ 1 ∷ 2 ∷ 3 ∷ []) (tag_of E.the_type r) → first_word (drop at line) ≡ none
+pub first_none : {line : Bytes} {at : ℕ} {r : Token} → Lexed line at r → ((a b : ℕ) → r ≡ T.Word a b → ⊥) → first_word (drop at line) ≡ none
 first_none {line} {at} {r} l k = not_first line (drop at line) r l.is k

@@ -15,7 +15,7 @@ const MAX_NUMBER: u64 = 65535;
 const MAX_VALUE: u64 = 18446744073709551615;
 
 // A kind: its number in a job, and the numbers in it. 0 and 1 are `true` and `false`.
-#[derive(Drop)]
+#[derive(Clone, Copy)]
 pub struct Kind {
     pub number: u32,
     pub x: u64,
@@ -23,20 +23,21 @@ pub struct Kind {
 }
 
 // A kind that a word is, or none.
-#[derive(Drop)]
+#[derive(Clone, Copy)]
 pub enum Atom {
     Bad,
     Is(Kind),
 }
 
 // A number that was read, and the place after it.
-#[derive(Drop)]
+#[derive(Clone, Copy)]
 pub enum Index {
     Bad,
     Is(u64, usize),
 }
 
 // An index, width or amount at `at`.
+#[tactic(auto, using(words::proofs::WordLaws::word_inside, crate::proofs::MarkLaws::first_none, crate::proofs::KindLaws::number_said, crate::proofs::KindLaws::number_bad, crate::proofs::KindLaws::index_none, crate::proofs::KindLaws::index_bad, crate::proofs::KindLaws::index_is))]
 pub fn read_index(line: &[u8], at: usize) -> Index
     requires { at ≤ length line.now }
     ensures { Indexed line.now (index (drop at line.now)) result }
@@ -51,6 +52,7 @@ pub fn read_index(line: &[u8], at: usize) -> Index
 }
 
 // The value of the word bvN.
+#[tactic(auto, using(crate::proofs::KindLaws::bv_short, crate::proofs::KindLaws::bv_first, crate::proofs::KindLaws::bv_second, crate::proofs::KindLaws::bv_rest))]
 pub fn bv_value(word: &[u8]) -> Number
     ensures { told_number result ≡ below value_end (bv_value word.now) }
 {
@@ -67,6 +69,7 @@ pub fn bv_value(word: &[u8]) -> Number
 }
 
 // The family of a kind: 0 is no kind, 1 has no numbers, 2 one, 3 two, 4 a width and a value.
+#[tactic(auto, using(crate::proofs::KindLaws::family_1, crate::proofs::KindLaws::family_2, crate::proofs::KindLaws::family_3, crate::proofs::KindLaws::family_4, crate::proofs::KindLaws::family_5, crate::proofs::KindLaws::family_6, crate::proofs::KindLaws::family_7, crate::proofs::KindLaws::family_8, crate::proofs::KindLaws::family_9, crate::proofs::KindLaws::family_10, crate::proofs::KindLaws::family_11, crate::proofs::KindLaws::family_12, crate::proofs::KindLaws::family_13))]
 pub fn family(k: u32) -> u32
     requires { k < kinds_end }
     ensures { result ≡ family_of (shape_of k) }

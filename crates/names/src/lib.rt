@@ -1,6 +1,8 @@
 // Names: declarations, and variables by their names.
 //
 // To read: marks (tokens that must follow), kinds (kinds and the numbers in them), symbols (which words are names), lines, names (declarations).
+#![tactic(auto)]
+
 pub mod kinds;
 pub mod lines;
 pub mod marks;

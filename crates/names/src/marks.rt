@@ -7,6 +7,7 @@ ghost use Rattle.names.specs.Marks.{Passed};
 use words::tokens::{Token, next_token, same};
 
 // A left parenthesis.
+#[tactic(auto, using(crate::proofs::MarkLaws::left_is, crate::proofs::MarkLaws::left_not))]
 pub fn left_after(line: &[u8], at: usize) -> usize
     requires { at ≤ length line.now }
     ensures { Passed line.now (after left (drop at line.now)) result }
@@ -19,6 +20,7 @@ pub fn left_after(line: &[u8], at: usize) -> usize
 }
 
 // A right parenthesis.
+#[tactic(auto, using(crate::proofs::MarkLaws::right_is, crate::proofs::MarkLaws::right_not))]
 pub fn right_after(line: &[u8], at: usize) -> usize
     requires { at ≤ length line.now }
     ensures { Passed line.now (after right (drop at line.now)) result }
@@ -31,6 +33,7 @@ pub fn right_after(line: &[u8], at: usize) -> usize
 }
 
 // That word.
+#[tactic(auto, using(words::proofs::WordLaws::word_inside, crate::proofs::MarkLaws::word_not, crate::proofs::MarkLaws::word_is, crate::proofs::MarkLaws::word_other))]
 pub fn word_after(line: &[u8], at: usize, wanted: &[u8]) -> usize
     requires { at ≤ length line.now }
     ensures { Passed line.now (after (word wanted.now) (drop at line.now)) result }
@@ -45,6 +48,7 @@ pub fn word_after(line: &[u8], at: usize, wanted: &[u8]) -> usize
 }
 
 // Is nothing left of the line?
+#[tactic(auto, using(crate::proofs::MarkLaws::end_is, crate::proofs::MarkLaws::end_not))]
 pub fn at_end(line: &[u8], at: usize) -> bool
     requires { at ≤ length line.now }
     ensures { result ≡ is_some (after end (drop at line.now)) }

@@ -17,20 +17,21 @@ const BOOL_VARIABLE: u32 = 10;
 const VECTOR_VARIABLE: u32 = 11;
 
 // A sort: whether it is one of vectors, their width (0 for Bool), and the place after it.
-#[derive(Drop)]
+#[derive(Clone, Copy)]
 pub enum Sort {
     Bad,
     Is(bool, u64, usize),
 }
 
 // What a line declares: where the name starts and ends, and its sort.
-#[derive(Drop)]
+#[derive(Clone, Copy)]
 pub enum Declaration {
     Bad,
     Is(usize, usize, bool, u64),
 }
 
 // The sort at `at`: Bool, or (_ BitVec n).
+#[tactic(auto, using(crate::proofs::MarkLaws::passed_is, crate::proofs::MarkLaws::passed_not, crate::proofs::KindLaws::index_said, crate::proofs::KindLaws::index_not, crate::proofs::NameLaws::sort_bad, crate::proofs::NameLaws::sort_bool, crate::proofs::NameLaws::sort_1, crate::proofs::NameLaws::sort_2, crate::proofs::NameLaws::sort_3, crate::proofs::NameLaws::sort_4, crate::proofs::NameLaws::sort_5))]
 fn read_sort(line: &[u8], at: usize) -> Sort
     requires { at ≤ length line.now }
     ensures { Sorts line.now (sort_in (drop at line.now)) result }
@@ -62,6 +63,7 @@ fn read_sort(line: &[u8], at: usize) -> Sort
 }
 
 // What a line declares.
+#[tactic(auto, using(words::proofs::WordLaws::word_inside, crate::proofs::MarkLaws::passed_is, crate::proofs::MarkLaws::passed_not, crate::proofs::MarkLaws::first_is, crate::proofs::MarkLaws::first_none, crate::proofs::MarkLaws::end_some, crate::proofs::MarkLaws::end_none, crate::proofs::NameLaws::sort_said, crate::proofs::NameLaws::sort_not, crate::proofs::NameLaws::declared_bad, crate::proofs::NameLaws::declares, crate::proofs::NameLaws::declared_1, crate::proofs::NameLaws::declared_2, crate::proofs::NameLaws::declared_3, crate::proofs::NameLaws::declared_4, crate::proofs::NameLaws::declared_5, crate::proofs::NameLaws::declared_6, crate::proofs::NameLaws::declared_7, crate::proofs::NameLaws::declared_8))]
 pub fn declared_by(line: &[u8]) -> Declaration
     ensures { Declares line.now (declared_by line.now) result }
 {
@@ -114,6 +116,7 @@ pub fn variable(k: u64, vector: bool, width: u64) -> Kind
 }
 
 // The variable of a name among those that `declarations` declare.
+#[tactic(auto, using(crate::proofs::LineLaws::further, crate::proofs::NameLaws::declared_said, crate::proofs::NameLaws::declared_not, crate::proofs::NameLaws::naming_start, crate::proofs::NameLaws::naming_end, crate::proofs::NameLaws::naming_skip, crate::proofs::NameLaws::naming_found, crate::proofs::NameLaws::naming_on, crate::proofs::NameLaws::made_variable, crate::proofs::NameLaws::made_bad))]
 pub fn find_name(declarations: &[u8], word: &[u8]) -> Atom
     ensures { Made (find_name 0 word.now (declared_in declarations.now)) result }
 {

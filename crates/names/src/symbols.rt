@@ -8,6 +8,7 @@ use words::tables::kind_named;
 use words::tokens::{in_symbol, same};
 
 // Is a word a numeral, of any size?
+#[tactic(auto, using(words::proofs::NumberLaws::leads_zero, words::proofs::NumberLaws::leads_other, words::proofs::NumberLaws::leads_short, crate::proofs::SymbolLaws::no_digits, crate::proofs::SymbolLaws::zero_digits, crate::proofs::SymbolLaws::digits_start, crate::proofs::SymbolLaws::digits_low, crate::proofs::SymbolLaws::digits_high, crate::proofs::SymbolLaws::digits_turn, crate::proofs::SymbolLaws::digits_end))]
 fn is_numeral(word: &[u8]) -> bool
     ensures { result ≡ is_some (numeral word.now) }
 {
@@ -33,6 +34,7 @@ fn is_numeral(word: &[u8]) -> bool
 }
 
 // Is a word a simple symbol?
+#[tactic(auto, using(crate::proofs::SymbolLaws::symbol_none, crate::proofs::SymbolLaws::symbol_digit, crate::proofs::SymbolLaws::symbol_low, crate::proofs::SymbolLaws::symbol_high, crate::proofs::SymbolLaws::symbols_stop, crate::proofs::SymbolLaws::symbols_turn, crate::proofs::SymbolLaws::symbols_end))]
 pub fn is_symbol(word: &[u8]) -> bool
     ensures { result ≡ is_symbol word.now }
 {
@@ -55,6 +57,7 @@ pub fn is_symbol(word: &[u8]) -> bool
 }
 
 // Is a word a name that terms are spelled with?
+#[tactic(auto, using(crate::proofs::KindLaws::family_some, crate::proofs::KindLaws::family_none, crate::proofs::KindLaws::bv_short, crate::proofs::KindLaws::bv_first, crate::proofs::KindLaws::bv_second, crate::proofs::KindLaws::bv_rest, crate::proofs::SymbolLaws::reserved_kind, crate::proofs::SymbolLaws::reserved_true, crate::proofs::SymbolLaws::reserved_false, crate::proofs::SymbolLaws::reserved_mark, crate::proofs::SymbolLaws::reserved_bv))]
 pub fn reserved(word: &[u8]) -> bool
     ensures { result ≡ reserved word.now }
 {

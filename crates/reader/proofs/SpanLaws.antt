@@ -1,8 +1,6 @@
 -- Closing parentheses, and how many arguments a kind has.
 use mathlib.Core.Path.{◌≡◌, refl, sym, ap, ap₂, subst, ◌∙◌}
 use mathlib.Core.Bool.{Bool, false, ◌&&◌, cond}
-use mathlib.Core.Logic.{inl, inr}
-use mathlib.Core.List.{[], ◌∷◌}
 use mathlib.Core.Option.{none, some}
 use Prim.Native.Nat.{ℕ, ◌<◌, ◌≤◌}
 use native.Mathlib.Omega.{arith}
@@ -10,8 +8,6 @@ use native.Mathlib.Decide.{dec_le}
 use lib.Dec.{eqb, leb}
 use lib.ListN.{drop}
 use borrow.Author.Tests.{eq-eqb, ne_eqb, le-leb, lt-leb}
-use types.Run.{OneOf}
-use denote.Enum.Declared.{tag_of}
 use Rattle.theory.specs.Kind.{Arity, exactly, many, arity, takes}
 use Rattle.theory.specs.Record.{Bytes, shape_of}
 use Rattle.terms.specs.Bodies.{least, most}
@@ -19,7 +15,6 @@ use Rattle.text.specs.Tokens.{right, after, Next, same_token, next}
 use Rattle.words.specs.declared.tokens.Token.{Token}
 use Rattle.words.specs.declared.tokens.Token.TheVariants as T
 use Rattle.words.specs.Words.{told_token, Lexed}
-use Rattle.words.specs.contracts.tokens.Token as E
 use Rattle.reader.specs.declared.reading.Close.TheVariants.{Not, After}
 use Rattle.reader.specs.declared.reading.Span.{Span}
 use Rattle.names.specs.Kinds.{kind_at}
@@ -36,17 +31,14 @@ close_found {line} {at} {r} {a} l e =
     let g : Lexed line at (T.Right a) = subst (Lexed line at) e l in
     record { is = sym (after_next (drop at line) g.is); inside = g.inside.1 }
 
-no_right : (line : Bytes) (bs : Bytes) (r : Token) → told_token line r ≡ next bs → OneOf (0 ∷ 1 ∷ 2 ∷ 4 ∷ []) (tag_of E.the_type r) → after right bs ≡ none
+no_right : (line : Bytes) (bs : Bytes) (r : Token) → told_token line r ≡ next bs → ((a : ℕ) → r ≡ T.Right a → ⊥) → after right bs ≡ none
 no_right line bs T.End e k = after_next bs e
 no_right line bs (T.Bad a) e k = after_next bs e
 no_right line bs (T.Left a) e k = after_next bs e
 no_right line bs (T.Word s a) e k = after_next bs e
-no_right line bs (T.Right a) e (inl k) = absurd (omega arith)
-no_right line bs (T.Right a) e (inr (inl k)) = absurd (omega arith)
-no_right line bs (T.Right a) e (inr (inr (inl k))) = absurd (omega arith)
-no_right line bs (T.Right a) e (inr (inr (inr k))) = absurd (omega arith)
+no_right line bs (T.Right a) e k = absurd (k a refl)
 
-pub close_none : {line : Bytes} {at : ℕ} {r : Token} → Lexed line at r → OneOf (0 ∷ 1 ∷ 2 ∷ 4 ∷ []) (tag_of E.the_type r) → Closed line (after right (drop at line)) Not
+pub close_none : {line : Bytes} {at : ℕ} {r : Token} → Lexed line at r → ((a : ℕ) → r ≡ T.Right a → ⊥) → Closed line (after right (drop at line)) Not
 close_none {line} {at} {r} l k = record { is = sym (no_right line (drop at line) r l.is k); inside = tt }
 
 -- ---- how many arguments

@@ -19,14 +19,14 @@ use writer::places::{Put, Spot, put_term};
 const NUMBER_END: usize = 65536;
 
 // A term that was read and put: the place after it, its number, and where the job stands then; or it was refused.
-#[derive(Drop)]
+#[derive(Clone, Copy)]
 pub enum Read {
     Bad,
     Term(usize, usize, Spot),
 }
 
 // Arguments that were read and put, and whose numbers fit into a record, where `ok` says so.
-#[derive(Drop)]
+#[derive(Clone, Copy)]
 pub struct List {
     pub ok: bool,
     pub next: usize,
@@ -36,13 +36,14 @@ pub struct List {
 }
 
 // A closing parenthesis that is the next token: the place after it; or there is none.
-#[derive(Drop)]
+#[derive(Clone, Copy)]
 pub enum Close {
     Not,
     After(usize),
 }
 
 // The closing parenthesis at `at`.
+#[tactic(auto, using(crate::proofs::SpanLaws::close_found, crate::proofs::SpanLaws::close_none))]
 fn closing(line: &[u8], at: usize) -> Close
     requires { at ≤ length line.now }
     ensures { Closed line.now (after right (drop at line.now)) result }
@@ -55,13 +56,14 @@ fn closing(line: &[u8], at: usize) -> Close
 }
 
 // How many arguments a kind has, from the least to the most.
-#[derive(Drop)]
+#[derive(Clone, Copy)]
 pub struct Span {
     pub least: usize,
     pub most: usize,
 }
 
 // The arguments of a kind up to BvBitOf, by document 01's table of kinds.
+#[tactic(auto, using(crate::proofs::SpanLaws::span_1, crate::proofs::SpanLaws::span_2, crate::proofs::SpanLaws::span_3, crate::proofs::SpanLaws::span_4, crate::proofs::SpanLaws::span_5, crate::proofs::SpanLaws::span_6, crate::proofs::SpanLaws::span_7))]
 fn low_arguments(k: u32) -> Span
     requires { k ≤ 30 }
     ensures { Spanned k result }
@@ -91,6 +93,7 @@ fn low_arguments(k: u32) -> Span
 }
 
 // The arguments of the kinds after it.
+#[tactic(auto, using(crate::proofs::SpanLaws::span_8, crate::proofs::SpanLaws::span_9, crate::proofs::SpanLaws::span_10, crate::proofs::SpanLaws::span_11, crate::proofs::SpanLaws::span_12, crate::proofs::SpanLaws::span_13, crate::proofs::SpanLaws::span_14))]
 fn high_arguments(k: u32) -> Span
     requires { (30 < k) × (k < kinds_end) }
     ensures { Spanned k result }
@@ -137,6 +140,7 @@ fn arguments_of(k: u32) -> Span
 }
 
 // Has a kind so many arguments?
+#[tactic(auto, using(crate::proofs::SpanLaws::span_low, crate::proofs::SpanLaws::span_high))]
 fn allowed(kind: Kind, count: usize) -> bool
     requires { Known kind }
     ensures { result ≡ takes (arity (op_of kind)) count }
@@ -149,6 +153,7 @@ fn allowed(kind: Kind, count: usize) -> bool
 }
 
 // Puts a term whose arguments are put, where its kind has so many; `next` is the place after it.
+#[tactic(auto, using(crate::proofs::TermLaws::read_none, writer::proofs::PutLaws::put_said, writer::proofs::PutLaws::put_full, crate::proofs::FinishLaws::finish_not, crate::proofs::FinishLaws::finish_full, crate::proofs::FinishLaws::finish_put, crate::proofs::FinishLaws::reads_term, crate::proofs::FinishLaws::count_is))]
 fn finish(
     line: &[u8],
     next: usize,
@@ -175,6 +180,7 @@ fn finish(
 }
 
 // Puts a term without arguments; `next` is the place after it.
+#[tactic(auto, using(crate::proofs::TermLaws::read_none, writer::proofs::PutLaws::put_said, writer::proofs::PutLaws::put_full, crate::proofs::FinishLaws::leaf_full, crate::proofs::FinishLaws::leaf_put, crate::proofs::FinishLaws::reads_term))]
 fn finish_leaf(
     line: &[u8],
     next: usize,

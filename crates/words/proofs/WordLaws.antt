@@ -27,6 +27,8 @@ same_bool false b = not b
 same_bool_is : (a b : Bool) → dec.T (same_bool a b) → a ≡ b
 same_bool_is true true t = refl
 same_bool_is false false t = refl
+same_bool_is false true t = elim t [ ]
+same_bool_is true false t = elim t [ ]
 
 abbrev pub agree_on : (ℕ → Bool) → (ℕ → Bool) → ℕ → ℕ → Bool
 agree_on f g lo zero = true

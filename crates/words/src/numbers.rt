@@ -4,13 +4,14 @@ ghost use Rattle.text.specs.Reading.{digit_value, below, number_in, numeral};
 ghost use Rattle.words.specs.Tables.{told_number};
 
 // A number, or a word that is none or too large.
-#[derive(Drop)]
+#[derive(Clone, Copy)]
 pub enum Number {
     Bad,
     Is(u64),
 }
 
 // What a digit is worth, 16 for any other byte.
+#[tactic(auto, using(crate::proofs::NumberLaws::digit_run))]
 fn digit(b: u8) -> u64
     ensures { (result ≡ digit_value b) × (result ≤ 16) }
 {
@@ -36,6 +37,7 @@ fn digit(b: u8) -> u64
 }
 
 // The number of a word of digits of a base, up to `most`.
+#[tactic(auto, using(crate::proofs::NumberLaws::count_start, crate::proofs::NumberLaws::count_none, crate::proofs::NumberLaws::count_on, crate::proofs::NumberLaws::count_bad, crate::proofs::NumberLaws::count_large, crate::proofs::NumberLaws::count_over, crate::proofs::NumberLaws::count_end, crate::proofs::NumberLaws::taken_fits))]
 pub fn number_in(base: u64, word: &[u8], most: u64) -> Number
     requires { (2 ≤ base) × (base ≤ 16) }
     ensures { told_number result ≡ below (most + 1) (number_in base word.now) }

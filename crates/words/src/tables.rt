@@ -7,7 +7,7 @@ ghost use Rattle.words.specs.Tables.{words_in, place_word, told_place, some_numb
 use crate::tokens::same;
 
 // A word's place in a table.
-#[derive(Drop)]
+#[derive(Clone, Copy)]
 pub enum Found {
     Missing,
     At(usize),
@@ -22,6 +22,7 @@ fn length_in(b: u8) -> usize
 
 // The place of a word among the words of a table: before each stands a byte whose last four bits are its length, so that most words are passed
 // over without a look at their bytes.
+#[tactic(auto, using(crate::proofs::TableLaws::seek_start, crate::proofs::TableLaws::seek_end, crate::proofs::TableLaws::seek_cut, crate::proofs::TableLaws::seek_found, crate::proofs::TableLaws::seek_on))]
 fn place_in(table: &[u8], word: &[u8]) -> Found
     ensures { told_place result ≡ place_word 0 word.now (words_in table.now) }
 {

@@ -5,7 +5,7 @@ ghost use Rattle.text.specs.Tokens.{is_blank, in_word, in_symbol};
 ghost use Rattle.words.specs.Words.{Lexed, Skipped, Ends};
 
 // A token: the place after it; of a word its first place too.
-#[derive(Drop)]
+#[derive(Clone, Copy)]
 pub enum Token {
     End,
     Bad(usize),
@@ -15,6 +15,7 @@ pub enum Token {
 }
 
 // A space, a tab or a carriage return?
+#[tactic(auto, using(crate::proofs::WordLaws::agree))]
 pub fn is_blank(b: u8) -> bool
     ensures { result ≡ is_blank b }
 {
@@ -109,6 +110,7 @@ pub fn in_symbol(b: u8) -> bool
 }
 
 // The place after the blanks at `at`.
+#[tactic(auto, using(crate::proofs::WordLaws::skip_turn))]
 fn skip_blanks(line: &[u8], at: usize) -> usize
     requires { at ≤ length line.now }
     ensures { Skipped line.now at result }
@@ -161,6 +163,7 @@ pub fn next_token(line: &[u8], at: usize) -> Token
 }
 
 // Are these the same bytes?
+#[tactic(auto, using(crate::proofs::WordLaws::same_long, crate::proofs::WordLaws::same_byte, crate::proofs::WordLaws::same_all))]
 pub fn same(a: &[u8], b: &[u8]) -> bool
     ensures { result ≡ same_numbers a.now b.now }
 {

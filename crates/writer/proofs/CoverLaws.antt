@@ -1,7 +1,6 @@
 -- The rows over the first terms of a job: they find them, and they stay right when the job grows.
 use mathlib.Core.Path.{◌≡◌, refl, sym, ap, ap₂, subst, ◌∙◌}
 use mathlib.Core.Bool.{Bool, true, false, cond}
-use mathlib.Core.Logic.{inl, inr}
 use mathlib.Core.List.{List, [], ◌∷◌, ◌++◌, append_assoc, append-nil}
 use mathlib.Core.Option.{Option, none, some}
 use Prim.Native.Nat.{ℕ, zero, suc, ◌+◌, ◌-◌, ◌≤◌, ◌<◌}
@@ -10,8 +9,6 @@ use lib.Dec.{eqb}
 use lib.ListN.{length, take, drop, length-append, take-append-drop}
 use borrow.Author.Tests.{eq-eqb, ne_eqb}
 use lib.Seq.{take-append-le, drop-append-le, take_all, take-nil, drop-length, drop_at}
-use types.Run.{OneOf}
-use denote.Enum.Declared.{tag_of}
 use Rattle.theory.specs.Limit.{first_terms, number_bytes, max_job}
 use Rattle.theory.specs.Term.{same_numbers}
 use Rattle.theory.specs.Optional.{either}
@@ -24,7 +21,6 @@ use Rattle.table.specs.Buckets.{TableAs, Table}
 use Rattle.table.specs.Promise.{count_after, list_after, memory_after, Grown}
 use Rattle.table.specs.declared.kept.Added.{Added}
 use Rattle.table.specs.declared.kept.Added.TheVariants.{Found, New, Spent}
-use Rattle.table.specs.contracts.kept.Added as E
 use Rattle.text.specs.Writing.{Lone, Clean, kept, place_from}
 use Rattle.text.proofs.Records.{empty_clean, clean_more, kept_more, kept_step}
 use Rattle.writer.specs.Places.{row_records, Covered}
@@ -136,11 +132,10 @@ module _ {job work : Bytes} {rows covered : ℕ} (g : Covered job work rows cove
           }
 
 -- no row was added: the work memory is as it was
-pub unchanged : {job work work' : Bytes} {n limit at : ℕ} (a : Added) → OneOf (0 ∷ 2 ∷ []) (tag_of E.the_type a) → Grown number_bytes job work work' n limit at 0 a → work' ≡ work
+pub unchanged : {job work work' : Bytes} {n limit at : ℕ} (a : Added) → ((p : ℕ) → a ≡ New p → ⊥) → Grown number_bytes job work work' n limit at 0 a → work' ≡ work
 unfolding memory_after
 unchanged (Found p) k h = h.memory_is
-unchanged (New p) (inl k) h = absurd (omega arith)
-unchanged (New p) (inr k) h = absurd (omega arith)
+unchanged (New p) k h = absurd (k p refl)
 unchanged Spent k h = h.memory_is
 
 -- ---- a record is looked up

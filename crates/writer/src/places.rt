@@ -41,7 +41,7 @@ const MAX_COVERED: usize = 16777216;
 
 // Where the job stands: its bytes and its terms, `true` and `false` not counted; how many of these, the first ones, have a row in the
 // work memory, and the bytes of the job up to the last of them.
-#[derive(Drop)]
+#[derive(Clone, Copy)]
 pub struct Spot {
     pub done: usize,
     pub terms: usize,
@@ -50,7 +50,7 @@ pub struct Spot {
 }
 
 // A term that was put: its number, and where the job stands then; or it does not fit.
-#[derive(Drop)]
+#[derive(Clone, Copy)]
 pub enum Put {
     Full,
     At(usize, Spot),
@@ -58,6 +58,7 @@ pub enum Put {
 
 // The number of the term whose record equals `wanted`, the first of the job having the number `first`: a walk over the records, in which
 // steps have no number.
+#[tactic(auto, using(crate::proofs::PlaceLaws::walk_start, crate::proofs::PlaceLaws::walk_missing, crate::proofs::PlaceLaws::walk_fits, crate::proofs::PlaceLaws::walk_step, crate::proofs::PlaceLaws::walk_found, crate::proofs::PlaceLaws::walk_on))]
 fn walk_records(job: &[u8], first: usize, wanted: &[u8]) -> Found
     requires { first ≤ max_terms number_bytes }
     ensures { told_place result ≡ place_from first wanted.now (kept job.now) }
@@ -96,6 +97,7 @@ fn find_term(wanted: &[u8], out: &[u8], work: &[u8], spot: Spot) -> Found
 }
 
 // Copies bytes to `at`.
+#[tactic(auto, using(crate::proofs::PlaceLaws::copy_turn, crate::proofs::PlaceLaws::copy_end))]
 fn copy(out: &mut [u8], at: usize, bytes: &[u8])
     requires { at + length bytes.now ≤ length out.old }
     ensures { out.new ≡ sets out.old at bytes.now }
@@ -109,6 +111,7 @@ fn copy(out: &mut [u8], at: usize, bytes: &[u8])
 
 // Where the job stands with the term whose record is put at its end, up to `end`. It gets a row where every term before it has one, there
 // is room for it, and its offset fits into a row.
+#[tactic(auto, using(crate::proofs::CoverLaws::unchanged, crate::proofs::PlaceLaws::grows_plain, crate::proofs::PlaceLaws::grows_row, crate::proofs::PlaceLaws::add_ready, crate::proofs::PlaceLaws::add_ends), unfolding(rows::specs::Layout::link_bytes))]
 fn cover(out: &[u8], work: &mut [u8], spot: Spot, end: usize) -> Spot
     requires { Longer out.now work.old spot end }
     ensures { Grows out.now work.new end result }
@@ -149,6 +152,7 @@ fn cover(out: &[u8], work: &mut [u8], spot: Spot, end: usize) -> Spot
 }
 
 // Puts a term's record at the end, unless an equal one is there.
+#[tactic(auto, using(words::proofs::TableLaws::place_said, words::proofs::TableLaws::place_not, crate::proofs::PlaceLaws::keep_there, crate::proofs::PlaceLaws::keep_full, crate::proofs::PlaceLaws::keep_longer, crate::proofs::PlaceLaws::keep_put))]
 fn keep(bytes: &[u8], out: &mut [u8], work: &mut [u8], spot: Spot) -> Put
     requires { Ready out.old work.old spot × Lone bytes.now × (kind_of bytes.now < step_kind) }
     ensures { Puts out.old out.new work.new spot
@@ -167,6 +171,7 @@ fn keep(bytes: &[u8], out: &mut [u8], work: &mut [u8], spot: Spot) -> Put
 }
 
 // The bytes of the numbers in a kind.
+#[tactic(auto, unfolding(crate::specs::Places::front_size))]
 fn front_size(k: u32) -> usize
     ensures { result ≡ front_size k }
 {
@@ -192,6 +197,7 @@ fn front_size(k: u32) -> usize
 }
 
 // Stores the numbers in a kind.
+#[tactic(auto, using(rows::proofs::RowLaws::sets_append, crate::proofs::PlaceLaws::no_front, crate::proofs::PlaceLaws::one_front, crate::proofs::PlaceLaws::two_front, crate::proofs::PlaceLaws::value_front))]
 fn put_front(kind: Kind, key: &mut [u8])
     requires { (length key.old ≡ key_bytes) × Known kind }
     ensures { key.new ≡ sets key.old 4 (front_bytes (op_of kind)) }
@@ -222,6 +228,7 @@ fn put_front(kind: Kind, key: &mut [u8])
 }
 
 // Stores the record of a term, and returns its size.
+#[tactic(auto, using(crate::proofs::PlaceLaws::fill_turn, crate::proofs::PlaceLaws::fill_end, crate::proofs::PlaceLaws::size_few, crate::proofs::PlaceLaws::size_of_front))]
 fn encode(kind: Kind, numbers: [u16; Term::MAX_ARGUMENTS], count: usize, key: &mut [u8]) -> usize
     requires { (length key.old ≡ key_bytes) × Known kind × (count ≤ max_arguments) }
     ensures { Encoded key.new (op_of kind) (take count numbers) result }
@@ -242,6 +249,7 @@ fn encode(kind: Kind, numbers: [u16; Term::MAX_ARGUMENTS], count: usize, key: &m
 }
 
 // Puts a term of that kind, whose arguments are the first `count` numbers, unless an equal one is there.
+#[tactic(auto, using(crate::proofs::PutLaws::term_lone, crate::proofs::PutLaws::term_low, crate::proofs::PutLaws::put_low, crate::proofs::PutLaws::puts_here, crate::proofs::PutLaws::take_few, crate::proofs::PutLaws::puts_record))]
 pub fn put_term(
     kind: Kind,
     numbers: [u16; Term::MAX_ARGUMENTS],
@@ -265,6 +273,7 @@ pub fn put_term(
 }
 
 // Puts a step with one literal; the number returned is the rule's.
+#[tactic(auto, using(crate::proofs::StepLaws::step_over, crate::proofs::StepLaws::step_full, crate::proofs::StepLaws::step_put, crate::proofs::StepLaws::step_row))]
 pub fn put_step(rule: u32, literal: usize, out: &mut [u8], work: &mut [u8], spot: Spot) -> Put
     requires { Ready out.old work.old spot }
     ensures { Steps out.old out.new work.new spot
