@@ -1,11 +1,11 @@
 -- The two exports together: `bb_tally` counts what `bb_job_within` wrote.
-use mathlib.Core.Path.{◌≡◌, refl, ap, ap₂, ◌∙◌}
+use mathlib.Core.Path.{◌≡◌, refl, ap, ◌∙◌}
 use mathlib.Core.List.{List, [], ◌∷◌, ◌++◌}
 use Prim.Native.Nat.{ℕ, ◌*◌, ◌/◌, ◌≤◌, min}
 use native.Mathlib.Omega.{arith}
 use lib.ListN.{length}
 use Rattle.theory.specs.Limit.{answer_bytes, number_bytes, long_bytes}
-use Rattle.theory.specs.Record.{Bytes, number_length}
+use Rattle.theory.specs.Record.{Bytes}
 use Rattle.theory.specs.Answer.{Answer, encode_answers, decode_answers}
 use Rattle.theory.specs.Job.{answers_after, run}
 use Rattle.theory.proofs.Bounds.{run_fits}

@@ -12,7 +12,7 @@ use terms::refusal;
 
 // What it comes to: a code, and the job's own outcome.
 #[repr(C)]
-#[derive(Drop)]
+#[derive(Clone, Copy)]
 pub struct Known {
     pub code: u32,
     pub outcome: Outcome,
@@ -51,8 +51,7 @@ fn known_job(
 
 // Runs a job and writes the bits of the term of that number, bit 0 first, for a host. A byte is 0, 1, or 2 for a bit that
 // is not known; `inputs` has one for each bit of the variables that stand in the term, the lowest number first.
-#[unsafe(no_mangle)]
-pub extern "C" fn bb_known(
+pub fn bb_known(
     job: &[u8],
     work: &mut [u8],
     answers: &mut [u8],

@@ -1,4 +1,7 @@
-// What is exported: the check of a job, what is asked of its final store, a text converted into a job, and the tally.
+// What hosts call: the check of a job, what is asked of its final store, a text converted into a job, and the tally. The crate bitblast_c exports
+// the same to C.
+#![tactic(auto)]
+
 pub mod alethe;
 pub mod count;
 pub mod known;
@@ -22,8 +25,7 @@ pub const VERSION: u32 = 8;
 
 // Checks a job, for a host, under a width limit and a limit of the number of terms, `true` and `false` counted; a limit above the rack's is
 // the rack's. The answers stand at the start of their memory, and the work memory is all zero: nothing of the job stays in it.
-#[unsafe(no_mangle)]
-pub extern "C" fn bb_job_within(
+pub fn bb_job_within(
     job: &[u8],
     work: &mut [u8],
     answers: &mut [u8],
@@ -55,8 +57,7 @@ pub extern "C" fn bb_job_within(
 }
 
 // Checks a job, for a host: the same under the rack's limits.
-#[unsafe(no_mangle)]
-pub extern "C" fn bb_job(job: &[u8], work: &mut [u8], answers: &mut [u8]) -> Outcome
+pub fn bb_job(job: &[u8], work: &mut [u8], answers: &mut [u8]) -> Outcome
     ensures result { told result ≡ (job_call rack job work answers).result }
     ensures answers { answers.new ≡ (job_call rack job work answers).answer_memory }
     ensures work { work.new ≡ (job_call rack job work answers).work_memory }
@@ -79,8 +80,7 @@ pub extern "C" fn bb_job(job: &[u8], work: &mut [u8], answers: &mut [u8]) -> Out
 }
 
 // The number of the interface, for a host to compare with the one that it was written for.
-#[unsafe(no_mangle)]
-pub extern "C" fn bb_version() -> u32
+pub fn bb_version() -> u32
     ensures { result ≡ 8 }
 {
     VERSION

@@ -12,7 +12,7 @@ use terms::refusal;
 
 // What a sweep comes to: a code, how many assignments there were, on how many the sides differ, and the job's own outcome.
 #[repr(C)]
-#[derive(Drop)]
+#[derive(Clone, Copy)]
 pub struct Swept {
     pub code: u32,
     pub assignments: u32,
@@ -52,8 +52,7 @@ fn sweep_job(
 }
 
 // Runs a job and sweeps the equality of that number: on how many assignments of its variables the two sides differ, for a host.
-#[unsafe(no_mangle)]
-pub extern "C" fn bb_sweep(
+pub fn bb_sweep(
     job: &[u8],
     work: &mut [u8],
     answers: &mut [u8],
