@@ -1,4 +1,9 @@
 // `bbcheck`, on no input.
-fn main() {
-    console::check_input();
+#![tactic(auto)]
+
+use std::io;
+
+fn main(rt: HostRuntime) -> io::Result<()> {
+    console::check_input(&mut rt.stdin(), &mut rt.stdout())?;
+    Ok(())
 }

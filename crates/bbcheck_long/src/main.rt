@@ -1,4 +1,9 @@
 // `bbcheck`, on one byte more than it takes.
-fn main() {
-    console::check_input();
+#![tactic(auto)]
+
+use std::io;
+
+fn main(rt: HostRuntime) -> io::Result<()> {
+    console::check_input(&mut rt.stdin(), &mut rt.stdout())?;
+    Ok(())
 }

@@ -1,6 +1,10 @@
 // Reads a text of Alethe steps from standard input and prints what it comes to: code, line and length, the bytes of the job, those past it, and
 // those of the work memory. Both lent memories are full of other bytes before.
-use libc::{STDIN_FILENO, STDOUT_FILENO};
+#![tactic(auto)]
+
+use convert::convert;
+use std::io;
+use streams::read_full;
 
 // The bytes lent for the text and for the job.
 const MEMORY: usize = 4096;
@@ -12,41 +16,35 @@ const LENT: usize = 200;
 const OLD: u8 = 165;
 
 // Prints a number, and a space after it.
-fn print_number(n: u64) {
-    io::print_decimal(STDOUT_FILENO, n);
-    io::write_all(STDOUT_FILENO, b" ");
+fn print_number(rt: &impl Print, n: u64) -> io::Result<()> {
+    print!(rt; "{n} ")
 }
 
-// Prints a byte, and a space after it.
-fn print_byte(x: u8) {
-    print_number(x as u64);
+// Ends a line.
+fn end_line(rt: &impl Print) -> io::Result<()> {
+    print!(rt; "\n")
 }
 
 // Prints the bytes from `start` up to `end`, where they are there.
-fn print_bytes(bytes: &[u8], start: usize, end: usize) {
-    let mut i = start;
-    while i < bytes.len() {
-        if i >= end {
-            break;
-        }
-        print_byte(bytes[i]);
-        i += 1;
+fn print_bytes(rt: &impl Print, bytes: &[u8], start: usize, end: usize) -> io::Result<()> {
+    for x in bytes.iter().take(end).skip(start) {
+        print_number(rt, u64::from(*x))?;
     }
-    io::write_all(STDOUT_FILENO, b"\n");
+    end_line(rt)
 }
 
-fn main() {
+fn main(rt: HostRuntime) -> io::Result<()> {
     let mut text = [0u8; MEMORY];
-    let n = io::read_full(STDIN_FILENO, &mut text);
+    let n = read_full(&mut rt.stdin(), &mut text)?;
     let mut work = [OLD; LENT];
     let mut job = [OLD; MEMORY];
-    let c = convert::convert(&text[..n], &mut work, &mut job);
-    print_number(c.code as u64);
-    print_number(c.line);
-    print_number(c.length);
-    io::write_all(STDOUT_FILENO, b"\n");
+    let c = convert(&text[..n], &mut work, &mut job);
+    print_number(&rt, u64::from(c.code))?;
+    print_number(&rt, c.line)?;
+    print_number(&rt, c.length)?;
+    end_line(&rt)?;
     let size = c.length as usize;
-    print_bytes(&job, 0, size);
-    print_bytes(&job, size, MEMORY);
-    print_bytes(&work, 0, LENT);
+    print_bytes(&rt, &job, 0, size)?;
+    print_bytes(&rt, &job, size, MEMORY)?;
+    print_bytes(&rt, &work, 0, LENT)
 }

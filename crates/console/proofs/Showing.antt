@@ -26,7 +26,7 @@ module _ (input : Bytes) where
   unfolding bbcheck told
   of_run h = sym (ap told (le-leb (length input) memory h))
 
-  of_long : memory < length input → too_long_text ++ end_line ≡ bbcheck input
+  pub of_long : memory < length input → too_long_text ++ end_line ≡ bbcheck input
   unfolding bbcheck told
   of_long h = sym (ap told (lt-leb (length input) memory h))
 

@@ -1,11 +1,17 @@
-// The program `bbcheck`: a job from standard input, and the text of what it came to.
-ghost use Rattle.std.specs.Prelude.{◌≡◌, ◌≤◌, length};
+// The program `bbcheck`: a job from its input, and the text of what it came to.
+#![tactic(auto)]
+
+ghost use Rattle.std.specs.Prelude.{◌≡◌, ◌≤◌, IfOk, IfSome, OnOk, length};
+ghost use Rattle.std.specs.Io.KnownBytes.{Appends};
+ghost use Rattle.theory.specs.Program.{bbcheck};
 ghost use Rattle.report.specs.Text.{written};
 ghost use Rattle.console.specs.Shown.{shown, Printed};
 
 use bitblast::bb_job;
-use libc::{STDIN_FILENO, STDOUT_FILENO};
 use report::{HEAD_SPACE, LINE_SPACE};
+use std::io;
+use std::io::{Read, Write};
+use streams::read_full;
 use terms::{ANSWER_BYTES, Term};
 
 // The bytes lent for the job, for work memory and for answers.
@@ -28,22 +34,25 @@ pub fn bbcheck_text(input: &[u8], out: &mut [u8]) -> usize
     if MEMORY < input.len() {
         return report::too_long(out);
     }
-    let mut work = io::large_buffer();
-    let mut answers = io::large_buffer();
+    let mut work = [0u8; MEMORY];
+    let mut answers = [0u8; MEMORY];
     let bytes = Term::number_length(input);
     let o = bb_job(input, &mut work, &mut answers);
     report::report(o.stop, o.terms, o.repeats, o.answers, &answers, bytes, out)
 }
 
 // Reads the input, of which one byte more than is lent for a job tells that it is too long, prints the text, and answers how many bytes
-// that is.
-pub fn check_input() -> usize
-    ensures { Printed result }
+// that is. Where a reader's and a writer's bytes are known, what is written is the text of all that there is to read. The first read or write
+// that fails ends it.
+pub fn check_input<R: Read, W: Write>(input: &mut R, output: &mut W) -> io::Result<usize>
+    ensures printed { IfOk result Printed }
+    ensures text { OnOk result (IfSome (R.remaining input.old)
+        (λ bytes. Appends (W.contents output.old) (W.contents output.new) (bbcheck bytes))) }
 {
-    let mut input = [0u8; MEMORY + 1];
-    let n = io::read_full(STDIN_FILENO, &mut input);
+    let mut job = [0u8; MEMORY + 1];
+    let n = read_full(input, &mut job)?;
     let mut out = [0u8; TEXT_SPACE];
-    let size = bbcheck_text(&input[..n], &mut out);
-    io::write_all(STDOUT_FILENO, &out[..size]);
-    size
+    let size = bbcheck_text(&job[..n], &mut out);
+    output.write_all(&out[..size])?;
+    Ok(size)
 }

@@ -3,9 +3,14 @@
 // A line of the file is five numbers of eight hexadecimal digits, the bytes of work memory lent, of answers lent, and of the job, the width
 // limit and the term limit, and then the job's bytes. What is printed for it: stop code, records done, answers written, terms kept, repeats, and
 // the bytes of the answers. Both lent memories are full of other bytes before.
+#![tactic(auto)]
+
 ghost use Rattle.std.specs.Prelude.{◌≡◌, ◌≤◌, ◌<◌, length};
 
-use libc::STDOUT_FILENO;
+use bitblast::bb_job_within;
+use std::io::Read;
+use std::{fs, io};
+use streams::read_full;
 use terms::{ANSWER_BYTES, DEPTH_AT, Term};
 
 // The digits of a number, and the space after them.
@@ -15,6 +20,9 @@ const FIELD: usize = 9;
 const FIELDS: usize = 5;
 
 const HEAD: usize = FIELDS * FIELD;
+
+// The most bytes that are lent for each of a line's text, job, work memory and answers.
+const LENT: usize = 65536;
 
 // The most lines that are read.
 const MOST: usize = 1000000;
@@ -77,14 +85,12 @@ fn capped(text: &[u8], k: usize, most: usize) -> usize
 fn decode(text: &[u8], job: &mut [u8])
     ensures { length job.new ≡ length job.old }
 {
-    let mut i = 0;
     let mut at = 0;
-    while i < job.len() {
+    for x in job.iter_mut() {
         if at >= text.len() {
             return;
         }
-        job[i] = byte_at(text, at);
-        i += 1;
+        *x = byte_at(text, at);
         at += 2;
     }
 }
@@ -93,38 +99,27 @@ fn decode(text: &[u8], job: &mut [u8])
 fn fill(memory: &mut [u8])
     ensures { length memory.new ≡ length memory.old }
 {
-    let mut i = 0;
-    while i < memory.len() {
-        memory[i] = OLD;
-        i += 1;
+    for x in memory.iter_mut() {
+        *x = OLD;
     }
 }
 
 // Prints a number, and a space after it.
-fn print_number(n: u32) {
-    io::print_decimal(STDOUT_FILENO, n as u64);
-    io::write_all(STDOUT_FILENO, b" ");
+fn print_number(rt: &impl Print, n: u32) -> io::Result<()> {
+    print!(rt; "{n} ")
 }
 
 // Prints a byte in two hexadecimal digits.
-fn print_byte(x: u8) {
-    let digits = b"0123456789abcdef";
-    let high = (x / 16) as usize;
-    let low = (x % 16) as usize;
-    io::write_all(STDOUT_FILENO, &[digits[high], digits[low]]);
+fn print_byte(rt: &impl Print, x: u8) -> io::Result<()> {
+    print!(rt; "{x:02x}")
 }
 
-// Prints the first n bytes.
-fn print_bytes(bytes: &[u8], n: usize) {
-    let mut i = 0;
-    while i < bytes.len() {
-        if i >= n {
-            break;
-        }
-        print_byte(bytes[i]);
-        i += 1;
+// Prints the first n bytes, and ends the line.
+fn print_bytes(rt: &impl Print, bytes: &[u8], n: usize) -> io::Result<()> {
+    for x in bytes.iter().take(n) {
+        print_byte(rt, *x)?;
     }
-    io::write_all(STDOUT_FILENO, b"\n");
+    print!(rt; "\n")
 }
 
 // The bytes of so many answers to a job's steps.
@@ -138,23 +133,37 @@ fn answers_size(job: &[u8], count: usize) -> usize
 }
 
 // Runs a job on the lent memories under two limits, and prints what it came to.
-fn run(job: &[u8], work: &mut [u8], answers: &mut [u8], width: u32, terms: u32) {
+fn run(
+    rt: &impl Print,
+    job: &[u8],
+    work: &mut [u8],
+    answers: &mut [u8],
+    width: u32,
+    terms: u32,
+) -> io::Result<()> {
     fill(work);
     fill(answers);
-    let o = bitblast::bb_job_within(job, work, answers, width, terms);
-    print_number(o.stop);
-    print_number(o.records);
-    print_number(o.answers);
-    print_number(o.terms);
-    print_number(o.repeats);
-    print_bytes(answers, answers_size(job, o.answers as usize));
+    let o = bb_job_within(job, work, answers, width, terms);
+    print_number(rt, o.stop)?;
+    print_number(rt, o.records)?;
+    print_number(rt, o.answers)?;
+    print_number(rt, o.terms)?;
+    print_number(rt, o.repeats)?;
+    print_bytes(rt, answers, answers_size(job, o.answers as usize))
 }
 
 // Reads the next line of the file and runs its job; answers whether there was one.
-fn line(fd: i32, text: &mut [u8], job: &mut [u8], work: &mut [u8], answers: &mut [u8]) -> bool {
+fn line<P: Print, R: Read>(
+    rt: &P,
+    file: &mut R,
+    text: &mut [u8],
+    job: &mut [u8],
+    work: &mut [u8],
+    answers: &mut [u8],
+) -> io::Result<bool> {
     let mut head = [0u8; HEAD];
-    if io::read_full(fd, &mut head) < HEAD {
-        return false;
+    if read_full(file, &mut head)? < HEAD {
+        return Ok(false);
     }
     let lent = capped(&head, 0, work.len());
     let room = capped(&head, 1, answers.len());
@@ -162,42 +171,43 @@ fn line(fd: i32, text: &mut [u8], job: &mut [u8], work: &mut [u8], answers: &mut
     let width = field(&head, 3) as u32;
     let terms = field(&head, 4) as u32;
     if text.len() <= 2 * size {
-        return false;
+        return Ok(false);
     }
-    io::read_full(fd, &mut text[..2 * size + 1]);
+    read_full(file, &mut text[..2 * size + 1])?;
     decode(text, &mut job[..size]);
     run(
+        rt,
         &job[..size],
         &mut work[..lent],
         &mut answers[..room],
         width,
         terms,
-    );
-    true
+    )?;
+    Ok(true)
 }
 
 // Runs the jobs of all lines, at most MOST.
-fn all(fd: i32, text: &mut [u8], job: &mut [u8], work: &mut [u8], answers: &mut [u8]) {
-    let mut left = MOST;
-    while left > 0 {
-        if !line(fd, text, job, work, answers) {
-            return;
+fn all<P: Print, R: Read>(
+    rt: &P,
+    file: &mut R,
+    text: &mut [u8],
+    job: &mut [u8],
+    work: &mut [u8],
+    answers: &mut [u8],
+) -> io::Result<()> {
+    for _ in 0..MOST {
+        if !line(rt, file, text, job, work, answers)? {
+            break;
         }
-        left -= 1;
     }
+    Ok(())
 }
 
-fn main() {
-    let path = b"jobs";
-    let fd = os::open_read(path);
-    if fd < 0 {
-        os::fail(path);
-        return;
-    }
-    let mut text = io::large_buffer();
-    let mut job = io::large_buffer();
-    let mut work = io::large_buffer();
-    let mut answers = io::large_buffer();
-    all(fd, &mut text, &mut job, &mut work, &mut answers);
-    libc::close(fd);
+fn main(rt: HostRuntime) -> io::Result<()> {
+    let mut file = fs::open(&rt, "jobs")?;
+    let mut text = [0u8; LENT];
+    let mut job = [0u8; LENT];
+    let mut work = [0u8; LENT];
+    let mut answers = [0u8; LENT];
+    all(&rt, &mut file, &mut text, &mut job, &mut work, &mut answers)
 }
