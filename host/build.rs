@@ -1,4 +1,4 @@
-//! Asks `rt` for the static library of the crate `bitblast`, or takes one that was proved elsewhere, and links a copy of it.
+//! Asks `rt` for the static library of the crate `bitblast_c`, or takes one that was proved elsewhere, and links a copy of it.
 use std::{
     env,
     fs::{self, File},
@@ -7,6 +7,9 @@ use std::{
 };
 
 const LIBRARY: &str = "bitblast";
+
+/// The crate that exports the library. `rt` names the archive after it.
+const CRATE: &str = "bitblast_c";
 
 /// The archive to link in place of one that is proved here, and its checksum.
 const ARCHIVE: &str = "BITBLAST_ARCHIVE";
@@ -17,7 +20,7 @@ fn main() {
         println!("cargo::rerun-if-env-changed={variable}");
     }
     look_at_target();
-    // The copy is this build's own: what another build does to target/ later does not change what this one links.
+    // The copy is this build's own: what another build makes later does not change what this one links.
     let out = folder("OUT_DIR");
     let copy = out.join(format!("lib{LIBRARY}.a"));
     let origin = match env::var_os(ARCHIVE) {
@@ -76,14 +79,22 @@ fn prove(copy: &Path) -> String {
     let here = folder("CARGO_MANIFEST_DIR");
     let root = here.parent().unwrap_or_else(|| fail("this crate must stand in the repository, as host/"));
     // Asked again where a source of the library or the list of its crates changed since.
-    for path in [root.join("crates"), root.join("crates.txt"), here.join("build.rs")] {
+    for path in [root.join("crates.txt"), here.join("build.rs")].into_iter().chain(sources(&root.join("crates"))) {
         println!("cargo::rerun-if-changed={}", path.display());
     }
-    let target = root.join("target");
-    let lock = lock(&target);
-    copy_archive(&build(root, &target), copy);
+    let lock = lock(&here.join("target"));
+    copy_archive(&build(&root.join("crates").join(CRATE)), copy);
     drop(lock);
     format!("proved with {}", kit())
+}
+
+/// The folders of the crates' sources: what `rt` makes, in a folder of each crate, is none.
+fn sources(crates: &Path) -> Vec<PathBuf> {
+    let entries =
+        fs::read_dir(crates).unwrap_or_else(|error| fail(&format!("cannot read {}: {error}", crates.display())));
+    let folders = entries.filter_map(|entry| Some(entry.ok()?.path()));
+    let parts = folders.flat_map(|folder| ["src", "specs", "proofs"].map(|part| folder.join(part)));
+    parts.filter(|part| part.is_dir()).collect()
 }
 
 /// The kit that proved the library, as `rt version` names it.
@@ -106,7 +117,7 @@ fn folder(variable: &str) -> PathBuf {
     PathBuf::from(env::var_os(variable).unwrap_or_else(|| fail(&format!("cargo sets no {variable}"))))
 }
 
-/// Waits until no other build has the lock. Two runs of `rt` over one target folder take each other's half-done work for failures.
+/// Waits until no other build has the lock: each makes the archive anew in one place.
 fn lock(target: &Path) -> File {
     let path = target.join("host.lock");
     let locked = fs::create_dir_all(target).and_then(|()| File::create(&path)).and_then(|file| {
@@ -116,26 +127,26 @@ fn lock(target: &Path) -> File {
     locked.unwrap_or_else(|error| fail(&format!("cannot lock {}: {error}", path.display())))
 }
 
-/// Runs `rt`, and gives the archive's path.
-fn build(root: &Path, target: &Path) -> PathBuf {
+/// Runs `rt` in the folder of the crate, and gives the archive's path.
+fn build(folder: &Path) -> PathBuf {
     let rt = rt();
-    let archive = target.join("staticlib").join(format!("lib{LIBRARY}.a"));
-    match Command::new(&rt).args(["staticlib", LIBRARY]).current_dir(root).output() {
+    let archive = folder.join("out").join(format!("lib{CRATE}.a"));
+    match Command::new(&rt).arg("lib").current_dir(folder).output() {
         Err(error) => fail(&format!(
             "cannot run {}: {error}. It proves and builds the library; put it on the PATH, or name it in the environment variable RT. Without \
              it, {ARCHIVE} and {CHECKSUM} may name an archive that was proved elsewhere.",
             rt.display()
         )),
         Ok(done) if !done.status.success() => fail(&format!(
-            "`{} staticlib {LIBRARY}` failed in {}: {}\n{}{}",
+            "`{} lib` failed in {}: {}\n{}{}",
             rt.display(),
-            root.display(),
+            folder.display(),
             done.status,
             String::from_utf8_lossy(&done.stdout),
             String::from_utf8_lossy(&done.stderr)
         )),
         Ok(_) if !archive.is_file() => {
-            fail(&format!("`{} staticlib {LIBRARY}` ended well but wrote no {}", rt.display(), archive.display()))
+            fail(&format!("`{} lib` ended well but wrote no {}", rt.display(), archive.display()))
         }
         Ok(_) => archive,
     }

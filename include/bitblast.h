@@ -1,6 +1,7 @@
 /* The verified checker of bit-blasting steps, for C.
  *
- * Link target/staticlib/libbitblast.a, which `rt staticlib bitblast` writes. docs/FORMAT.md has the format of a job, and every code.
+ * Link libbitblast.a of a release (tools/release), or crates/bitblast_c/out/libbitblast_c.a, the same file, which `rt lib` writes in
+ * crates/bitblast_c. docs/FORMAT.md has the format of a job, and every code.
  *
  * Formats: the numbers of terms in a job have two bytes, or four where its first four bytes are 02 00 67 00, a record of kind
  * BB_KIND_FOURBYTES without a body; BB_IS_LONG tells them apart. Such a long job may keep more terms, each costs more work memory, and its

@@ -10,8 +10,8 @@ import glob, os, re, sys
 ROOT = os.path.join(os.path.dirname(os.path.abspath(__file__)), '..')
 
 # Theorems whose type is written out; the others have a claim of their own in specs/.
-WRITTEN_OUT = ['demand-1', 'demand-2', 'demand-3', 'demand-2-call', 'demand-3-call', 'answers-kept', 'shut-out', 'shut-out-held',
-               'specimens-hold', 'worked-right', 'computed', 'steps-written']
+WRITTEN_OUT = ['demand_1', 'demand_2', 'demand_3', 'demand_2_call', 'demand_3_call', 'answers_kept', 'shut_out', 'shut_out_held',
+               'specimens_hold', 'worked_right', 'computed', 'steps_written']
 CLAIMING = ['theory', 'sweeps', 'text', 'bitblast']    # the crates that state claims
 EXPORTED = ['bb_job', 'bb_job_within', 'bb_sweep', 'bb_count', 'bb_known', 'bb_text', 'bb_tally', 'bb_version']
 
@@ -70,7 +70,7 @@ def theorems(known):
 
 def promises():
     """Each exported function: its name, place and header."""
-    for path in sources('bitblast', 'src', '*.rt'):
+    for path in sources('bitblast_c', 'src', '*.rt'):
         text = lines(path)
         for k, line in enumerate(text):
             m = re.match(r'pub extern "C" fn (\w+)', line)

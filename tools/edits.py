@@ -1,24 +1,26 @@
 #!/usr/bin/env python3
 """The must-fail edits that make functions wrong: each function that one names is refused for an error of its own.
 
-A line `wrong: MODULE::FUNCTION: WHAT` in crates/NAME/must-fail/LABEL.edit says that the edit makes this function wrong. A function is proved
-against what its callees promise, so one edit makes many functions wrong at once, and the prover reports each at its own proof.
+A line `wrong: MODULE::FUNCTION: WHAT` in crates/NAME/must-fail/LABEL.edit, or the same behind `# `, says that the edit makes this function wrong. A function
+is proved against what its callees promise, so one edit makes many functions wrong at once, and the prover reports each at its own proof.
 
-  edits.py check [NAME..]  after `rt ci` or `rt must-fail`, whose logs stand in target/must-fail; of all crates, or of those named. Exit status 1 where a
-                           function that an edit names has no error of its own, or its first one says only that the proof no longer fits the text; where
-                           this holds of the first error of an edit of definitions; where an edit of src/ names no function; where a public function
-                           is named by fewer than two edits
-  edits.py fits [NAME..]   before it, in a second: each text that an edit changes stands in its file once; each public function is named by two edits
-  edits.py list [NAME..]   how many edits name each public function"""
-import collections, glob, os, re, sys
+  edits.py fits [NAME..]        in a second: each text that an edit changes stands in its file once; each public function is named by two edits; of all crates,
+                                or of those named
+  edits.py check LOG [NAME..]   LOG is what `rt ci` or `rt must-fail` said, the first error of each edit. Exit status 1 where an edit is missing there or is not
+                                refused, or where its first error says only that a proof no longer fits the text; where an edit of src/ names no function;
+                                where a public function is named by fewer than two edits
+  edits.py try [NAME..]         checks each edit in a copy of the crates, as `rt must-fail` does, and reads all that is said: exit status 1 also where a function
+                                that an edit names has no error of its own, or where its first one says only that the proof no longer fits the text
+  edits.py list [NAME..]        how many edits name each public function"""
+import collections, glob, os, re, shutil, subprocess, sys, tempfile
 
 ROOT = os.path.normpath(os.path.join(os.path.dirname(os.path.abspath(__file__)), '..'))
 # An error that follows from another one.
-FOLLOWS = re.compile(r'was not admitted|cannot be checked')
-# The first error of a function that says nothing of what it answers: an invariant over other variables, a need of the proof that the text no longer has,
-# a name out of scope, or what follows from another error.
-UNFIT = re.compile(r'^`Inv-|can be named from here|not in scope|out of scope|unknown name|has no field|binders, but its type'
-                   r'|expected type `tie\.Need-|' + FOLLOWS.pattern)
+FOLLOWS = re.compile(r'was not admitted|was rejected|was not checked|cannot be checked')
+# An error that says nothing of what a function answers: an invariant over other variables, a goal of the proof that the text no longer has, a name out of
+# scope, or what follows from another error.
+UNFIT = re.compile(r'can be named from here|not in scope|out of scope|unknown name|is no name|has no field|has no `|binders, but its type|' + FOLLOWS.pattern)
+REFUSED = 'refused, as it must be'
 
 
 def read(path):
@@ -28,7 +30,7 @@ def read(path):
 
 def wrong_lines(path):
     """(function, what is wrong in it) for each `wrong:` line of an edit."""
-    return re.findall(r'^wrong: (\S+): (.+)$', read(path), re.M)
+    return re.findall(r'^(?:# )?wrong: (\S+): (.+)$', read(path), re.M)
 
 
 def edits():
@@ -49,79 +51,125 @@ def public_functions():
             yield crate, '::'.join(module + kind + [m.group(2)])
 
 
-def own_errors(log, crate, function):
-    """What a log says of the function's own proof: the errors in its proof file, or the needs that no search closed where it has none."""
+def first_in_log(log, crate, label):
+    """What rt says of an edit, and the first error that it shows."""
+    found = re.search(r'^rt: must-fail %s/%s\.edit: (.*)$' % (re.escape(crate), re.escape(label)), log, re.M)
+    return found.group(1) if found else None
+
+
+def faults_in_log(log, crate, label, path):
+    """What is wrong with one edit, by the one line that rt says of it."""
+    if not wrong_lines(path) and re.search(r'^file: src/', read(path), re.M):
+        return ['it edits src/ and names no function']
+    said = first_in_log(log, crate, label)
+    if said is None:
+        return ['it was not tried: run rt must-fail ' + crate]
+    if not said.startswith(REFUSED):
+        return [said[:200]]
+    if 'only because a proof file names' in said or UNFIT.search(said):
+        return ['its first error shows nothing: ' + said[len(REFUSED):][:200].lstrip(': ')]
+    return []
+
+
+def own_errors(said, crate, function):
+    """What a check says of the function's own proof: the errors in its proof files, or the goals that no search closed."""
     *module, name = function.split('::')
     # the proof of functions that call themselves, or each other, stands in a folder of their names, each after a +
     folder = '/'.join(['proofs'] + module) + r'/(?:%s|(?:\+\w+)*\+%s(?:\+\w+)*)' % (name, name)
-    found = re.findall(r'^\S*/%s/Proof\.antt:\d+:\d+: error: (.*(?:\n  .*)*)' % folder, log, re.M)
-    return found or re.findall(r'^fn %s::%s: no proof: .*(`search` does not close .*)$' % (crate, re.escape(function)), log, re.M)
+    found = re.findall(r'^\S*/%s/\w+\.antt:\d+:\d+: error: (.*(?:\n  .*)*)' % folder, said, re.M)
+    return found or re.findall(r'^fn %s::%s: no proof: .*(`search` did not prove .*)$' % (re.escape(crate), re.escape(function)), said, re.M)
 
 
-def first_error(log):
+def first_error(said):
     """The first error of an edit of definitions that does not follow from another one."""
-    found = re.findall(r'^\S+\.antt:\d+:\d+: error: (.*(?:\n  .*)*)', log, re.M)
+    found = re.findall(r'^\S+\.antt:\d+:\d+: error: (.*(?:\n  .*)*)', said, re.M)
+    found += re.findall(r'^fn \S+: no proof: .*(`search` did not prove .*)$', said, re.M)
     return next((error for error in found if not FOLLOWS.search(error)), None)
 
 
-def faults_of(crate, label, path):
-    """What is wrong with one edit."""
+def faults_of(said, crate, path):
+    """What is wrong with one edit, by all that a check of it says."""
     functions = sorted({function for function, _ in wrong_lines(path)})
-    if not functions and re.search(r'^file: src/', read(path), re.M):
-        return ['it edits src/ and names no function']
-    log = os.path.join(ROOT, 'target', 'must-fail', crate, label, '.log')
-    if not os.path.exists(log):
-        return ['it was not tried: run rt must-fail ' + crate]
-    text = read(log)
     if not functions:
+        if re.search(r'^file: src/', read(path), re.M):
+            return ['it edits src/ and names no function']
         # in one line: below it antt may say what it shows is "not in scope"
-        error = (first_error(text) or 'none').split('\n')[0]
+        error = (first_error(said) or 'none').split('\n')[0]
         return ['its first error shows nothing: ' + error[:200]] if error == 'none' or UNFIT.search(error) else []
-    faults = ['its own text has an error: ' + error[:200] for error in re.findall(r'^\S*/src/\S+: error.*', text, re.M)]
+    faults = ['its own text has an error: ' + error[:200] for error in re.findall(r'^\S*(?:^|/)src/\S+: error.*', said, re.M)]
     for function in functions:
-        own = own_errors(text, crate, function)
+        own = own_errors(said, crate, function)
         if not own:
             faults.append('%s has no error of its own' % function)
-        elif UNFIT.search(own[0]):
+        elif UNFIT.search(own[0].split('\n')[0]):
             faults.append('the first error of %s shows nothing: %s' % (function, own[0].split('\n')[0][:200]))
     return faults
 
 
-def misfits_of(crate, label, path):
-    """The texts of an edit that do not stand once in what its earlier changes left, as rt applies them."""
+def applied(crate, path):
+    """The texts of the files that an edit changes, by their place in the crate, and what does not fit: an `old:` text that does not stand once in what the
+    earlier changes left, as rt applies them."""
     texts, faults, place, old = {}, [], None, None
     for line in read(path).split('\n'):
         if line.startswith('file: '):
-            place = os.path.join(ROOT, 'crates', crate, line[6:])
+            place = line[6:].strip()
         elif line.startswith('old: '):
             old = line[5:]
         elif line.startswith('new:'):
-            text = texts.get(place) or read(place)
+            text = texts.get(place) or read(os.path.join(ROOT, 'crates', crate, place))
             if text.count(old) != 1:
-                faults.append('%d times in %s: %s' % (text.count(old), os.path.relpath(place, ROOT), old))
+                faults.append('%d times in %s: %s' % (text.count(old), os.path.join('crates', crate, place), old))
             texts[place] = text.replace(old, line[4:].removeprefix(' '), 1)
-    return faults
+    return texts, faults
 
 
-def main(verb, crates):
-    chosen = [e for e in edits() if not crates or e[0] in crates]
+def tried(chosen):
+    """(crate, label, faults) of each edit, by a check of it in a copy of the crates."""
+    with tempfile.TemporaryDirectory() as room:
+        for name in ('crates.txt', 'HANDLES'):
+            if os.path.exists(os.path.join(ROOT, name)):
+                shutil.copy(os.path.join(ROOT, name), room)
+        for part in glob.glob(os.path.join(ROOT, 'crates', '*', '*')):
+            if os.path.basename(part) in ('src', 'specs', 'proofs'):
+                shutil.copytree(part, os.path.join(room, os.path.relpath(part, ROOT)))
+        for crate, label, path in chosen:
+            folder = os.path.join(room, 'crates', crate)
+            texts, faults = applied(crate, path)
+            for place, text in texts.items():
+                with open(os.path.join(folder, place), 'w', encoding='utf-8') as f:
+                    f.write(text)
+            done = subprocess.run(['rt', 'check'], cwd=folder, stdin=subprocess.DEVNULL, stdout=subprocess.PIPE, stderr=subprocess.STDOUT, errors='replace')
+            if done.returncode == 0:
+                faults.append('it is not refused')
+            yield crate, label, faults or faults_of(done.stdout, crate, path)
+            for place in texts:
+                shutil.copy(os.path.join(ROOT, 'crates', crate, place), os.path.join(folder, place))
+
+
+def main(verb, words):
+    log = read(words.pop(0)) if verb == 'check' else ''
+    chosen = [e for e in edits() if not words or e[0] in words]
     named = collections.Counter((crate, f) for crate, _, path in chosen for f in {function for function, _ in wrong_lines(path)})
-    public = [p for p in public_functions() if not crates or p[0] in crates]
+    public = [p for p in public_functions() if not words or p[0] in words]
     few = ['%s: %s is made wrong by %d edits, and two are asked for' % (c, f, named[c, f]) for c, f in public if named[c, f] < 2]
     if verb == 'list':
         for crate, function in public:
             print('%d  %s: %s' % (named[crate, function], crate, function))
         print('%d public functions, %d of them made wrong by fewer than two edits' % (len(public), len(few)))
         return 0
-    find = faults_of if verb == 'check' else misfits_of
-    faults = ['%s/%s: %s' % (crate, label, fault) for crate, label, path in chosen for fault in find(crate, label, path)] + few
-    for fault in faults:
-        print(fault)
-    print('%d edits, %d wrong answers of %d functions, %d of them public: %d faults' % (len(chosen), sum(named.values()), len(named), len(public), len(faults)))
-    return 1 if faults or not public else 0
+    if verb == 'try':
+        found = tried(chosen)
+    else:
+        found = ((crate, label, faults_in_log(log, crate, label, path) if verb == 'check' else applied(crate, path)[1]) for crate, label, path in chosen)
+    count = 0
+    for fault in [*('%s/%s: %s' % (crate, label, fault) for crate, label, faults in found for fault in faults), *few]:
+        count += 1
+        print(fault, flush=True)
+    print('%d edits, %d wrong answers of %d functions, %d of them public: %d faults' % (len(chosen), sum(named.values()), len(named), len(public), count))
+    return 1 if count or not public else 0
 
 
 if __name__ == '__main__':
-    if sys.argv[1:2] not in (['check'], ['fits'], ['list']):
+    if sys.argv[1:2] not in (['check'], ['fits'], ['try'], ['list']) or sys.argv[1:] == ['check']:
         sys.exit(__doc__)
     sys.exit(main(sys.argv[1], sys.argv[2:]))

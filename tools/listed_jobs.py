@@ -21,26 +21,26 @@ OUT = os.path.join(HERE, '..', 'crates', 'theory', 'proofs', 'Computed.antt')
 # What a run has to unfold to be computed, by the module of specs/ that defines it.
 UNFOLD = {
     'Limit': '',
-    'Term': 'fold same-op same-term',
+    'Term': 'fold same_op same_term',
     'Sort': 'guard',
     'Depth': 'depth',
-    'Circuit': 'zip-with last clog2 ripple-carry-adder last-carry carry-out ult-from bitblast-ult slt-from slt gather add-rows '
-               'shift-add-multiplier shl-bits shl-stages shr-bits shr-stages shl lshr ashr divide-step '
-               'bitblast-udiv-urem-rec udiv urem',
-    'Bits': 'select get-term-bits fold-terms add-bits concat-bits',
-    'Rule': 'args-of literal-bits slices-verdict on-sides verdict',
-    'Record': 'cut shape-of read number-length',
-    'Plain': 'feed repeat-of',
+    'Circuit': 'zip_with last clog2 ripple_carry_adder last_carry carry_out ult_from bitblast_ult slt_from slt gather add_rows '
+               'shift_add_multiplier shl_bits shl_stages shr_bits shr_stages shl lshr ashr divide_step '
+               'bitblast_udiv_urem_rec udiv urem',
+    'Bits': 'select get_term_bits fold_terms add_bits concat_bits',
+    'Rule': 'args_of literal_bits slices_verdict on_sides verdict',
+    'Record': 'cut shape_of read number_length',
+    'Plain': 'feed repeat_of',
     'Codes': 'fault',
     'Answer': '',
-    'Chain': 'joins chain-verdict',
-    'Job': 'answers-to recall run-from run',
+    'Chain': 'joins chain_verdict',
+    'Job': 'answers_to recall run_from run',
 }
 
 HEAD = '''-- Document 01's own jobs, computed: each comes to what it says, which is what the original Rust answers; and a few of document 02's chains, jobs under
 -- stated limits, and jobs whose numbers have four bytes. Written by tools/listed_jobs.py; the program `replay` runs these and many others.
-use mathlib.Core.Path.{_≡_, refl}
-use mathlib.Core.List.{List, [], _∷_}
+use mathlib.Core.Path.{◌≡◌, refl}
+use mathlib.Core.List.{List, [], ◌∷◌}
 use Prim.Native.Nat.{ℕ}
 %s
 -- a job, its limits, the lent bytes of work memory and answers, and what a run of it comes to
@@ -66,7 +66,7 @@ case limits job work space stop done answers terms repeats = record {
 -- each comes to its outcome
 abbrev Computed : List Case → Type 0
 Computed [] = Unit {0}
-Computed (c ∷ cs) = (run (c .limits) (c .job) (c .work) (c .space) ≡ c .outcome) × Computed cs
+Computed (c ∷ cs) = (run c.limits c.job c.work c.space ≡ c.outcome) × Computed cs
 
 abbrev cases : List Case
 cases =
@@ -86,7 +86,7 @@ def jobs():
 
 def antt():
     types = {'Limit': 'Limits stated rack', 'Record': 'Bytes', 'Answer': 'Answer', 'Job': 'Outcome'}
-    uses = ''.join('use Rattle·theory·specs.specs.%s.{%s}\n' % (m, ', '.join((types.get(m, '') + ' ' + names).split())) for m, names in UNFOLD.items())
+    uses = ''.join('use Rattle.theory.specs.%s.{%s}\n' % (m, ', '.join((types.get(m, '') + ' ' + names).split())) for m, names in UNFOLD.items())
     out, count = [HEAD % uses], 0
     for name, limits, work, room, job, stop, records, terms, repeats, answers in jobs():
         if not name.startswith(COMPUTED):

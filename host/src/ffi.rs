@@ -1,7 +1,7 @@
 //! The functions of the static library, declared by hand: nothing checks these declarations against the Rattle source
-//! (`bb_job`, `bb_job_within`, `bb_sweep`, `bb_count`, `bb_known`, `bb_text`, `bb_tally`, `bb_version` and what they return in crates/bitblast, crates/runs
-//! and crates/convert, `Tally` in crates/tally). tests/ffi.rs does what can be done: it compares the text of both, the interface's number, and sizes,
-//! offsets and the bytes around each lent slice.
+//! (`bb_job`, `bb_job_within`, `bb_sweep`, `bb_count`, `bb_known`, `bb_text`, `bb_tally`, `bb_version` in crates/bitblast_c; what they return in
+//! crates/bitblast, crates/runs and crates/convert, `Tally` in crates/tally). tests/ffi.rs does what can be done: it compares the text of both, the
+//! interface's number, and sizes, offsets and the bytes around each lent slice.
 use crate::{Format, MAX_WIDTH};
 
 /// What a job came to. Later interfaces may add numbers.

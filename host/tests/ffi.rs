@@ -49,13 +49,13 @@ fn layout() {
     );
 }
 
-/// All Rattle source of the repository in one line, without comments and with single spaces.
+/// All Rattle source below a folder in one line, without comments and derives, and with single spaces.
 fn source(folder: &Path, text: &mut String) {
     for entry in fs::read_dir(folder).unwrap().map(|entry| entry.unwrap().path()) {
         if entry.is_dir() {
             source(&entry, text);
         } else if entry.extension().is_some_and(|end| end == "rt") {
-            for line in fs::read_to_string(entry).unwrap().lines() {
+            for line in fs::read_to_string(entry).unwrap().lines().filter(|line| !line.starts_with("#[derive(")) {
                 let code = line.split("//").next().unwrap();
                 text.extend(code.split_whitespace().flat_map(|word| [word, " "]));
             }
@@ -66,16 +66,18 @@ fn source(folder: &Path, text: &mut String) {
 #[test]
 fn the_source_says_the_same() {
     let mut text = String::new();
-    source(&Path::new(env!("CARGO_MANIFEST_DIR")).join("../crates"), &mut text);
+    for entry in fs::read_dir(Path::new(env!("CARGO_MANIFEST_DIR")).join("../crates")).unwrap() {
+        source(&entry.unwrap().path().join("src"), &mut text);
+    }
     for declared in [
-        "#[no_mangle] pub extern \"C\" fn bb_job(job: &[u8], work: &mut [u8], answers: &mut [u8]) -> Outcome ",
-        "#[no_mangle] pub extern \"C\" fn bb_job_within( job: &[u8], work: &mut [u8], answers: &mut [u8], width_limit: u32, term_limit: u32, ) -> Outcome ",
-        "#[no_mangle] pub extern \"C\" fn bb_sweep( job: &[u8], work: &mut [u8], answers: &mut [u8], values: &mut [u8], number: u32, ) -> Swept ",
-        "#[no_mangle] pub extern \"C\" fn bb_count( job: &[u8], work: &mut [u8], answers: &mut [u8], values: &mut [u8], number: u32, counts: &mut [u32], ) -> Counted ",
-        "#[no_mangle] pub extern \"C\" fn bb_known( job: &[u8], work: &mut [u8], answers: &mut [u8], values: &mut [u8], number: u32, inputs: &[u8], outputs: &mut [u8], ) -> Known ",
-        "#[no_mangle] pub extern \"C\" fn bb_text(text: &[u8], work: &mut [u8], job: &mut [u8]) -> Converted ",
-        "#[no_mangle] pub extern \"C\" fn bb_version() -> u32 ",
-        "#[no_mangle] pub extern \"C\" fn bb_tally(tally: &mut Tally, answers: &[u8], count: u32) ",
+        "#[unsafe(no_mangle)] pub extern \"C\" fn bb_job(job: &[u8], work: &mut [u8], answers: &mut [u8]) -> Outcome ",
+        "#[unsafe(no_mangle)] pub extern \"C\" fn bb_job_within( job: &[u8], work: &mut [u8], answers: &mut [u8], width_limit: u32, term_limit: u32, ) -> Outcome ",
+        "#[unsafe(no_mangle)] pub extern \"C\" fn bb_sweep( job: &[u8], work: &mut [u8], answers: &mut [u8], values: &mut [u8], number: u32, ) -> Swept ",
+        "#[unsafe(no_mangle)] pub extern \"C\" fn bb_count( job: &[u8], work: &mut [u8], answers: &mut [u8], values: &mut [u8], number: u32, counts: &mut [u32], ) -> Counted ",
+        "#[unsafe(no_mangle)] pub extern \"C\" fn bb_known( job: &[u8], work: &mut [u8], answers: &mut [u8], values: &mut [u8], number: u32, inputs: &[u8], outputs: &mut [u8], ) -> Known ",
+        "#[unsafe(no_mangle)] pub extern \"C\" fn bb_text(text: &[u8], work: &mut [u8], job: &mut [u8]) -> Converted ",
+        "#[unsafe(no_mangle)] pub extern \"C\" fn bb_version() -> u32 ",
+        "#[unsafe(no_mangle)] pub extern \"C\" fn bb_tally(tally: &mut Tally, answers: &[u8], count: u32) ",
         "#[repr(C)] pub struct Outcome { pub stop: u32, pub records: u32, pub answers: u32, pub terms: u32, pub repeats: u32, }",
         "#[repr(C)] pub struct Swept { pub code: u32, pub assignments: u32, pub differing: u32, pub outcome: Outcome, }",
         "#[repr(C)] pub struct Counted { pub code: u32, pub outcome: Outcome, }",
