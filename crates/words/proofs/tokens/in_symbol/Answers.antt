@@ -5,16 +5,13 @@ use Rattle.text.specs.Tokens.{in_symbol}
 use Rattle.words.proofs.WordLaws.{agree, symbol_word}
 use Rattle.words.proofs.tokens.in_symbol.Goals as goal
 
--- src/tokens.rt:88:9
 pub returns-then-b-eq35 : goal.returns-then-b-eq35
 unfolding in_symbol
 returns-then-b-eq35 c = sym (agree in_symbol (λ b. false) 35 1 tt c.args.b (omega arith) (omega arith))
 
--- src/tokens.rt:91:9
 pub returns-then-b-eq58 : goal.returns-then-b-eq58
 unfolding in_symbol
 returns-then-b-eq58 c = sym (agree in_symbol (λ b. false) 58 1 tt c.args.b (omega arith) (omega arith))
 
--- src/tokens.rt:84:1
 pub returns : goal.returns
 returns c = c.in_word.ensures ∙ symbol_word c.args.b c.if-b-eq35.false c.if-b-eq58.false

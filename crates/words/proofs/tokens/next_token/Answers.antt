@@ -5,11 +5,9 @@ use lib.ListN.{length}
 use Rattle.words.proofs.WordLaws.{token_end, token_left, token_right, token_bad, token_word, word_some}
 use Rattle.words.proofs.tokens.next_token.Goals as goal
 
--- src/tokens.rt:133:9
 pub returns-then-line-i : goal.returns-then-line-i
 returns-then-line-i c = record { is = token_end c.skip_blanks-i.ensures c.if-line-i.true; inside = tt }
 
--- src/tokens.rt:137:9
 pub returns-then-b-eq40 : goal.returns-then-b-eq40
 returns-then-b-eq40 c = let s = c.skip_blanks-i.ensures in
     let h : c.skip_blanks-i.result < length c.args.line.now = omega arith in
@@ -17,7 +15,6 @@ returns-then-b-eq40 c = let s = c.skip_blanks-i.ensures in
     let in_line = s.inside in
     record { is = token_left s h c.if-b-eq40.true; inside = (omega arith, omega arith) }
 
--- src/tokens.rt:140:9
 pub returns-then-b-eq41 : goal.returns-then-b-eq41
 returns-then-b-eq41 c = let s = c.skip_blanks-i.ensures in
     let h : c.skip_blanks-i.result < length c.args.line.now = omega arith in
@@ -25,7 +22,6 @@ returns-then-b-eq41 c = let s = c.skip_blanks-i.ensures in
     let in_line = s.inside in
     record { is = token_right s h c.if-b-eq41.true; inside = (omega arith, omega arith) }
 
--- src/tokens.rt:143:9
 pub returns-then-not-in_word : goal.returns-then-not-in_word
 returns-then-not-in_word c = let s = c.skip_blanks-i.ensures in
     let h : c.skip_blanks-i.result < length c.args.line.now = omega arith in
@@ -33,7 +29,6 @@ returns-then-not-in_word c = let s = c.skip_blanks-i.ensures in
     let in_line = s.inside in
     record { is = token_bad s h c.if-b-eq40.false c.if-b-eq41.false (sym c.in_word.ensures ∙ c.if-not-in_word.true); inside = (omega arith, omega arith) }
 
--- src/tokens.rt:127:1
 pub returns : goal.returns
 returns c = let s = c.skip_blanks-i.ensures in
     let h : c.skip_blanks-i.result < length c.args.line.now = omega arith in

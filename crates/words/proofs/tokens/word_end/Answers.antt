@@ -5,22 +5,18 @@ use lib.ListN.{length}
 use Rattle.words.proofs.WordLaws.{word_start, word_turn, word_stop, word_last}
 use Rattle.words.proofs.tokens.word_end.Goals as goal
 
--- src/tokens.rt:117:5
 pub loop-i-init : goal.loop-i-init
 loop-i-init c = word_start _ _ c.requires
 
--- src/tokens.rt:119:13
 pub returns-then-not-in_word : goal.returns-then-not-in_word
 returns-then-not-in_word c = let l = c.loop-i in
     let h : l.i < length c.args.line.now = omega arith in
     word_stop l.invariant h (sym c.in_word.ensures ∙ c.if-not-in_word.true)
 
--- src/tokens.rt:117:5
 pub loop-i-preserved : goal.loop-i-preserved
 loop-i-preserved c = let l = c.loop-i in
     let h : l.i < length c.args.line.now = omega arith in
     word_turn l.invariant h (sym c.in_word.ensures ∙ c.if-not-in_word.false)
 
--- src/tokens.rt:112:1
 pub returns : goal.returns
 returns c = word_last c.loop-i.invariant (omega arith)
