@@ -17,7 +17,7 @@ use Rattle.theory.specs.Record.{Bytes, read, claim_of, number_length}
 use Rattle.theory.specs.Record as R
 use Rattle.theory.specs.Plain.{Plain, at_place}
 use Rattle.theory.specs.Chain.{Earlier, Sides, sides, premise_place, premise_at, premises_at}
-use Rattle.theory.proofs.Basics.{none_some, some_inj, getElem_of, getElem_lt}
+use Rattle.theory.proofs.Basics.{none_some, some_inj, get_elem_of, get_elem_lt}
 use Rattle.theory.proofs.Places.{tree_at, at_place_is}
 use Rattle.theory.proofs.Origins.{Mark, before, standing, all_standing}
 use Rattle.terms.specs.declared.Item.{Item}
@@ -28,7 +28,7 @@ use Rattle.terms.specs.Decoded.{item_of, words_in}
 use Rattle.terms.proofs.Lists.{words_in_length}
 use Rattle.rows.specs.Layout.{link_size, offset_at}
 use Rattle.rows.specs.Rows.{column, offsets}
-use Rattle.rows.proofs.RowLaws.{getD_column, length_column}
+use Rattle.rows.proofs.RowLaws.{get_or_column, length_column}
 use Rattle.store.specs.Store.{Store, listed}
 use Rattle.operand_rules.specs.Rules.{tree}
 use Rattle.steps.specs.Answering.{step_place, step_code}
@@ -50,7 +50,7 @@ claims job place i j e f = claimed_is job place j (ap (item_of job) (sym f) ∙ 
 
 -- the first of a list
 pub first_of : (ks : List ℕ) → 0 < length ks → some (get_or ks 0 0) ≡ get_elem? ks 0
-first_of ks h = sym (getElem_of ks 0 0 h)
+first_of ks h = sym (get_elem_of ks 0 0 h)
 
 none_first : (ks : List ℕ) → length ks ≡ 0 → none ≡ get_elem? ks 0
 none_first [] h = refl
@@ -66,7 +66,7 @@ module _ (job : Bytes) (place : ℕ) (i : Item) {rule : ℕ} {a : Args} (e : ite
 
 -- ---- the origin of a term
 column_at : {A : Type 0} (f : ℕ → A) (d : A) (n k : ℕ) → k < n → get_elem? (column f n) k ≡ some (f k)
-column_at f d n k h = getElem_of (column f n) k d (let l = length_column f n in omega arith) ∙ ap some (getD_column f d n k h)
+column_at f d n k h = get_elem_of (column f n) k d (let l = length_column f n in omega arith) ∙ ap some (get_or_column f d n k h)
 
 column_none : {A : Type 0} (f : ℕ → A) (n k : ℕ) → n ≤ k → get_elem? (column f n) k ≡ none
 column_none f n k h = beyond (column f n) k (let l = length_column f n in omega arith)
@@ -116,7 +116,7 @@ row_before job work n p at l h = sym (ap (either false (λ (o : ℕ). leb o at))
 pub origin_below : (job work : Bytes) (n p o : ℕ) → get_elem? (origins job work n) p ≡ some o → p < first_terms + n
 unfolding origins offsets
 origin_below job work n p o e =
-    let a = getElem_lt (origins job work n) p o e in
+    let a = get_elem_lt (origins job work n) p o e in
     let l = length_column (offset_at (link_size job) work) n in
     let m = length-map (column (offset_at (link_size job) work) n) suc in
     omega arith

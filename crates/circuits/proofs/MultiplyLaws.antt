@@ -10,7 +10,7 @@ use Rattle.theory.specs.Gates.{Gates}
 use Rattle.theory.specs.Circuit.{sum_bit, next_carry, ripple_carry_adder, partial_products, add_rows, shift_add_multiplier}
 use Rattle.theory.specs.Move.{bits, bit_of}
 use Rattle.theory.specs.Alethe.{sum_at, carry_at}
-use Rattle.theory.proofs.Indexed.{bits_by, length_bits, get_d_bits, map_bits, adder_bits}
+use Rattle.theory.proofs.Indexed.{bits_by, length_bits, get_or_bits, map_bits, adder_bits}
 use Rattle.circuits.proofs.FillLaws.{Filling, fill_turn, front, reached}
 
 -- ---- along a row
@@ -53,7 +53,7 @@ module _ (g : Gates ℕ) (y j : ℕ) (sum xs : List ℕ) (n : ℕ) where
       (ap (λ (i : ℕ). get_or row (i + k) 0) (sym (row_low h l))
       ∙ get_or-append-add (take j (take n sum)) _ k 0
       ∙ ap (λ (t : List ℕ). get_or t k 0) (row_high h l m)
-      ∙ get_d_bits (n - j) (sum_at g g.false_gate above product) 0 k b)
+      ∙ get_or_bits (n - j) (sum_at g g.false_gate above product) 0 k b)
 
 -- k places of the row are added, and c is the carry into the next
 pub record AddingRow (g : Gates ℕ) (y j : ℕ) (sum xs : List ℕ) (n : ℕ) (out : List ℕ) (c k : ℕ) : Type 0 where

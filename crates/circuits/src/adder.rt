@@ -47,7 +47,7 @@ pub fn ripple_carry_adder(
     carry: u32,
 ) -> Sum
     requires table { Table job.now work.now n }
-    requires le_w { (1 ≤ w) × (w ≤ max_width) }
+    requires width { (1 ≤ w) × (w ≤ max_width) }
     ensures bits_value { take w result.bits ≡ ripple_carry_adder (gates job work n) carry (take w x) (take w y) }
     ensures carry_value { result.carry ≡ last_carry (gates job work n) carry (take w x) (take w y) }
 {
@@ -68,7 +68,7 @@ pub fn ripple_carry_adder(
 // neg: the bits inverted and `false` added, with the carry `true`.
 pub fn negate(job: &[u8], work: &[u8], n: usize, x: Bits, w: usize) -> Bits
     requires table { Table job.now work.now n }
-    requires le_w { (1 ≤ w) × (w ≤ max_width) }
+    requires width { (1 ≤ w) × (w ≤ max_width) }
     ensures { take w result ≡ negate (gates job work n) (take w x) }
 {
     let inverted = nots(job, work, n, x, w);

@@ -18,7 +18,7 @@ pub type Bits = [u32; MAX_BITS];
 // get_term_bits: the bits 0 to w - 1 of term t, for a term that is no BvBbTerm.
 pub fn select_bits(job: &[u8], work: &[u8], n: usize, t: u32, w: usize) -> Bits
     requires table { Table job.now work.now n }
-    requires w_le_max_width { w ≤ max_width }
+    requires width { w ≤ max_width }
     ensures { take w result ≡ bits w (λ i. bit_gate job work n i t) }
 {
     let mut out = [0u32; MAX_BITS];
@@ -33,7 +33,7 @@ pub fn select_bits(job: &[u8], work: &[u8], n: usize, t: u32, w: usize) -> Bits
 // not: each bit inverted.
 pub fn nots(job: &[u8], work: &[u8], n: usize, x: Bits, w: usize) -> Bits
     requires table { Table job.now work.now n }
-    requires w_le_max_width { w ≤ max_width }
+    requires width { w ≤ max_width }
     ensures { take w result ≡ map (gates job work n).not_gate (take w x) }
 {
     let mut out = [0u32; MAX_BITS];
@@ -48,7 +48,7 @@ pub fn nots(job: &[u8], work: &[u8], n: usize, x: Bits, w: usize) -> Bits
 // and, of two: bit by bit.
 pub fn ands(job: &[u8], work: &[u8], n: usize, x: Bits, y: Bits, w: usize) -> Bits
     requires table { Table job.now work.now n }
-    requires w_le_max_width { w ≤ max_width }
+    requires width { w ≤ max_width }
     ensures { take w result ≡ zip_with (gates job work n).and_gate (take w x) (take w y) }
 {
     let mut out = [0u32; MAX_BITS];
@@ -63,7 +63,7 @@ pub fn ands(job: &[u8], work: &[u8], n: usize, x: Bits, y: Bits, w: usize) -> Bi
 // or, of two: bit by bit.
 pub fn ors(job: &[u8], work: &[u8], n: usize, x: Bits, y: Bits, w: usize) -> Bits
     requires table { Table job.now work.now n }
-    requires w_le_max_width { w ≤ max_width }
+    requires width { w ≤ max_width }
     ensures { take w result ≡ zip_with (gates job work n).or_gate (take w x) (take w y) }
 {
     let mut out = [0u32; MAX_BITS];
@@ -78,7 +78,7 @@ pub fn ors(job: &[u8], work: &[u8], n: usize, x: Bits, y: Bits, w: usize) -> Bit
 // xor, of two: bit by bit.
 pub fn xors(job: &[u8], work: &[u8], n: usize, x: Bits, y: Bits, w: usize) -> Bits
     requires table { Table job.now work.now n }
-    requires w_le_max_width { w ≤ max_width }
+    requires width { w ≤ max_width }
     ensures { take w result ≡ zip_with (gates job work n).xor_gate (take w x) (take w y) }
 {
     let mut out = [0u32; MAX_BITS];
@@ -93,7 +93,7 @@ pub fn xors(job: &[u8], work: &[u8], n: usize, x: Bits, y: Bits, w: usize) -> Bi
 // xnor, and the equations of `equality`: whether the bits are equal, bit by bit.
 pub fn eqs(job: &[u8], work: &[u8], n: usize, x: Bits, y: Bits, w: usize) -> Bits
     requires table { Table job.now work.now n }
-    requires w_le_max_width { w ≤ max_width }
+    requires width { w ≤ max_width }
     ensures { take w result ≡ zip_with (gates job work n).eq_gate (take w x) (take w y) }
 {
     let mut out = [0u32; MAX_BITS];
@@ -108,7 +108,7 @@ pub fn eqs(job: &[u8], work: &[u8], n: usize, x: Bits, y: Bits, w: usize) -> Bit
 // Bit by bit: x where c is true, else y. The shifts and the divider end in this.
 pub fn ites(job: &[u8], work: &[u8], n: usize, c: u32, x: Bits, y: Bits, w: usize) -> Bits
     requires table { Table job.now work.now n }
-    requires w_le_max_width { w ≤ max_width }
+    requires width { w ≤ max_width }
     ensures { take w result ≡ choose (gates job work n) c (take w x) (take w y) }
 {
     let mut out = [0u32; MAX_BITS];

@@ -45,7 +45,7 @@ pub fn sign_step(job: &[u8], work: &[u8], n: usize, x: u32, y: u32, below: u32) 
 // bitblast_ult: x < y, from bit 0 up.
 pub fn bitblast_ult(job: &[u8], work: &[u8], n: usize, x: Bits, y: Bits, w: usize) -> u32
     requires table { Table job.now work.now n }
-    requires le_w { (1 ≤ w) × (w ≤ max_width) }
+    requires width { (1 ≤ w) × (w ≤ max_width) }
     ensures { result ≡ bitblast_ult (gates job work n) (take w x) (take w y) }
 {
     let mut res = less_bit(job, work, n, x[0], y[0]);
@@ -60,7 +60,7 @@ pub fn bitblast_ult(job: &[u8], work: &[u8], n: usize, x: Bits, y: Bits, w: usiz
 // slt: x < y as signed numbers. The bits below the sign go as in bitblast_ult, and at width 1 there are none.
 pub fn slt(job: &[u8], work: &[u8], n: usize, x: Bits, y: Bits, w: usize) -> u32
     requires table { Table job.now work.now n }
-    requires le_w { (1 ≤ w) × (w ≤ max_width) }
+    requires width { (1 ≤ w) × (w ≤ max_width) }
     ensures { result ≡ slt (gates job work n) (take w x) (take w y) }
 {
     let top = w - 1;
@@ -74,7 +74,7 @@ pub fn slt(job: &[u8], work: &[u8], n: usize, x: Bits, y: Bits, w: usize) -> u32
 // equality: the bits' equations, one alone, several under an And.
 pub fn equality(job: &[u8], work: &[u8], n: usize, x: Bits, y: Bits, w: usize) -> u32
     requires table { Table job.now work.now n }
-    requires le_w { (1 ≤ w) × (w ≤ max_width) }
+    requires width { (1 ≤ w) × (w ≤ max_width) }
     ensures { result ≡ equality (gates job work n) (take w x) (take w y) }
 {
     let bits = eqs(job, work, n, x, y, w);

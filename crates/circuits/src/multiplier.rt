@@ -22,7 +22,7 @@ fn add_row(
     w: usize,
 ) -> Bits
     requires table { Table job.now work.now n }
-    requires j_le_w { (j ≤ w) × (w ≤ max_width) }
+    requires widths { (j ≤ w) × (w ≤ max_width) }
     ensures { take w result ≡ take j (take w sum) ++ ripple_carry_adder (gates job work n) false_number
         (drop j (take w sum)) (partial_products (gates job work n) y (take w x)) }
 {
@@ -45,7 +45,7 @@ fn add_row(
 // number. So no array of the multiplier holds more than MAX_BITS numbers (.ci/run looks for one), whatever the width.
 pub fn shift_add_multiplier(job: &[u8], work: &[u8], n: usize, x: Bits, y: Bits, w: usize) -> Bits
     requires table { Table job.now work.now n }
-    requires le_w { (1 ≤ w) × (w ≤ max_width) }
+    requires width { (1 ≤ w) × (w ≤ max_width) }
     ensures { take w result ≡ shift_add_multiplier (gates job work n) (take w x) (take w y) }
 {
     let low = [y[0]; MAX_BITS];

@@ -1,5 +1,5 @@
 -- What is printed for the start of an input that was read is what is printed for all of it.
-use Rattle.std.proofs.Common.{◌≡◌, ◌+◌, ◌<◌, ◌⊎◌, inl, inr, ℕ, [], ◌++◌, length, take, None, Some, IfSome, Option, refl, sym, ap, ◌∙◌, subst, arith, append-nil, length-append, le-leb}
+use Rattle.std.proofs.Common.{◌≡◌, ◌+◌, ◌<◌, inl, inr, ℕ, [], ◌++◌, length, take, None, Some, IfSome, Option, refl, sym, ap, ◌∙◌, subst, arith, append-nil, length-append, le-leb}
 use lib.Seq.{take-append_seam}
 use Rattle.std.proofs.lemmas.Bool.Decides.{leb_tells}
 use Rattle.std.specs.Io.KnownBytes.{Appends, Consumes, IsAtEnd}

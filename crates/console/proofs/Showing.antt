@@ -82,9 +82,13 @@ module _ (input old : Bytes) where
       ∙ ap₂ (λ (r : Returned) (n : Bytes). report_text r.stop r.terms r.repeats r.answers (number_length input) n (length old)) e f
       ∙ run_shown work answers bytes (sym w) (sym a) h l
 
+-- a text in a memory that is long enough has all its bytes
+pub all_shown : (input : Bytes) (space : ℕ) {size : ℕ} → space ≡ text_space → size ≡ length (shown input space) → size ≡ length (bbcheck input)
+unfolding shown
+all_shown input space h e =
+    let whole : length (shown input space) ≡ length (bbcheck input) = rw (le-leb text_space space (omega arith)) refl in
+    e ∙ whole
+
 -- an input that was read, and its text in a memory that is long enough
 pub printed : (input : Bytes) (space : ℕ) {size : ℕ} → space ≡ text_space → length input ≤ memory + 1 → size ≡ length (shown input space) → Printed size
-unfolding shown
-printed input space h l e =
-    let whole : length (shown input space) ≡ length (bbcheck input) = rw (le-leb text_space space (omega arith)) refl in
-    record { input = input; short = l; size_is = e ∙ whole }
+printed input space h l e = record { input = input; short = l; size_is = all_shown input space h e }

@@ -1,11 +1,11 @@
 // The program `bbcheck`: a job from its input, and the text of what it came to.
 #![tactic(auto)]
 
-ghost use Rattle.std.specs.Prelude.{◌≡◌, ◌≤◌, IfOk, IfSome, OnOk, length};
+ghost use Rattle.std.specs.Prelude.{◌≡◌, ◌≤◌, IfOk, IfSome, OnOk, OnErr, length};
 ghost use Rattle.std.specs.Io.KnownBytes.{Appends};
 ghost use Rattle.theory.specs.Program.{bbcheck};
 ghost use Rattle.report.specs.Text.{written};
-ghost use Rattle.console.specs.Shown.{shown, Printed};
+ghost use Rattle.console.specs.Shown.{shown, Printed, Checked, Stopped};
 
 use bitblast::bb_job;
 use report::{HEAD_SPACE, LINE_SPACE};
@@ -43,11 +43,15 @@ pub fn bbcheck_text(input: &[u8], out: &mut [u8]) -> usize
 
 // Reads the input, of which one byte more than is lent for a job tells that it is too long, prints the text, and answers how many bytes
 // that is. Where a reader's and a writer's bytes are known, what is written is the text of all that there is to read. The first read or write
-// that fails ends it.
+// that fails ends it; nothing is written where a read failed.
 pub fn check_input<R: Read, W: Write>(input: &mut R, output: &mut W) -> io::Result<usize>
     ensures printed { IfOk result Printed }
     ensures text { OnOk result (IfSome (R.remaining input.old)
         (λ bytes. Appends (W.contents output.old) (W.contents output.new) (bbcheck bytes))) }
+    ensures checked { IfOk result (Checked (R.remaining input.old) (R.remaining input.new)
+        (W.contents output.old) (W.contents output.new)) }
+    ensures stopped { OnErr result (Stopped (R.remaining input.old) (R.remaining input.new)
+        (W.contents output.old) (W.contents output.new)) }
 {
     let mut job = [0u8; MEMORY + 1];
     let n = read_full(input, &mut job)?;

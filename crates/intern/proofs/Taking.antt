@@ -25,7 +25,7 @@ use Rattle.theory.proofs.Run.{good_snoc}
 use Rattle.theory.proofs.Distinct.{has_at, snoc_well}
 use Rattle.theory.proofs.Bytes.{take_bytes, drop_bytes}
 use Rattle.theory.proofs.Bounds.{depth_step}
-use Rattle.theory.proofs.Basics.{some_inj, foldl_append, getElem_of, T_true}
+use Rattle.theory.proofs.Basics.{some_inj, foldl_append, get_elem_of, T_true}
 use Rattle.theory.proofs.Same.{same_numbers_eq}
 use Rattle.theory.proofs.Bytes.{Sound, says_term, term_kind}
 use Rattle.theory.proofs.Sorts.{sized, sorts_sized}
@@ -110,14 +110,14 @@ module _ {job work : Bytes} {n : ℕ} (s : Store job work n) (r : Bytes) where
       let k = q.index in
       let b = q.below in
       let l : first_terms + k < length list = (let x = length_kept (link_size job) job work n in let y = s.count in omega arith) in
-      T_true _ (has_at list (first_terms + k) (entry_at list (first_terms + k)) r (getElem_of list (first_terms + k) (entry (node True nil) []) l)
+      T_true _ (has_at list (first_terms + k) (entry_at list (first_terms + k)) r (get_elem_of list (first_terms + k) (entry (node True nil) []) l)
       (sym (records_at list k) ∙ ap (λ (rs : List Bytes). get_or rs k []) s.records_are ∙ q.equal))
 
   missing_there : 4 ≤ length r → place_of r (kept job work n) ≡ missing → has (listed job work n) r ≡ false
   missing_there h e = off (has (listed job work n) r) (λ t. let q = has_there (listed job work n) r t in go q.place q.near q.equal)
     where
       bytes_of : (j : ℕ) (x : Term) → get_elem? (listed job work n) j ≡ some (entry x []) → j < length (listed job work n) → (entry_at (listed job work n) j).bytes ≡ []
-      bytes_of j x f l = ap (λ (d : Entry). d.bytes) (some_inj _ _ (sym (getElem_of (listed job work n) j (entry (node True nil) []) l) ∙ f))
+      bytes_of j x f l = ap (λ (d : Entry). d.bytes) (some_inj _ _ (sym (get_elem_of (listed job work n) j (entry (node True nil) []) l) ∙ f))
 
       go : (j : ℕ) → j < length (listed job work n) → (entry_at (listed job work n) j).bytes ≡ r → ⊥
       go zero l g = let z = ap length (sym (bytes_of 0 _ s.well.is_true l) ∙ g) in omega arith

@@ -29,7 +29,7 @@ pub enum Operation {
 // The circuit of an operation, on two bit-vectors of width w.
 fn combine(job: &[u8], work: &[u8], n: usize, op: Operation, x: Bits, y: Bits, w: usize) -> Bits
     requires table { Table job.now work.now n }
-    requires le_w { (1 ≤ w) × (w ≤ max_width) }
+    requires width { (1 ≤ w) × (w ≤ max_width) }
     ensures { take w result ≡ circuit (gates job work n) op (take w x) (take w y) }
 {
     match op {

@@ -52,7 +52,7 @@ pub fn get_term_bits(job: &[u8], work: &[u8], n: usize, place: u32, w: usize) ->
 // The last test of a rule that expects a term of the first w of these bits.
 pub fn compare_bits(job: &[u8], work: &[u8], n: usize, bits: Bits, w: usize, claim: u32) -> Verdict
     requires table { Table job.now work.now n }
-    requires w_le_max_width { w ≤ max_width }
+    requires width { w ≤ max_width }
     ensures { verdict_of result ≡ cond (eqb (bb_gate job work n (take w bits)) claim) held terms_differ }
 {
     compare(bb_term(job, work, n, &bits[..w]), claim)
@@ -68,7 +68,7 @@ pub fn compare_bits_form(
     claim: u32,
 ) -> Verdict
     requires table { Table job.now work.now n }
-    requires w_le_max_width { w ≤ max_width }
+    requires width { w ≤ max_width }
     ensures { verdict_of result ≡ cond (eqb (bb_gate job work n (take w bits)) claim) form_only terms_differ }
 {
     compare_form(bb_term(job, work, n, &bits[..w]), claim)

@@ -18,7 +18,7 @@ use terms::Term;
 // The claim is the term of the bits of x.
 fn var_check(job: &[u8], work: &[u8], n: usize, x: u32, claim: u32) -> Verdict
     requires store { Store job.now work.now n × (x < first_terms + n) }
-    requires claim_bound { claim < first_terms + n }
+    requires claim { claim < first_terms + n }
     ensures { verdict_of result ≡ of_bits (kept_term job work n x)
         (compare held (bb (kept_bits job work n x)) (kept_term job work n claim)) }
 {

@@ -76,10 +76,10 @@ module _ {A : Type 0} (f : ℕ → A) where
   unfolding column
   column_more n = rw add-one
 
-  pub getD_column : (d : A) (n k : ℕ) → k < n → get_or (column f n) k d ≡ f k
+  pub get_or_column : (d : A) (n k : ℕ) → k < n → get_or (column f n) k d ≡ f k
   unfolding column
-  getD_column d zero k h = absurd (not-suc-le-zero h)
-  getD_column d (suc n) k h = go (λ l. getD_column d n k l) (dec_lt k n)
+  get_or_column d zero k h = absurd (not-suc-le-zero h)
+  get_or_column d (suc n) k h = go (λ l. get_or_column d n k l) (dec_lt k n)
     where
       go : (k < n → get_or (column f n) k d ≡ f k) → Dec (k < n) → get_or (column f n ++ (f n ∷ [])) k d ≡ f k
       go ih (yes l) = get_or-append (column f n) (f n ∷ []) d k (rw length_column l) ∙ ih l
@@ -108,9 +108,9 @@ module _ (b : ℕ) (job work : Bytes) (n : ℕ) where
   unfolding kept_as
   length_kept = length_column (row_record b job work) n
 
-  pub get_d_kept : (k : ℕ) → k < n → get_or (kept_as b job work n) k [] ≡ row_record b job work k
+  pub get_or_kept : (k : ℕ) → k < n → get_or (kept_as b job work n) k [] ≡ row_record b job work k
   unfolding kept_as
-  get_d_kept k h = getD_column (row_record b job work) [] n k h
+  get_or_kept k h = get_or_column (row_record b job work) [] n k h
 
 -- ---- equality of lists, as a test
 
@@ -153,7 +153,7 @@ module _ (b : ℕ) (job work : Bytes) (n : ℕ) (x : Bytes) (p : ℕ) where
     split : drop k (kept_as b job work n) ≡ record_at job (offset_at b work k) ∷ drop (suc k) (kept_as b job work n)
     split =
         drop-cons (kept_as b job work n) k [] (rw length_kept h)
-        ∙ ap (λ (r : Bytes). r ∷ drop (suc k) (kept_as b job work n)) (get_d_kept b job work n k h)
+        ∙ ap (λ (r : Bytes). r ∷ drop (suc k) (kept_as b job work n)) (get_or_kept b job work n k h)
 
     pub place_found : x ≡ record_at job (offset_at b work k) → place_from p x (drop k (kept_as b job work n)) ≡ p
     unfolding place_from

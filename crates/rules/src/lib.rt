@@ -6,7 +6,7 @@ ghost use Rattle.std.proofs.Math.Option.{some};
 ghost use Rattle.theory.specs.Limit.{first_terms};
 ghost use Rattle.theory.specs.Optional.{is_some};
 ghost use Rattle.theory.specs.RuleTable.{Rule, rule_at};
-ghost use Rattle.theory.specs.Rule.{verdict as verdict·of};
+ghost use Rattle.theory.specs.Rule.{verdict as rule_verdict};
 ghost use Rattle.store.specs.Store.{Store};
 ghost use Rattle.store.specs.Lent.{kept_term};
 ghost use Rattle.operand_rules.specs.Rules.{verdict_of};
@@ -28,7 +28,7 @@ pub use slice_rules::slicing::bitwise_slicing;
 pub fn verdict(job: &[u8], work: &[u8], n: usize, rule: u32, literal: u32) -> Verdict
     requires { Store job.now work.now n × (literal < first_terms + n) × (is_some (rule_at rule) ≡ true) }
     ensures { (by : Rule) → rule_at rule ≡ some by
-        → verdict_of result ≡ verdict·of by (kept_term job work n literal) }
+        → verdict_of result ≡ rule_verdict by (kept_term job work n literal) }
 {
     match rule {
         1 => value(job, work, n, literal),

@@ -57,7 +57,7 @@ fn shift_right(x: Bits, w: usize) -> Bits
 // bitblast_udiv_urem_rec: the remainder shifted left, with bit 0 of the dividend added.
 fn next_remainder(job: &[u8], work: &[u8], n: usize, low: u32, r: Bits, w: usize) -> Bits
     requires table { Table job.now work.now n }
-    requires le_w { (1 ≤ w) × (w ≤ max_width) }
+    requires width { (1 ≤ w) × (w ≤ max_width) }
     ensures { take w result ≡ next_remainder (gates job work n) low (take w r) }
 {
     let one_if_odd = ite3(job, work, n, eq2(job, work, n, low, TRUE), TRUE, FALSE);
@@ -84,7 +84,7 @@ fn used_carry(job: &[u8], work: &[u8], n: usize, x: u32, y: u32, last: u32, stan
 // one out of it: there is none.
 fn no_carry(job: &[u8], work: &[u8], n: usize, x: Bits, y: Bits, w: usize, standard: bool) -> u32
     requires table { Table job.now work.now n }
-    requires le_w { (1 ≤ w) × (w ≤ max_width) }
+    requires width { (1 ≤ w) × (w ≤ max_width) }
     ensures { result ≡ no_carry (gates job work n) standard (take w x) (take w y) }
 {
     let not_y = nots(job, work, n, y, w);
@@ -96,7 +96,7 @@ fn no_carry(job: &[u8], work: &[u8], n: usize, x: Bits, y: Bits, w: usize, stand
 // bitblast_udiv_urem_rec: the remainder r where it is not below y. Rust does not subtract y: it makes every bit `true`.
 fn reduced(job: &[u8], work: &[u8], n: usize, r: Bits, y: Bits, w: usize, standard: bool) -> Bits
     requires table { Table job.now work.now n }
-    requires le_w { (1 ≤ w) × (w ≤ max_width) }
+    requires width { (1 ≤ w) × (w ≤ max_width) }
     ensures { take w result ≡ reduced (gates job work n) standard (take w r) (take w y) }
 {
     if standard {
@@ -127,7 +127,7 @@ fn divide_step(
     standard: bool,
 ) -> Division
     requires table { Table job.now work.now n }
-    requires le_w { (1 ≤ w) × (w ≤ max_width) }
+    requires width { (1 ≤ w) × (w ≤ max_width) }
     ensures { (take w result.quot, take w result.rem)
         ≡ divide_step (gates job work n) standard (get_or x 0 0) (drop 1 (take w x)) (take w y) (take w q, take w r) }
 {
@@ -156,7 +156,7 @@ pub fn bitblast_udiv_urem_rec(
     standard: bool,
 ) -> Division
     requires table { Table job.now work.now n }
-    requires le_w { (1 ≤ w) × (w ≤ max_width) }
+    requires width { (1 ≤ w) × (w ≤ max_width) }
     ensures { (take w result.quot, take w result.rem)
         ≡ bitblast_udiv_urem_rec (gates job work n) standard is_false_number left (take w x) (take w y) }
 {
@@ -184,7 +184,7 @@ pub fn bitblast_udiv_urem_rec(
 // bitblast_udiv_urem: that every bit of y is false, an And of any number, one too.
 fn is_zero(job: &[u8], work: &[u8], n: usize, y: Bits, w: usize) -> u32
     requires table { Table job.now work.now n }
-    requires le_w { (1 ≤ w) × (w ≤ max_width) }
+    requires width { (1 ≤ w) × (w ≤ max_width) }
     ensures { result ≡ is_zero (gates job work n) (take w y) }
 {
     let falses = [FALSE; MAX_BITS];
@@ -195,7 +195,7 @@ fn is_zero(job: &[u8], work: &[u8], n: usize, y: Bits, w: usize) -> u32
 // bitblast_udiv_urem, the quotient: all `true` where y is zero.
 pub fn udiv(job: &[u8], work: &[u8], n: usize, x: Bits, y: Bits, w: usize, standard: bool) -> Bits
     requires table { Table job.now work.now n }
-    requires le_w { (1 ≤ w) × (w ≤ max_width) }
+    requires width { (1 ≤ w) × (w ≤ max_width) }
     ensures { take w result ≡ udiv (gates job work n) standard is_false_number (take w x) (take w y) }
 {
     let d = bitblast_udiv_urem_rec(job, work, n, x, y, w, w, standard);
@@ -208,7 +208,7 @@ pub fn udiv(job: &[u8], work: &[u8], n: usize, x: Bits, y: Bits, w: usize, stand
 // bitblast_udiv_urem, the remainder: x where y is zero.
 pub fn urem(job: &[u8], work: &[u8], n: usize, x: Bits, y: Bits, w: usize, standard: bool) -> Bits
     requires table { Table job.now work.now n }
-    requires le_w { (1 ≤ w) × (w ≤ max_width) }
+    requires width { (1 ≤ w) × (w ≤ max_width) }
     ensures { take w result ≡ urem (gates job work n) standard is_false_number (take w x) (take w y) }
 {
     let d = bitblast_udiv_urem_rec(job, work, n, x, y, w, w, standard);

@@ -13,7 +13,7 @@ use theory::stages::shift_stages;
 // bitblast_shift_op, stage s to the left: where y is true, bit i is bit i - 2^s of p, and `false` where there is none.
 fn shl_stage(job: &[u8], work: &[u8], n: usize, s: u32, y: u32, p: Bits, w: usize) -> Bits
     requires table { Table job.now work.now n }
-    requires s_bound { (s ≤ 63) × (w ≤ max_width) }
+    requires stage { (s ≤ 63) × (w ≤ max_width) }
     ensures { take w result ≡ shl_stage (gates job work n) s y (take w p) }
 {
     let thresh = 1usize << s;
@@ -39,7 +39,7 @@ fn shr_stage(
     w: usize,
 ) -> Bits
     requires table { Table job.now work.now n }
-    requires s_bound { (s ≤ 63) × (w ≤ max_width) }
+    requires stage { (s ≤ 63) × (w ≤ max_width) }
     ensures { take w result ≡ shr_stage (gates job work n) fill s y (take w p) }
 {
     let thresh = 1usize << s;
@@ -61,7 +61,7 @@ fn shr_stage(
 // bitblast_shift_op, all stages to the left.
 fn shl_stages(job: &[u8], work: &[u8], n: usize, x: Bits, y: Bits, w: usize) -> Bits
     requires table { Table job.now work.now n }
-    requires le_w { (1 ≤ w) × (w ≤ max_width) }
+    requires width { (1 ≤ w) × (w ≤ max_width) }
     ensures { take w result ≡ shl_stages (gates job work n) 0 (take (clog2 w) (take w y)) (take w x) }
 {
     let stages = shift_stages(w as u64);
@@ -78,7 +78,7 @@ fn shl_stages(job: &[u8], work: &[u8], n: usize, x: Bits, y: Bits, w: usize) -> 
 // bitblast_shift_op, all stages to the right, `fill` coming in from above.
 fn shr_stages(job: &[u8], work: &[u8], n: usize, fill: u32, x: Bits, y: Bits, w: usize) -> Bits
     requires table { Table job.now work.now n }
-    requires le_w { (1 ≤ w) × (w ≤ max_width) }
+    requires width { (1 ≤ w) × (w ≤ max_width) }
     ensures { take w result ≡ shr_stages (gates job work n) fill 0 (take (clog2 w) (take w y)) (take w x) }
 {
     let stages = shift_stages(w as u64);
@@ -104,7 +104,7 @@ fn bounded(
     w: usize,
 ) -> Bits
     requires table { Table job.now work.now n }
-    requires le_w { (1 ≤ w) × (w ≤ max_width) }
+    requires width { (1 ≤ w) × (w ≤ max_width) }
     ensures { take w result ≡ bounded (gates job work n) beyond (take w size) (take w y) (take w p) }
 {
     let below = bitblast_ult(job, work, n, y, size, w);
@@ -115,7 +115,7 @@ fn bounded(
 // shl: x shifted left by y. `size` are the bits of the width as a constant of that width.
 pub fn shl(job: &[u8], work: &[u8], n: usize, size: Bits, x: Bits, y: Bits, w: usize) -> Bits
     requires table { Table job.now work.now n }
-    requires le_w { (1 ≤ w) × (w ≤ max_width) }
+    requires width { (1 ≤ w) × (w ≤ max_width) }
     ensures { take w result ≡ shl (gates job work n) (take w size) (take w x) (take w y) }
 {
     let shifted = shl_stages(job, work, n, x, y, w);
@@ -125,7 +125,7 @@ pub fn shl(job: &[u8], work: &[u8], n: usize, size: Bits, x: Bits, y: Bits, w: u
 // lshr: x shifted right by y, `false` coming in.
 pub fn lshr(job: &[u8], work: &[u8], n: usize, size: Bits, x: Bits, y: Bits, w: usize) -> Bits
     requires table { Table job.now work.now n }
-    requires le_w { (1 ≤ w) × (w ≤ max_width) }
+    requires width { (1 ≤ w) × (w ≤ max_width) }
     ensures { take w result ≡ lshr (gates job work n) (take w size) (take w x) (take w y) }
 {
     let shifted = shr_stages(job, work, n, FALSE, x, y, w);
@@ -145,7 +145,7 @@ pub fn ashr(
     standard: bool,
 ) -> Bits
     requires table { Table job.now work.now n }
-    requires le_w { (1 ≤ w) × (w ≤ max_width) }
+    requires width { (1 ≤ w) × (w ≤ max_width) }
     ensures { take w result ≡ ashr (gates job work n) standard (take w size) (take w x) (take w y) }
 {
     let sign = x[w - 1];

@@ -21,7 +21,7 @@ use terms::Term;
 // The bits of the width w, as a constant of that width.
 fn width_bits(job: &[u8], work: &[u8], n: usize, w: usize) -> Bits
     requires store { Store job.now work.now n }
-    requires le_w { (1 ≤ w) × (w ≤ max_width) }
+    requires width { (1 ≤ w) × (w ≤ max_width) }
     ensures { take w result ≡ map (kept_number job work n) (width_bits w) }
 {
     let size = constant(job, work, n, w as u32, w as u64);

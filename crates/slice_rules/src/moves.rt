@@ -29,8 +29,8 @@ fn bit_at(x: Bits, w: usize, i: usize) -> u32
 
 // The bits of x moved: of `size` bits, bit j is bit (j + shift) modulo `cycle` of the w bits of x.
 fn moved(x: Bits, w: usize, size: usize, shift: usize, cycle: usize) -> Bits
-    requires w_le_max_width { (w ≤ max_width) × (size ≤ max_width) }
-    requires shift_le_max_width { (shift ≤ max_width) × (1 ≤ cycle) }
+    requires widths { (w ≤ max_width) × (size ≤ max_width) }
+    requires shift { (shift ≤ max_width) × (1 ≤ cycle) }
     ensures { take size result ≡ bits size (λ j. bit_of false_number (take w x) ((j + shift) % cycle)) }
 {
     let mut out = [FALSE; MAX_BITS];
@@ -55,7 +55,7 @@ fn moved_check(
     claim: u32,
 ) -> Verdict
     requires operand { Operand job.now work.now n x w × (claim < first_terms + n) }
-    requires size_le_max_width { (size ≤ max_width) × (shift ≤ max_width) × (1 ≤ cycle) }
+    requires sizes { (size ≤ max_width) × (shift ≤ max_width) × (1 ≤ cycle) }
     ensures { verdict_of result ≡ compare held
         (bb (moved_bits (a_move size shift cycle) (kept_bits job work n x))) (kept_term job work n claim) }
 {

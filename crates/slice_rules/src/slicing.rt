@@ -70,7 +70,7 @@ fn slice_check(a: u32, c: u32, done: usize, i: u32, j: u32, x: u32, k: u32, m: u
 // One slice of a and c.
 fn next_slice(job: &[u8], work: &[u8], n: usize, a: u32, c: u32, done: usize, slice: u32) -> Slice
     requires store { Store job.now work.now n × (slice < first_terms + n) }
-    requires a_bound { (a < first_terms + n) × (c < first_terms + n) }
+    requires sides { (a < first_terms + n) × (c < first_terms + n) }
     ensures { Answers result
         (slice_verdict done (kept_term job work n a) (kept_term job work n c) (kept_term job work n slice)) }
 {
@@ -89,7 +89,7 @@ fn next_slice(job: &[u8], work: &[u8], n: usize, a: u32, c: u32, done: usize, sl
 // The slices are those of a and c, from the top of c down.
 fn slices_check(job: &[u8], work: &[u8], n: usize, a: u32, c: u32, list: Args) -> Verdict
     requires arguments { Arguments job.now work.now n (Listed list) }
-    requires a_bound { (a < first_terms + n) × (c < first_terms + n) }
+    requires sides { (a < first_terms + n) × (c < first_terms + n) }
     ensures { verdict_of result ≡ slices_verdict (kept_term job work n a) (kept_term job work n c)
         (kept_width job work n c) (kept_arguments job work n list) }
 {

@@ -33,18 +33,18 @@ use Rattle.terms.specs.Decoded.{OperandsPlaced, op_of, operands_of, arguments_of
 use Rattle.store.specs.Store.{Store, listed, records}
 use Rattle.store.specs.Shelf.{Shelf, TermOn, item_args, args_at}
 use Rattle.store.proofs.Lookup.{says_count}
-use Rattle.theory.proofs.Basics.{T_true, some_inj, getElem_of, getElem_lt}
+use Rattle.theory.proofs.Basics.{T_true, some_inj, get_elem_of, get_elem_lt}
 
 -- ---- a row's record
-get_d_map : {A B : Type 0} (f : A → B) (l : List A) (k : ℕ) (d : A) → get_or (map f l) k (f d) ≡ f (get_or l k d)
-get_d_map f [] k d = refl
-get_d_map f (x ∷ l) zero d = refl
-get_d_map f (x ∷ l) (suc k) d = get_d_map f l k d
+get_or_map : {A B : Type 0} (f : A → B) (l : List A) (k : ℕ) (d : A) → get_or (map f l) k (f d) ≡ f (get_or l k d)
+get_or_map f [] k d = refl
+get_or_map f (x ∷ l) zero d = refl
+get_or_map f (x ∷ l) (suc k) d = get_or_map f l k d
 
 -- record k of a list is that of the entry after the first two
 pub records_at : (list : Plain) (k : ℕ) → get_or (records list) k [] ≡ (entry_at list (first_terms + k)).bytes
 records_at list k =
-    get_d_map (λ (e : Entry). e.bytes) (drop first_terms list) k (entry (node True nil) [])
+    get_or_map (λ (e : Entry). e.bytes) (drop first_terms list) k (entry (node True nil) [])
     ∙ ap (λ (e : Entry). e.bytes) (get_or-drop first_terms list k (entry (node True nil) []))
 
 -- a record that lies in the job and is whole
@@ -124,7 +124,7 @@ no_args b list k e = ap (λ (r : Bytes). item_args (read b r)) e
 
 first_bytes : (list : Plain) (k : ℕ) (t : Term) → get_elem? list k ≡ some (entry t []) → (entry_at list k).bytes ≡ []
 first_bytes list k t e =
-    ap (λ (x : Entry). x.bytes) (some_inj _ _ (sym (getElem_of list k _ (getElem_lt list k _ e)) ∙ e))
+    ap (λ (x : Entry). x.bytes) (some_inj _ _ (sym (get_elem_of list k _ (get_elem_lt list k _ e)) ∙ e))
 
 -- the first two terms have no arguments
 pub first_args : {b : ℕ} (list : Plain) → T.WellKept b list → (k : ℕ) → k < first_terms → args_at b list k ≡ []

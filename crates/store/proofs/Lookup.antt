@@ -18,7 +18,7 @@ use Rattle.theory.specs.Optional.{either, cons_some, collect}
 use Rattle.theory.specs.Gates.{term_gates}
 use Rattle.theory.specs.Record.{Bytes, AllBytes, bytes_of, term, misfit, plain, shape_of, body_of, read, front}
 use Rattle.theory.specs.Plain.{Entry, entry, Plain}
-use Rattle.theory.proofs.Basics.{none_some, some_inj, cons_some_is, getElem_lt, T_true, true_T, T_same}
+use Rattle.theory.proofs.Basics.{none_some, some_inj, cons_some_is, get_elem_lt, T_true, true_T, T_same}
 use Rattle.theory.proofs.Natural.{Hom}
 use Rattle.theory.proofs.Blast.{folds_from_list}
 use Rattle.theory.proofs.Same.{same_op_eq}
@@ -253,9 +253,9 @@ module _ {b : ℕ} (list : Plain) (w : WellKept b list) (few : Few b list) where
   find_place o ks k e = go (same_op True o && same_numbers [] ks) (same_op False o && same_numbers [] ks) e
     where
       go : (a r : Bool) → cond a (some 0) (cond r (some 1) (find_from b 0 list o ks)) ≡ some k → k < length list
-      go true r d = subst (λ (j : ℕ). j < length list) (some_inj 0 k d) (getElem_lt list 0 _ w.is_true)
-      go false true d = subst (λ (j : ℕ). j < length list) (some_inj 1 k d) (getElem_lt list 1 _ w.is_false)
-      go false false d = let q = found_from b 0 list o ks k d in let z : k ≡ 0 + q.0 = q.2 in omega (arith, getElem_lt list q.0 q.1 q.3)
+      go true r d = subst (λ (j : ℕ). j < length list) (some_inj 0 k d) (get_elem_lt list 0 _ w.is_true)
+      go false true d = subst (λ (j : ℕ). j < length list) (some_inj 1 k d) (get_elem_lt list 1 _ w.is_false)
+      go false false d = let q = found_from b 0 list o ks k d in let z : k ≡ 0 + q.0 = q.2 in omega (arith, get_elem_lt list q.0 q.1 q.3)
 
   listed_place : (k : ℕ) → k < length list → k < last_number b
   unfolding last_number

@@ -15,7 +15,7 @@ use Rattle.rows.specs.Layout.{link_bytes, missing, number_at, offset_at}
 use Rattle.rows.specs.Rows.{kept_as, place_of}
 use Rattle.table.specs.Buckets.{TableAs, TableOf, added_row, bucket_count, bucket_of, first_in, head_count, heads_start, newest, row_bucket}
 use Rattle.table.specs.Promise.{TermLimit, Grown, added_code, added_for, count_after, in_bucket, is_kept, list_after, memory_after, room_for, with_row}
-use Rattle.rows.proofs.RowLaws.{and_first, and_second, get_d_kept, length_kept, rows_small}
+use Rattle.rows.proofs.RowLaws.{and_first, and_second, get_or_kept, length_kept, rows_small}
 use Rattle.theory.proofs.Lengths.{either_length}
 use Rattle.table.proofs.BucketLaws.{first_newest}
 use Rattle.table.proofs.MemoryLaws.{kept_added, length_added, measures_added, offsets_added, start_room, table_added}
@@ -94,7 +94,7 @@ module _ (b : ℕ) (job work : Bytes) (n limit at measure : ℕ) (table : TableA
   none e k h q =
       let l = length_kept (link_bytes b) job work n in
       let s = rows_small table.rows in
-      place_absent x rows (omega arith) e k (omega arith) (get_d_kept (link_bytes b) job work n k h ∙ sym q)
+      place_absent x rows (omega arith) e k (omega arith) (get_or_kept (link_bytes b) job work n k h ∙ sym q)
 
   -- a kept record equals it
   pub grown_found : (p : ℕ) → p ≡ place_of (record_at job at) (kept_as (link_bytes b) job work n) → (p ≡ missing → ⊥)

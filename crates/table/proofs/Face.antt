@@ -11,7 +11,7 @@ use Rattle.theory.specs.Record.{Bytes}
 use Rattle.terms.specs.Framing.{record_at}
 use Rattle.rows.specs.Layout.{measure_at, missing, offset_at}
 use Rattle.rows.specs.Rows.{kept_as, measures, place_from, place_of}
-use Rattle.rows.proofs.RowLaws.{getD_column, get_d_kept, same_refl, same_sound}
+use Rattle.rows.proofs.RowLaws.{get_or_column, get_or_kept, same_refl, same_sound}
 use Rattle.theory.specs.Term.{same_numbers}
 use Rattle.table.specs.Promise.{Wiped}
 
@@ -19,11 +19,11 @@ use Rattle.table.specs.Promise.{Wiped}
 
 module _ (nb : ℕ) (job work : Bytes) (n : ℕ) where
   pub kept_at : (k : ℕ) → k < n → get_or (kept_as nb job work n) k [] ≡ record_at job (offset_at nb work k)
-  kept_at k h = get_d_kept nb job work n k h
+  kept_at k h = get_or_kept nb job work n k h
 
   pub measures_at : (k : ℕ) → k < n → get_or (measures nb work n) k 0 ≡ measure_at nb work k
   unfolding measures
-  measures_at k h = getD_column (measure_at nb work) 0 n k h
+  measures_at k h = get_or_column (measure_at nb work) 0 n k h
 
 -- ---- places
 

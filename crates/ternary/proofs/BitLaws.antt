@@ -127,10 +127,10 @@ one_bit_of bool e = omega arith
 one_bit_of (bv m) e = omega arith
 
 -- bits in a row
-pub get_d_map : {A : Type 0} (f : A → Known) (l : List A) (i : ℕ) (d : A) → i < length l → get_or (map f l) i unknown ≡ f (get_or l i d)
-get_d_map f [] i d h = absurd (omega arith)
-get_d_map f (x ∷ l) zero d h = refl
-get_d_map f (x ∷ l) (suc i) d h = get_d_map f l i d (omega arith)
+pub get_or_map : {A : Type 0} (f : A → Known) (l : List A) (i : ℕ) (d : A) → i < length l → get_or (map f l) i unknown ≡ f (get_or l i d)
+get_or_map f [] i d h = absurd (omega arith)
+get_or_map f (x ∷ l) zero d h = refl
+get_or_map f (x ∷ l) (suc i) d h = get_or_map f l i d (omega arith)
 
 -- the bit that an offset leads to
 pub offset_bit : {input : Term → List Known} {list : Plain} {inputs values : Bytes} {p : ℕ} → Offset input list inputs values p → (i : ℕ) → i < bits_in (tree_at list p)
@@ -141,7 +141,7 @@ offset_bit {list} {inputs} {values} {p} o i b =
     let q = o.fits in
     let l = length-drop c inputs in
     let m : length (take bits (drop c inputs)) ≡ bits = length-take-le bits (drop c inputs) (omega arith) in
-    ap of_byte (sym (get_or-take bits (drop c inputs) i 2 b)) ∙ sym (get_d_map of_byte (take bits (drop c inputs)) i 2 (omega arith)) ∙ ap (λ (bs : List Known). get_or bs i unknown) (sym o.bits_are)
+    ap of_byte (sym (get_or-take bits (drop c inputs) i 2 b)) ∙ sym (get_or_map of_byte (take bits (drop c inputs)) i 2 (omega arith)) ∙ ap (λ (bs : List Known). get_or bs i unknown) (sym o.bits_are)
 
 const_bit : (v k i m : ℕ) → i < m → get_or (map of_bool (number_bits v k m)) i unknown ≡ of_bool (bit_at (k + i) v)
 const_bit v k i zero h = absurd (omega arith)
@@ -191,10 +191,10 @@ bv_bool m e = let z : ◌≡◌ {A = ℕ} 0 1 = ap tag (sym e) in omega arith
     tag bool = 0
     tag (bv n) = 1
 
-get_d_of : {A : Type 0} (f : ℕ → A) (l : List ℕ) (i : ℕ) (d : A) → i < length l → get_or (map f l) i d ≡ f (get_or l i 0)
-get_d_of f [] i d h = absurd (omega arith)
-get_d_of f (x ∷ l) zero d h = refl
-get_d_of f (x ∷ l) (suc i) d h = get_d_of f l i d (omega arith)
+get_or_of : {A : Type 0} (f : ℕ → A) (l : List ℕ) (i : ℕ) (d : A) → i < length l → get_or (map f l) i d ≡ f (get_or l i 0)
+get_or_of f [] i d h = absurd (omega arith)
+get_or_of f (x ∷ l) zero d h = refl
+get_or_of f (x ∷ l) (suc i) d h = get_or_of f l i d (omega arith)
 
 -- ---- the arguments of the marked term at a place
 module _ {job work : Bytes} {n place : ℕ} {t : Decoded} (c : Closed job work n) (low : place < first_terms + n) (m : T (mark_of job work place)) (h : TermOn job work n place t) (u : Decoded) (e : t ≡ u) where
@@ -299,8 +299,8 @@ module _ {job work : Bytes} {n x i : ℕ} (s : BitAsked job work n x i) where
           g ∙ ap (cell_at values) f
           ∙ arg_bit s.closed s.low s.marked h u e all input (λ k y z. sound k (omega arith) z) i l
           ∙ ap known_byte (sym (ap (λ (bs : List Known). get_or bs i unknown) (known_made s.closed s.low s.marked h u e input)
-          ∙ get_d_map lead (map (λ (k : ℕ). known input (tree_at list k)) ks) i [] (subst (λ (z : ℕ). i < z) (sym (length_map (λ (k : ℕ). known input (tree_at list k)) ks)) l)
-          ∙ ap lead (get_d_of (λ (k : ℕ). known input (tree_at list k)) ks i [] l)))
+          ∙ get_or_map lead (map (λ (k : ℕ). known input (tree_at list k)) ks) i [] (subst (λ (z : ℕ). i < z) (sym (length_map (λ (k : ℕ). known input (tree_at list k)) ks)) l)
+          ∙ ap lead (get_or_of (λ (k : ℕ). known input (tree_at list k)) ks i [] l)))
 
 -- ---- no other kind of bit-vector is bit-level
 bool_width : (b : Bool) → sort_width (guard b bool) ≡ 0

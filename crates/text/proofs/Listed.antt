@@ -15,7 +15,7 @@ use Rattle.theory.specs.Term.{Term, node, nil, same_numbers}
 use Rattle.theory.specs.Record.{Bytes, AllBytes, word, bytes_of, word_bytes, records_of, kind_of, step_kind, long_kind, Item, term, unknown, read, shape_of, is_step, step_count, number_length}
 use Rattle.theory.specs.Plain.{Entry, entry, Plain, start, put, has, feed, feed_item}
 use Rattle.theory.specs.Codes.{all_below}
-use Rattle.theory.proofs.Basics.{none_some, some_inj, foldl_append, getElem_of, getElem_lt, T_true}
+use Rattle.theory.proofs.Basics.{none_some, some_inj, foldl_append, get_elem_of, get_elem_lt, T_true}
 use Rattle.theory.proofs.Same.{same_numbers_refl}
 use Rattle.theory.specs.Listed.{Sound, WellKept}
 use Rattle.theory.specs.Places.{tree_at, tree_of}
@@ -117,7 +117,7 @@ drop_two (a ∷ []) j = let e : 2 + j ≡ suc (suc j) = omega arith in sym (ap (
 drop_two (a ∷ b ∷ es) j = let e : 2 + j ≡ suc (suc j) = omega arith in sym (ap (get_elem? (a ∷ b ∷ es)) e)
 
 pub two_long : (list : Plain) → WellKept number_bytes list → 2 ≤ length list
-two_long list w = getElem_lt list 1 _ w.is_false
+two_long list w = get_elem_lt list 1 _ w.is_false
 
 -- as many kept records as places after the first two
 kept_length : {job : Bytes} {list : Plain} → Holds job list → 2 + length (kept job) ≡ length list
@@ -185,12 +185,12 @@ module _ {job : Bytes} {list : Plain} (h : Holds job list) {r : Bytes} {o : Op} 
       let a = place_found r (drop first_terms list) first_terms k (ap (place_from first_terms r) (sym h.same) ∙ e) in
       let w = a.where_is in
       let g : get_elem? list k ≡ some a.at_entry = ap (get_elem? list) w ∙ sym (drop_two list a.off) ∙ a.there in
-      let l : k < length list = getElem_lt list k a.at_entry g in
+      let l : k < length list = get_elem_lt list k a.at_entry g in
       let c = h.well.kept k a.at_entry (omega arith) g in
       let q : term c.op c.args ≡ term o ks = sym c.says ∙ ap (read number_bytes) a.is_r ∙ s.says in
       let qo : c.op ≡ o = cc in
       let qa : c.args ≡ ks = cc in
-      let te : tree_at list k ≡ a.at_entry.tree = ap (λ (x : Entry). x.tree) (some_inj _ _ (sym (getElem_of list k (entry (node True nil) []) l) ∙ g)) in
+      let te : tree_at list k ≡ a.at_entry.tree = ap (λ (x : Entry). x.tree) (some_inj _ _ (sym (get_elem_of list k (entry (node True nil) []) l) ∙ g)) in
       record { grows = grows_none job; after = list; holds = h; extends = extends_none list; inside = l; tree = te ∙ c.made ∙ ap₂ (tree_of list) qo qa }
 
   -- it is new

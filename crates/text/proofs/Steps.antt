@@ -15,7 +15,7 @@ use Rattle.theory.specs.Optional.{either, is_some}
 use Rattle.theory.specs.RuleTable.{Rule}
 use Rattle.theory.specs.Record.{Bytes, records_of, cut, kind_of, step_kind, long_kind, Item, step, read, is_step, step_count, number_length}
 use Rattle.theory.specs.Plain.{Plain, start, feed, feed_item, at_place}
-use Rattle.theory.proofs.Basics.{none_some, some_inj, foldl_append, getElem_lt, getElem_old, getElem_seam, snoc_elim}
+use Rattle.theory.proofs.Basics.{none_some, some_inj, foldl_append, get_elem_lt, get_elem_old, get_elem_seam, snoc_elim}
 use Rattle.theory.proofs.Places.{at_place_is}
 use Rattle.theory.proofs.Distinct.{start_well}
 use Rattle.text.specs.Tokens.{ascii, left, right, end, word, after}
@@ -37,13 +37,13 @@ old_take m xs ys h = take-append-le m xs ys h
 
 stays : {old new : Bytes} (more : List Bytes) → records_of new ≡ records_of old ++ more → number_length new ≡ number_length old → (k : ℕ) (s : Step) → StepWritten old k s → StepWritten new k s
 stays {old} {new} more e same k s w =
-    let l : w.m < length (records_of old) = getElem_lt (records_of old) w.m w.bytes w.stands in
+    let l : w.m < length (records_of old) = get_elem_lt (records_of old) w.m w.bytes w.stands in
     let t : take w.m (records_of new) ≡ take w.m (records_of old) = ap (take w.m) e ∙ old_take w.m (records_of old) more (omega arith) in
     record {
       m = w.m;
       bytes = w.bytes;
       place = w.place;
-      stands = ap (λ (rs : List Bytes). get_elem? rs w.m) e ∙ getElem_old (records_of old) more w.m l ∙ w.stands;
+      stands = ap (λ (rs : List Bytes). get_elem? rs w.m) e ∙ get_elem_old (records_of old) more w.m l ∙ w.stands;
       kth = ap₂ step_count same t ∙ w.kth;
       says = ap (λ (b : ℕ). read b w.bytes) same ∙ w.says;
       literal = ap₂ (λ (b : ℕ) (rs : List Bytes). at_place (foldl (feed b) start rs) w.place) same t ∙ w.literal;
@@ -191,7 +191,7 @@ module _ {job : Bytes} {list : Plain} {p : Placed} {t : Term} (w : Stood job lis
         m = m;
         bytes = r;
         place = p.number;
-        stands = ap (λ (rs : List Bytes). get_elem? rs m) more ∙ getElem_seam (records_of p.job) r [];
+        stands = ap (λ (rs : List Bytes). get_elem? rs m) more ∙ get_elem_seam (records_of p.job) r [];
         kth = ap₂ step_count short before ∙ old;
         says = ap (λ (b : ℕ). read b r) short ∙ says;
         literal = ap₂ (λ (b : ℕ) (rs : List Bytes). at_place (foldl (feed b) start rs) p.number) short before ∙ ap (λ (x : Plain). at_place x p.number) h.list_is

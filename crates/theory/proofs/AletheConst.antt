@@ -32,10 +32,10 @@ literal_is : (b : Bool) → literal b ≡ cond b (node True nil) (node False nil
 literal_is true = refl
 literal_is false = refl
 
-getD_literal : (bs : List Bool) (i : ℕ) → get_or (map literal bs) i (node False nil) ≡ literal (get_or bs i false)
-getD_literal [] i = refl
-getD_literal (b ∷ bs) zero = refl
-getD_literal (b ∷ bs) (suc i) = getD_literal bs i
+get_or_literal : (bs : List Bool) (i : ℕ) → get_or (map literal bs) i (node False nil) ≡ literal (get_or bs i false)
+get_or_literal [] i = refl
+get_or_literal (b ∷ bs) zero = refl
+get_or_literal (b ∷ bs) (suc i) = get_or_literal bs i
 
 length_literal : (bs : List Bool) → length (map literal bs) ≡ length bs
 length_literal [] = refl
@@ -63,7 +63,7 @@ const_literals n v =
 bits_of_value : (n v : ℕ) (bs : List Bool) → length bs ≡ n → v ≡ to_number bs → map literal bs ≡ const_bits n v
 bits_of_value n v bs l e =
     bits_by (node False nil) (map literal bs) (λ i. cond (bit_at i v) (node True nil) (node False nil)) (length_literal bs ∙ l)
-    (λ i h. getD_literal bs i ∙ literal_is (get_or bs i false)
+    (λ i h. get_or_literal bs i ∙ literal_is (get_or bs i false)
     ∙ ap (λ (b : Bool). cond b (node True nil) (node False nil)) (sym (bit_is bs i) ∙ ap (bit_at i) (sym e)))
 
 pub alethe_const : AletheConst

@@ -26,7 +26,7 @@ use Rattle.theory.proofs.Same.{eq_same}
 use Rattle.theory.proofs.Basics.{T_true, foldl_append}
 use Rattle.theory.proofs.Form.{form_held, same_of}
 use Rattle.theory.proofs.Blast.{bits_of, not_bb, to_from_list}
-use Rattle.theory.proofs.Indexed.{length_bits, get_d_bits, bits_by, bits_same, map_bits, zip_bits, append_bits}
+use Rattle.theory.proofs.Indexed.{length_bits, get_or_bits, bits_by, bits_same, map_bits, zip_bits, append_bits}
 use Rattle.theory.proofs.Alethe.{adder_by, ult_by, slt_by, mult_by, gather_by, extract_indexed, extend_indexed}
 
 -- ---- the bits of a term
@@ -83,7 +83,7 @@ module _ (x : Term) {n : ℕ} (s : sort_of x ≡ bv n) where
   of_sort v = ap (λ (z : Sort). cond (is_bv_sort z) v not_bit_vector) s
 
   one_bit : (i : ℕ) → i < n → bit_of (node False nil) (get_term_bits x) i ≡ bit x i
-  one_bit i h = ap (λ (l : List Term). get_or l i (node False nil)) (bits_are x n s) ∙ get_d_bits n (bit x) (node False nil) i h
+  one_bit i h = ap (λ (l : List Term). get_or l i (node False nil)) (bits_are x n s) ∙ get_or_bits n (bit x) (node False nil) i h
 
   neg_bits : negate term_gates (get_term_bits x) ≡ bvneg term_gates n (bit x)
   neg_bits =
@@ -95,7 +95,7 @@ module _ (x : Term) {n : ℕ} (s : sort_of x ≡ bv n) where
   extract_same i j h l =
       extract_indexed (node False nil) i j (get_term_bits x) h (let e = bits_length x n s in omega arith)
       ∙ bits_by (node False nil) (extract i j (bit_of (node False nil) (get_term_bits x))) (λ k. bit x (j + k)) (length_bits (suc (i - j)) (λ k. bit_of (node False nil) (get_term_bits x) (j + k)))
-      (λ k m. get_d_bits (suc (i - j)) (λ k. bit_of (node False nil) (get_term_bits x) (j + k)) (node False nil) k m ∙ one_bit (j + k) (omega arith))
+      (λ k m. get_or_bits (suc (i - j)) (λ k. bit_of (node False nil) (get_term_bits x) (j + k)) (node False nil) k m ∙ one_bit (j + k) (omega arith))
 
 module _ (x : Term) {n : ℕ} (s : sort_of x ≡ bv (suc n)) where
   extend_same : (k : ℕ) → extend_bits k (get_term_bits x) ≡ sign_extend k (suc n) (bit x)

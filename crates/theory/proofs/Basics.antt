@@ -58,24 +58,24 @@ pub foldl_append : {A B : Type 0} (f : B → A → B) (b : B) (xs ys : List A) �
 foldl_append f b [] ys = refl
 foldl_append f b (x ∷ xs) ys = foldl_append f (f b x) xs ys
 
-pub getElem_of : {A : Type 0} (l : List A) (i : ℕ) (d : A) → i < length l → get_elem? l i ≡ some (get_or l i d)
-getElem_of [] i d h = absurd (omega arith)
-getElem_of (x ∷ l) zero d h = refl
-getElem_of (x ∷ l) (suc i) d h = getElem_of l i d (omega arith)
+pub get_elem_of : {A : Type 0} (l : List A) (i : ℕ) (d : A) → i < length l → get_elem? l i ≡ some (get_or l i d)
+get_elem_of [] i d h = absurd (omega arith)
+get_elem_of (x ∷ l) zero d h = refl
+get_elem_of (x ∷ l) (suc i) d h = get_elem_of l i d (omega arith)
 
-pub getElem_lt : {A : Type 0} (xs : List A) (i : ℕ) (a : A) → get_elem? xs i ≡ some a → i < length xs
-getElem_lt [] i a e = absurd (none_some a e)
-getElem_lt (x ∷ xs) zero a e = omega arith
-getElem_lt (x ∷ xs) (suc i) a e = omega (arith, getElem_lt xs i a e)
+pub get_elem_lt : {A : Type 0} (xs : List A) (i : ℕ) (a : A) → get_elem? xs i ≡ some a → i < length xs
+get_elem_lt [] i a e = absurd (none_some a e)
+get_elem_lt (x ∷ xs) zero a e = omega arith
+get_elem_lt (x ∷ xs) (suc i) a e = omega (arith, get_elem_lt xs i a e)
 
-pub getElem_seam : {A : Type 0} (xs : List A) (y : A) (ys : List A) → get_elem? (xs ++ (y ∷ ys)) (length xs) ≡ some y
-getElem_seam [] y ys = refl
-getElem_seam (x ∷ xs) y ys = getElem_seam xs y ys
+pub get_elem_seam : {A : Type 0} (xs : List A) (y : A) (ys : List A) → get_elem? (xs ++ (y ∷ ys)) (length xs) ≡ some y
+get_elem_seam [] y ys = refl
+get_elem_seam (x ∷ xs) y ys = get_elem_seam xs y ys
 
-pub getElem_old : {A : Type 0} (xs ys : List A) (i : ℕ) → i < length xs → get_elem? (xs ++ ys) i ≡ get_elem? xs i
-getElem_old [] ys i h = absurd (omega arith)
-getElem_old (x ∷ xs) ys zero h = refl
-getElem_old (x ∷ xs) ys (suc i) h = getElem_old xs ys i (omega arith)
+pub get_elem_old : {A : Type 0} (xs ys : List A) (i : ℕ) → i < length xs → get_elem? (xs ++ ys) i ≡ get_elem? xs i
+get_elem_old [] ys i h = absurd (omega arith)
+get_elem_old (x ∷ xs) ys zero h = refl
+get_elem_old (x ∷ xs) ys (suc i) h = get_elem_old xs ys i (omega arith)
 
 pub get_elem_take : {A : Type 0} (n : ℕ) (xs : List A) (i : ℕ) (a : A) → get_elem? (take n xs) i ≡ some a → get_elem? xs i ≡ some a
 get_elem_take zero xs i a e = absurd (none_some a e)
@@ -83,11 +83,11 @@ get_elem_take (suc n) [] i a e = e
 get_elem_take (suc n) (x ∷ xs) zero a e = e
 get_elem_take (suc n) (x ∷ xs) (suc i) a e = get_elem_take n xs i a e
 
-pub take_getElem : {A : Type 0} (n : ℕ) (xs : List A) (i : ℕ) → i < n → get_elem? (take n xs) i ≡ get_elem? xs i
-take_getElem zero xs i h = absurd (omega arith)
-take_getElem (suc n) [] i h = refl
-take_getElem (suc n) (x ∷ xs) zero h = refl
-take_getElem (suc n) (x ∷ xs) (suc i) h = take_getElem n xs i (omega arith)
+pub take_get_elem : {A : Type 0} (n : ℕ) (xs : List A) (i : ℕ) → i < n → get_elem? (take n xs) i ≡ get_elem? xs i
+take_get_elem zero xs i h = absurd (omega arith)
+take_get_elem (suc n) [] i h = refl
+take_get_elem (suc n) (x ∷ xs) zero h = refl
+take_get_elem (suc n) (x ∷ xs) (suc i) h = take_get_elem n xs i (omega arith)
 
 -- an element of a list with one more at the end
 pub snoc_elim : {A : Type 0} {P : Type 0} (xs : List A) (y : A) (k : ℕ) (a : A) → get_elem? (xs ++ (y ∷ [])) k ≡ some a

@@ -18,7 +18,7 @@ use Rattle.theory.specs.Chain.{Earlier, premises_at, joined}
 use Rattle.theory.specs.Job.{judged, answer_to, run}
 use Rattle.theory.specs.Demand.{Reached}
 use Rattle.theory.specs.Demands.{Stops, too_long, at_record, at_end, earlier_after, Demand2}
-use Rattle.theory.proofs.Basics.{some_inj, getElem_of, getElem_lt}
+use Rattle.theory.proofs.Basics.{some_inj, get_elem_of, get_elem_lt}
 use Rattle.theory.proofs.Places.{tree_at, at_place_is, at_places_are}
 use Rattle.theory.proofs.Run.{AnswerOf, to_step, to_chain, answered_step, ran, count_next}
 
@@ -91,7 +91,7 @@ module _ (limits : Limits) (job : Bytes) (work space : ℕ) where
           late : Dec (suc m ≤ d) → m < d
           late (yes l) = l
           late (no l) = absurd (let z = h.passes d q (omega arith) e in omega arith)
-      go stop done (at_end s e p) = subst (λ (k : ℕ). m < k) e (getElem_lt (records_of job) m r h.stands)
+      go stop done (at_end s e p) = subst (λ (k : ℕ). m < k) e (get_elem_lt (records_of job) m r h.stands)
 
   -- one more step after record m
   step_more : (m : ℕ) (r : Bytes) → get_elem? (records_of job) m ≡ some r → is_step (read b r) ≡ true
@@ -121,7 +121,7 @@ module _ (limits : Limits) (job : Bytes) (work space : ℕ) where
       let v = steps_grow b (records_of job) (suc m) o.records l in
       let c = w.answers_are in
       let a = get_or o.answers k d in
-      let f : get_elem? o.answers k ≡ some a = getElem_of o.answers k d (omega arith) in
+      let f : get_elem? o.answers k ≡ some a = get_elem_of o.answers k d (omega arith) in
       let g = w.exact_answers k a f in
       let q : g.m ≡ m = one_step g.m m g.bytes r g.stands h.stands (answered_step g.is) e g.kth in
       let z : g.bytes ≡ r = some_inj g.bytes r (sym g.stands ∙ ap (get_elem? (records_of job)) q ∙ h.stands) in

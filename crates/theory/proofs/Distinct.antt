@@ -17,7 +17,7 @@ use Rattle.theory.specs.Codes.{all_below, fault}
 use Rattle.theory.specs.Job.{run}
 use Rattle.theory.specs.Claim.{OneNumber}
 pub use Rattle.theory.specs.Listed.{Entered, WellKept}
-use Rattle.theory.proofs.Basics.{none_some, some_inj, or_left, or_right, getElem_of, getElem_lt, getElem_old, get_elem_take, take_getElem, snoc_elim}
+use Rattle.theory.proofs.Basics.{none_some, some_inj, or_left, or_right, get_elem_of, get_elem_lt, get_elem_old, get_elem_take, take_get_elem, snoc_elim}
 use Rattle.theory.proofs.Blast.{to_from_list}
 use Rattle.theory.proofs.Same.{same_numbers_refl}
 use Rattle.theory.proofs.Bytes.{Sound, same_record, record_sound, not_constant}
@@ -45,10 +45,10 @@ moved ks ls i e same f k = record {
 
 pub take_well : {b : ℕ} (n : ℕ) (list : Plain) → first_terms ≤ n → n ≤ length list → WellKept b list → WellKept b (take n list)
 take_well n list h l w = record {
-  is_true = take_getElem n list 0 (omega arith) ∙ w.is_true;
-  is_false = take_getElem n list 1 (omega arith) ∙ w.is_false;
+  is_true = take_get_elem n list 0 (omega arith) ∙ w.is_true;
+  is_false = take_get_elem n list 1 (omega arith) ∙ w.is_false;
   kept = λ i e p f.
-      let b : i < length (take n list) = getElem_lt (take n list) i e f in
+      let b : i < length (take n list) = get_elem_lt (take n list) i e f in
       moved list (take n list) i e
       (λ args c. sym (trees_old (take n list) (drop n list) i (omega arith) args c) ∙ ap (λ (x : Plain). map (tree_at x) args) (take-append-drop n list))
       (λ j d m g. get_elem_take n list j d g) (w.kept i e p (get_elem_take n list i e f));
@@ -59,12 +59,12 @@ pub snoc_well : {b : ℕ} (list : Plain) (r : Bytes) (o : Op) (ks : List ℕ) �
 snoc_well {b} list r o ks w s d l n =
     let new = entry (tree_of list o ks) r in
     let old : (j : ℕ) (e : Entry) → j < length list → get_elem? (list ++ (new ∷ [])) j ≡ some e → get_elem? list j ≡ some e
-    = λ j e l g. sym (getElem_old list (new ∷ []) j l) ∙ g in
+    = λ j e l g. sym (get_elem_old list (new ∷ []) j l) ∙ g in
     record {
-      is_true = getElem_old list (new ∷ []) 0 (getElem_lt list 0 _ w.is_true) ∙ w.is_true;
-      is_false = getElem_old list (new ∷ []) 1 (getElem_lt list 1 _ w.is_false) ∙ w.is_false;
+      is_true = get_elem_old list (new ∷ []) 0 (get_elem_lt list 0 _ w.is_true) ∙ w.is_true;
+      is_false = get_elem_old list (new ∷ []) 1 (get_elem_lt list 1 _ w.is_false) ∙ w.is_false;
       kept = λ i e p f. snoc_elim list new i e f
-          (λ g. let l = getElem_lt list i e g in
+          (λ g. let l = get_elem_lt list i e g in
           moved list (list ++ (new ∷ [])) i e (λ args c. trees_old list (new ∷ []) i (omega arith) args c) (λ j x m h. old j x (omega arith) h) (w.kept i e p g))
           (λ q z. subst (Entered b (list ++ (new ∷ [])) i) z (subst (λ (k : ℕ). Entered b (list ++ (new ∷ [])) k new) (sym q) (record {
             sound = s;
@@ -81,7 +81,7 @@ pub start_well : {b : ℕ} → WellKept b start
 start_well = record {
   is_true = refl;
   is_false = refl;
-  kept = λ i e p f. let l = getElem_lt start i e f in absurd (omega arith);
+  kept = λ i e p f. let l = get_elem_lt start i e f in absurd (omega arith);
 }
 
 feed_well : (place b : ℕ) (limits : Limits) (work space : ℕ) (list : Plain) (answered : ℕ) (r : Bytes) → fault place b limits work space list answered r ≡ 0 → Sound r → WellKept b list
@@ -101,13 +101,13 @@ module _ (limits : Limits) (job : Bytes) (bytes : AllBytes job) (work space : �
 -- ---- the terms of a well-kept list
 module _ {b : ℕ} (list : Plain) (w : WellKept b list) where
   pub tree_0 : tree_at list 0 ≡ node True nil
-  tree_0 = ap (λ (e : Entry). e.tree) (some_inj _ _ (sym (getElem_of list 0 _ (getElem_lt list 0 _ w.is_true)) ∙ w.is_true))
+  tree_0 = ap (λ (e : Entry). e.tree) (some_inj _ _ (sym (get_elem_of list 0 _ (get_elem_lt list 0 _ w.is_true)) ∙ w.is_true))
 
   pub tree_1 : tree_at list 1 ≡ node False nil
-  tree_1 = ap (λ (e : Entry). e.tree) (some_inj _ _ (sym (getElem_of list 1 _ (getElem_lt list 1 _ w.is_false)) ∙ w.is_false))
+  tree_1 = ap (λ (e : Entry). e.tree) (some_inj _ _ (sym (get_elem_of list 1 _ (get_elem_lt list 1 _ w.is_false)) ∙ w.is_false))
 
   pub kept_at : (i : ℕ) → first_terms ≤ i → i < length list → Entered b list i (entry_at list i)
-  kept_at i h l = w.kept i (entry_at list i) h (getElem_of list i (entry (node True nil) []) l)
+  kept_at i h l = w.kept i (entry_at list i) h (get_elem_of list i (entry (node True nil) []) l)
 
 abbrev pub DistinctBelow : Plain → ℕ → Type 0
 DistinctBelow list n = (i j : ℕ) → i < n → j < n → tree_at list i ≡ tree_at list j → i ≡ j
@@ -146,7 +146,7 @@ module _ {b : ℕ} (list : Plain) (w : WellKept b list) where
       let a : x.args ≡ y.args = trees_inj list n d x.args y.args (more_below i n (omega arith) x.args x.below) y.below vs in
       let s : (entry_at list i).bytes ≡ (entry_at list n).bytes
       = same_record b (entry_at list i).bytes (entry_at list n).bytes y.op y.args x.sound y.sound (x.says ∙ ap₂ term o a) y.says in
-      y.new i (entry_at list i) c (getElem_of list i (entry (node True nil) []) (omega arith)) s
+      y.new i (entry_at list i) c (get_elem_of list i (entry (node True nil) []) (omega arith)) s
 
   fresh : (n i : ℕ) → DistinctBelow list n → i < n → n < length list → tree_at list i ≡ tree_at list n → ⊥
   fresh zero i d c l e = omega arith

@@ -27,15 +27,15 @@ module _ {A : Type 0} where
   length_bits zero f = refl
   length_bits (suc n) f = ap suc (length_bits n (λ i. f (suc i)))
 
-  pub get_d_bits : (n : ℕ) (f : ℕ → A) (d : A) (i : ℕ) → i < n → get_or (bits n f) i d ≡ f i
-  get_d_bits zero f d i h = absurd (not-suc-le-zero h)
-  get_d_bits (suc n) f d zero h = refl
-  get_d_bits (suc n) f d (suc i) h = get_d_bits n (λ k. f (suc k)) d i (le_of_suc-le-suc h)
+  pub get_or_bits : (n : ℕ) (f : ℕ → A) (d : A) (i : ℕ) → i < n → get_or (bits n f) i d ≡ f i
+  get_or_bits zero f d i h = absurd (not-suc-le-zero h)
+  get_or_bits (suc n) f d zero h = refl
+  get_or_bits (suc n) f d (suc i) h = get_or_bits n (λ k. f (suc k)) d i (le_of_suc-le-suc h)
 
   -- a list, by what stands at each of its places
   pub bits_by : {n : ℕ} (d : A) (l : List A) (f : ℕ → A) → length l ≡ n → ((i : ℕ) → i < n → get_or l i d ≡ f i) → l ≡ bits n f
   bits_by {n} d l f e h =
-      ext_get_or d l (bits n f) (e ∙ sym (length_bits n f)) (λ i k. h i (omega arith) ∙ sym (get_d_bits n f d i (omega arith)))
+      ext_get_or d l (bits n f) (e ∙ sym (length_bits n f)) (λ i k. h i (omega arith) ∙ sym (get_or_bits n f d i (omega arith)))
 
   -- a list is the list of its bits
   pub list_bits : {n : ℕ} (d : A) (l : List A) → length l ≡ n → l ≡ bits n (bit_of d l)
@@ -65,10 +65,10 @@ module _ {A : Type 0} where
       bits_by d (bits m x ++ bits n y) (λ k. cond (ltb k m) (x k) (y (k - m))) (simp (length-append, length_bits)) (λ k h. by k h (dec_le (suc k) m))
     where
       by : (k : ℕ) → k < m + n → Dec (k < m) → get_or (bits m x ++ bits n y) k d ≡ cond (ltb k m) (x k) (y (k - m))
-      by k h (yes g) = get_or-append (bits m x) (bits n y) d k (omega (arith, length_bits m x)) ∙ get_d_bits m x d k g ∙ sym (cond_true (x k) (y (k - m)) (lt-ltb k m g))
+      by k h (yes g) = get_or-append (bits m x) (bits n y) d k (omega (arith, length_bits m x)) ∙ get_or_bits m x d k g ∙ sym (cond_true (x k) (y (k - m)) (lt-ltb k m g))
       by k h (no g) =
           ap (λ (i : ℕ). get_or (bits m x ++ bits n y) i d) place
-          ∙ get_or-append-add (bits m x) (bits n y) (k - m) d ∙ get_d_bits n y d (k - m) (omega arith) ∙ sym (cond_false (x k) (y (k - m)) (le-ltb k m (omega arith)))
+          ∙ get_or-append-add (bits m x) (bits n y) (k - m) d ∙ get_or_bits n y d (k - m) (omega arith) ∙ sym (cond_false (x k) (y (k - m)) (le-ltb k m (omega arith)))
         where
           place : k ≡ length (bits m x) + (k - m)
           place = omega (arith, length_bits m x)

@@ -11,7 +11,7 @@ use Rattle.theory.specs.Gates.{Gates}
 use Rattle.theory.specs.Circuit.{ripple_carry_adder, next_carry, sum_bit, partial_products, add_rows, shift_add_multiplier}
 use Rattle.theory.specs.Move.{bits, bit_of}
 use Rattle.theory.specs.Alethe.{ripple, sh, res, carry}
-use Rattle.theory.proofs.Indexed.{cond_true, cond_false, get_d_bits, list_bits, map_bits, adder_bits}
+use Rattle.theory.proofs.Indexed.{cond_true, cond_false, get_or_bits, list_bits, map_bits, adder_bits}
 
 -- ---- the three tables of bitvectors.rs, as its loops fill them: for n bits, at every row j < n and place i < n. A row's number is written `suc j` where it is not 0
 
@@ -178,7 +178,7 @@ pub tables_mult : {T : Type 0} (G : Gates T) (d : T) (n : ℕ) (xs ys : List T) 
     → (i : ℕ) → i < suc n → result n i ≡ get_or (shift_add_multiplier G xs ys) i d
 tables_mult {T} G d n xs ys shift carries result t p q i h =
     result_same G (bit_of d xs) (bit_of d ys) (suc n) shift carries result t n i (le_refl (suc n)) h
-    ∙ sym (ap (λ (l : List T). get_or l i d) (ap₂ (shift_add_multiplier G) (list_bits d xs p) (list_bits d ys q) ∙ mult_bits G (bit_of d xs) (bit_of d ys) n) ∙ get_d_bits (suc n) (res G (bit_of d xs) (bit_of d ys) n) d i h)
+    ∙ sym (ap (λ (l : List T). get_or l i d) (ap₂ (shift_add_multiplier G) (list_bits d xs p) (list_bits d ys q) ∙ mult_bits G (bit_of d xs) (bit_of d ys) n) ∙ get_or_bits (suc n) (res G (bit_of d xs) (bit_of d ys) n) d i h)
 
 -- and there are such tables
 pub tables_hold : {T : Type 0} (G : Gates T) (x y : ℕ → T) (n : ℕ) → Tables G x y n (sh G x y) (carry G x y) (res G x y)

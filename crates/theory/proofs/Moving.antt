@@ -21,7 +21,7 @@ use Rattle.theory.proofs.Blast.{bits_from, to_number_bits_from, bits_of, bb_valu
 use Rattle.theory.proofs.Numbers.{odd}
 use Rattle.theory.proofs.Slices.{to_number_append, to_number_drop, false_value}
 use Rattle.theory.specs.Claim.{Rotations}
-use Rattle.theory.proofs.Indexed.{length_bits, get_d_bits, bits_same, map_bits}
+use Rattle.theory.proofs.Indexed.{length_bits, get_or_bits, bits_same, map_bits}
 
 -- ---- bits by their places
 module _ {A : Type 0} where
@@ -125,7 +125,7 @@ copies_moved n x (suc k) h =
 
 -- ---- where the rotations bring a bit
 moved_at : (n x : ℕ) (f : ℕ → ℕ) (p : ℕ) → p < n → bit_at p (to_number (bits n (λ j. bit_at (f j) x))) ≡ bit_at (f p) x
-moved_at n x f p h = bit_is (bits n (λ j. bit_at (f j) x)) p ∙ get_d_bits n (λ j. bit_at (f j) x) false p h
+moved_at n x f p h = bit_is (bits n (λ j. bit_at (f j) x)) p ∙ get_or_bits n (λ j. bit_at (f j) x) false p h
 
 up_and_back : (n k i : ℕ) → i < n → ((i + k) % n + (n - k % n)) % n ≡ i
 up_and_back n k i h =

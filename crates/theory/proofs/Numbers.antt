@@ -213,8 +213,8 @@ low_bits x xs =
     ap (λ (z : ℕ). z % 2 ^ length xs) (sym (low_top x xs)) ∙ digits_mod (bit (top (x ∷ xs))) (low_lt x xs)
 
 -- a − b < c − d where a + d < c + b
-pub ltZ_sub : (a b c d : ℕ) → lt_z (sub_ℕ a b) (sub_ℕ c d) ≡ ltb (a + d) (c + b)
-ltZ_sub a b c d = go (ltb a b) (ltb c d) (ltb→lt a b) (nltb→le a b) (ltb→lt c d) (nltb→le c d)
+pub lt_z_sub : (a b c d : ℕ) → lt_z (sub_ℕ a b) (sub_ℕ c d) ≡ ltb (a + d) (c + b)
+lt_z_sub a b c d = go (ltb a b) (ltb c d) (ltb→lt a b) (nltb→le a b) (ltb→lt c d) (nltb→le c d)
   where
     go : (p q : Bool) → (T p → a < b) → (T (not p) → b ≤ a) → (T q → c < d) → (T (not q) → d ≤ c)
         → lt_z (cond p (negsuc (b - suc a)) (pos (a - b))) (cond q (negsuc (d - suc c)) (pos (c - d))) ≡ ltb (a + d) (c + b)
@@ -255,7 +255,7 @@ slt_lt (next {x} {y} {xs} {ys} p) =
     → to_number (flip (x ∷ xs)) < to_number (flip (y ∷ ys))
     = omega arith in
     ltb_same _ _ _ _ f g ∙ sym (ap₂ lt_z (signed_bits x xs) (signed_bits y ys)
-    ∙ ltZ_sub (low (x ∷ xs)) (bit (top (x ∷ xs)) * 2 ^ length xs) (low (y ∷ ys)) (bit (top (y ∷ ys)) * 2 ^ length ys))
+    ∙ lt_z_sub (low (x ∷ xs)) (bit (top (x ∷ xs)) * 2 ^ length xs) (low (y ∷ ys)) (bit (top (y ∷ ys)) * 2 ^ length ys))
 
 -- ---- equality
 eq→eqb : (a b : ℕ) → a ≡ b → T (eqb a b)

@@ -19,7 +19,7 @@ use Rattle.theory.specs.Answer.{Answer}
 use Rattle.theory.specs.Chain.{Earlier, leaves, unless_dropped, recall_item, premises_at, joined}
 use Rattle.theory.specs.Job.{judged, answer_to, item_answers, answers_to, recall}
 pub use Rattle.theory.specs.Origins.{before, standing, Mark, all_standing, origins_item}
-use Rattle.theory.proofs.Basics.{none_some, some_inj, take_getElem}
+use Rattle.theory.proofs.Basics.{none_some, some_inj, take_get_elem}
 use Rattle.theory.proofs.Places.{tree_at, tree_of, term_of_is}
 use Rattle.theory.proofs.Run.{term_passed, step_passed, step_answer, chain_passed, chain_answer}
 
@@ -84,7 +84,7 @@ standing_cut os n s none = refl
 standing_cut os n s (some p) = go (dec_lt p n)
   where
     go : Dec (p < n) → before (get_elem? (take n os) p) s p ≡ unless_dropped n (before (get_elem? os p) s p)
-    go (yes h) = ap (λ (o : Option ℕ). before o s p) (take_getElem n os p h) ∙ sym (below_kept (get_elem? os p) n s p h)
+    go (yes h) = ap (λ (o : Option ℕ). before o s p) (take_get_elem n os p h) ∙ sym (below_kept (get_elem? os p) n s p h)
     go (no h) = ap (λ (o : Option ℕ). before o s p) (beyond n os p (omega arith)) ∙ sym (above_dropped (get_elem? os p) n s p (omega arith))
 
 -- at the step itself: its literal is there, and every term came before

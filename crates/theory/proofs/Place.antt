@@ -16,7 +16,7 @@ use Rattle.theory.specs.Record.{Item, term, read, shape_of}
 use Rattle.theory.specs.Plain.{Entry, entry, Plain}
 use Rattle.theory.specs.Codes.{all_below}
 unfoldable pub use Rattle.theory.specs.Places.{item_is, agrees, find_from, find, lookup, place}
-use Rattle.theory.proofs.Basics.{none_some, some_inj, cons_some_is, getElem_of, getElem_lt}
+use Rattle.theory.proofs.Basics.{none_some, some_inj, cons_some_is, get_elem_of, get_elem_lt}
 use Rattle.theory.proofs.Same.{same_numbers_eq, same_numbers_refl, same_op_eq, same_op_refl}
 use Rattle.theory.proofs.Bytes.{same_record, not_constant}
 use Rattle.theory.proofs.Places.{entry_at, tree_at, tree_of}
@@ -69,7 +69,7 @@ module _ {b : ℕ} (list : Plain) (w : WellKept b list) where
       let s : term k.op k.args ≡ term o ks = sym k.says ∙ d in
       let p : k.op ≡ o = cc in
       let q : k.args ≡ ks = cc in
-      let t : entry_at list j ≡ e = some_inj _ e (sym (getElem_of list j (entry (node True nil) []) (getElem_lt list j e f)) ∙ f) in
+      let t : entry_at list j ≡ e = some_inj _ e (sym (get_elem_of list j (entry (node True nil) []) (get_elem_lt list j e f)) ∙ f) in
       ap (λ (x : Entry). x.tree) t ∙ k.made ∙ ap₂ (tree_of list) p q
 
   pub find_tree : (o : Op) (ks : List ℕ) (k : ℕ) → find b list o ks ≡ some k → tree_at list k ≡ tree_of list o ks
@@ -174,7 +174,7 @@ module _ {b : ℕ} (list : Plain) (w : WellKept b list) where
       let k = kept_at list w i (omega arith) m in
       ap (place b list) k.made
       ∙ kept_placed k.op k.args i (collect_all i (λ x b. placed n x (omega arith) (omega arith)) k.args k.below)
-      (find_own i (entry_at list i) k (getElem_of list i (entry (node True nil) []) m))
+      (find_own i (entry_at list i) k (get_elem_of list i (entry (node True nil) []) m))
 
   pub tree_place : (i : ℕ) → i < length list → place b list (tree_at list i) ≡ some i
   tree_place i h = placed (suc i) i (omega arith) h

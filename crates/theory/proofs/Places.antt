@@ -13,10 +13,10 @@ use Rattle.theory.specs.Optional.{either, cons_some}
 use Rattle.theory.specs.Plain.{Entry, entry, Plain, at_place, at_places, term_of}
 use Rattle.theory.specs.Codes.{all_below}
 pub use Rattle.theory.specs.Places.{entry_at, tree_at, tree_of}
-use Rattle.theory.proofs.Basics.{none_some, some_inj, getElem_of}
+use Rattle.theory.proofs.Basics.{none_some, some_inj, get_elem_of}
 
 pub at_place_is : (list : Plain) (i : ℕ) → i < length list → at_place list i ≡ some (tree_at list i)
-at_place_is list i h = ap (either none (λ (e : Entry). some e.tree)) (getElem_of list i (entry (node True nil) []) h)
+at_place_is list i h = ap (either none (λ (e : Entry). some e.tree)) (get_elem_of list i (entry (node True nil) []) h)
 
 pub term_there : (list : Plain) (i : ℕ) (t : Term) → at_place list i ≡ some t → (i < length list) × (tree_at list i ≡ t)
 term_there [] i t e = absurd (none_some t e)

@@ -23,7 +23,7 @@ use Rattle.theory.specs.Chain.{Earlier, leaves, unless_dropped, recall_item, pre
 use Rattle.theory.specs.Job.{judged, answer_to, item_answers, answers_to, recall, run}
 use Rattle.theory.specs.Demand.{Held}
 use Rattle.theory.specs.Demands.{earlier_after}
-use Rattle.theory.proofs.Basics.{none_some, some_inj, cons_some_is, getElem_lt, getElem_old, take_getElem, snoc_elim}
+use Rattle.theory.proofs.Basics.{none_some, some_inj, cons_some_is, get_elem_lt, get_elem_old, take_get_elem, snoc_elim}
 use Rattle.theory.proofs.Form.{not_held, code_held}
 use Rattle.theory.proofs.Verdict.{verdict_holds}
 use Rattle.theory.proofs.Chain.{AllHold, Holds, chain_holds}
@@ -145,14 +145,14 @@ there_lt list p t e = go (get_elem? list p) refl e
   where
     go : (q : Option Entry) → get_elem? list p ≡ q → either none (λ x. some x.tree) q ≡ some t → p < length list
     go none f d = absurd (none_some t d)
-    go (some x) f d = getElem_lt list p x f
+    go (some x) f d = get_elem_lt list p x f
 
 module _ (earlier : Earlier) (list : Plain) (g : AllGood list) (v : Valid earlier list) where
   valid_grown : (e : Entry) → Valid earlier (list ++ (e ∷ []))
   valid_grown e k p f =
       let h = v k p f in
       held_moved list (list ++ (e ∷ [])) (p ∷ []) h
-      (ap (either none (λ (x : Entry). some x.tree)) (getElem_old list (e ∷ []) h.place (there_lt list h.place _ h.on_list)))
+      (ap (either none (λ (x : Entry). some x.tree)) (get_elem_old list (e ∷ []) h.place (there_lt list h.place _ h.on_list)))
 
   valid_cut : (n : ℕ) → Valid (map (unless_dropped n) earlier) (take n list)
   valid_cut n k p f =
@@ -160,7 +160,7 @@ module _ (earlier : Earlier) (list : Plain) (g : AllGood list) (v : Valid earlie
       let d = dropped_not n q.0 p q.2 in
       let h = v k p (q.1 ∙ ap some d.0) in
       held_moved list (take n list) (p ∷ []) h
-      (ap (either none (λ (x : Entry). some x.tree)) (take_getElem n list h.place (subst (λ (z : ℕ). z < n) (sym (place_of p h)) d.1)))
+      (ap (either none (λ (x : Entry). some x.tree)) (take_get_elem n list h.place (subst (λ (z : ℕ). z < n) (sym (place_of p h)) d.1)))
 
   -- one more step
   valid_more : (i : Item) (ks : List ℕ) (a : Answer) → AnswerOf earlier list i a → claim_of i ≡ some (a.rule, ks) → Valid (earlier ++ (leaves ks a ∷ [])) list

@@ -28,7 +28,7 @@ use Rattle.theory.specs.Job.{answer_to, judged, reply, chain_reply, item_answers
 use Rattle.theory.specs.Claim.{repeats_from}
 pub use Rattle.theory.specs.Listed.{AllGood}
 use Rattle.theory.specs.Demands.{Stops, too_long, at_record, at_end, earlier_from, earlier_after}
-use Rattle.theory.proofs.Basics.{none_some, some_inj, taken, foldl_append, getElem_of, getElem_lt, getElem_seam, snoc_elim}
+use Rattle.theory.proofs.Basics.{none_some, some_inj, taken, foldl_append, get_elem_of, get_elem_lt, get_elem_seam, snoc_elim}
 use Rattle.theory.proofs.Stops.{Stop, fault_code, ending_code}
 use Rattle.theory.proofs.Places.{tree_at, tree_of, at_place_is, at_places_are, term_of_is}
 
@@ -269,7 +269,7 @@ module _ (limits : Limits) (job : Bytes) (work space : ℕ) where
     earlier_now = before.recalled ∙ ap (earlier_from b [] start) (sym so_far)
 
     stands_now : get_elem? (records_of job) (length pre) ≡ some r
-    stands_now = ap (λ (l : List Bytes). get_elem? l (length pre)) all ∙ getElem_seam pre r rs
+    stands_now = ap (λ (l : List Bytes). get_elem? l (length pre)) all ∙ get_elem_seam pre r rs
 
     count_now : step_count b (take (length pre) (records_of job)) ≡ length answers
     count_now = ap (step_count b) so_far ∙ sym before.counted
@@ -365,7 +365,7 @@ module _ (limits : Limits) (job : Bytes) (work space : ℕ) where
       → Good pre earlier list answers → (c : ℕ) → fault (length pre) b limits work space list (length answers) r ≡ suc c → Stops limits job work space (suc c) (length pre)
   why_fault pre earlier list answers r rs short all g c e =
       let t : take (length pre) (records_of job) ≡ pre = ap (take (length pre)) all ∙ take-append_seam pre (r ∷ rs) in
-      at_record short (ap (λ (l : List Bytes). get_elem? l (length pre)) all ∙ getElem_seam pre r rs)
+      at_record short (ap (λ (l : List Bytes). get_elem? l (length pre)) all ∙ get_elem_seam pre r rs)
       (subst₂ (λ (l : Plain) (k : ℕ). fault (length pre) b limits work space l k r ≡ suc c) (g.plain ∙ ap (foldl (feed b) start) (sym t)) (g.counted ∙ ap (step_count b) (sym t)) e)
       g.passed
 
@@ -416,9 +416,9 @@ module _ (limits : Limits) (job : Bytes) (work space : ℕ) where
 
   pub take_next : (m : ℕ) (r : Bytes) → get_elem? (records_of job) m ≡ some r → take (suc m) (records_of job) ≡ take m (records_of job) ++ (r ∷ [])
   take_next m r e =
-      let l = getElem_lt (records_of job) m r e in
+      let l = get_elem_lt (records_of job) m r e in
       take-suc (records_of job) m [] l
-      ∙ ap (λ (x : Bytes). take m (records_of job) ++ (x ∷ [])) (some_inj (get_or (records_of job) m []) r (sym (getElem_of (records_of job) m [] l) ∙ e))
+      ∙ ap (λ (x : Bytes). take m (records_of job) ++ (x ∷ [])) (some_inj (get_or (records_of job) m []) r (sym (get_elem_of (records_of job) m [] l) ∙ e))
 
   -- the list, the earlier steps and their number after one more record
   pub plain_next : (m : ℕ) (r : Bytes) → get_elem? (records_of job) m ≡ some r → plain_after (suc m) job ≡ feed b (plain_after m job) r
@@ -439,7 +439,7 @@ module _ (limits : Limits) (job : Bytes) (work space : ℕ) where
   plain_ind P base next (suc m) l =
       let w = ran.within in
       let r = get_or (records_of job) m [] in
-      let e : get_elem? (records_of job) m ≡ some r = getElem_of (records_of job) m [] (omega arith) in
+      let e : get_elem? (records_of job) m ≡ some r = get_elem_of (records_of job) m [] (omega arith) in
       next m r (omega arith) e (ran.all_passed m r (omega arith) e) (plain_ind P base next m (omega arith))
 
   -- so every term on the list has a sort

@@ -238,18 +238,18 @@ shr_stages_at fill s (y ∷ ys) l i =
 abbrev down : Bool → ℕ → List Bool → List Bool
 down fill k l = drop k (l ++ replicate k fill)
 
-getD_pad : (l : List Bool) (k i : ℕ) (fill : Bool) → get_or (l ++ replicate k fill) i fill ≡ get_or l i fill
-getD_pad [] zero i fill = refl
-getD_pad [] (suc k) zero fill = refl
-getD_pad [] (suc k) (suc i) fill = getD_pad [] k i fill
-getD_pad (x ∷ l) k zero fill = refl
-getD_pad (x ∷ l) k (suc i) fill = getD_pad l k i fill
+get_or_pad : (l : List Bool) (k i : ℕ) (fill : Bool) → get_or (l ++ replicate k fill) i fill ≡ get_or l i fill
+get_or_pad [] zero i fill = refl
+get_or_pad [] (suc k) zero fill = refl
+get_or_pad [] (suc k) (suc i) fill = get_or_pad [] k i fill
+get_or_pad (x ∷ l) k zero fill = refl
+get_or_pad (x ∷ l) k (suc i) fill = get_or_pad l k i fill
 
 shr_stages_value : (fill : Bool) (s : ℕ) (ys l : List Bool) → shr_stages bool_gates fill s ys l ≡ down fill (2 ^ s * to_number ys) l
 shr_stages_value fill s ys l =
     ext_get_or fill (shr_stages bool_gates fill s ys l) (down fill k l)
     (simp (length_shr_stages, length-drop, length-append, length-replicate) (omega arith))
-    (λ i _. shr_stages_at fill s ys l i ∙ sym (get_or-drop k (l ++ replicate k fill) i fill ∙ getD_pad l k (k + i) fill))
+    (λ i _. shr_stages_at fill s ys l i ∙ sym (get_or-drop k (l ++ replicate k fill) i fill ∙ get_or_pad l k (k + i) fill))
   where
     k : ℕ
     k = 2 ^ s * to_number ys

@@ -16,7 +16,7 @@ use Rattle.theory.specs.Answer.{Answer}
 use Rattle.theory.specs.Chain.{Earlier, leaves, unless_dropped, recall_item}
 use Rattle.theory.specs.Job.{answers_to, recall, run}
 use Rattle.theory.specs.Demands.{earlier_after, Kept, Tells, PremisesTold}
-use Rattle.theory.proofs.Basics.{none_some, some_inj, getElem_lt, getElem_old, getElem_seam, snoc_elim}
+use Rattle.theory.proofs.Basics.{none_some, some_inj, get_elem_lt, get_elem_old, get_elem_seam, snoc_elim}
 use Rattle.theory.proofs.Premises.{dropped_not, get_elem_map, left_held}
 use Rattle.theory.proofs.Run.{answers_cases, earlier_next, count_next, plain_ind}
 
@@ -151,7 +151,7 @@ module _ (limits : Limits) (job : Bytes) (work space m : ℕ) (r : Bytes) (e : g
       go : (k p : ℕ) (h : Kept job (suc m) k p) → Dec (h.i ≡ m) → get_elem? (E ++ (leaves ks a ∷ [])) k ≡ some (some p)
       go k p h (no x) =
           let g = t.all k p (less job m r e k p h x) in
-          getElem_old E (leaves ks a ∷ []) k (getElem_lt E k (some p) g) ∙ g
+          get_elem_old E (leaves ks a ∷ []) k (get_elem_lt E k (some p) g) ∙ g
       go k p h (yes x) =
           let s = same_bytes job m r e k p h x in
           let l : h.literals ≡ ks = ap (λ (q : ℕ × List ℕ). q.1) (some_inj (h.rule, h.literals) (n, ks) (sym h.claims ∙ ap (λ (bs : Bytes). claim_of (read b bs)) s ∙ c)) in
@@ -159,7 +159,7 @@ module _ (limits : Limits) (job : Bytes) (work space m : ℕ) (r : Bytes) (e : g
           = same_answer (sym h.answered ∙ ap (λ (i : ℕ). answers_to b (earlier_after i job) (plain_after i job) h.bytes) x ∙ ap (answers_to b E (plain_after m job)) s ∙ w) in
           let z : a.code ≡ 0 = ap (λ (v : Answer). v.code) (sym y) ∙ h.held in
           let i : k ≡ length E = sym h.kth ∙ ap (λ (v : ℕ). step_count b (take v (records_of job))) x ∙ sym t.counted in
-          ap (get_elem? (E ++ (leaves ks a ∷ []))) i ∙ getElem_seam E (leaves ks a) []
+          ap (get_elem? (E ++ (leaves ks a ∷ []))) i ∙ get_elem_seam E (leaves ks a) []
           ∙ ap some (ap (λ (v : Bool). cond v (get_elem? ks 0) none) (eq-eqb a.code 0 z) ∙ ap (λ (js : List ℕ). get_elem? js 0) (sym l) ∙ h.first)
 
   one_new : fault m b limits work space (plain_after m job) (step_count b (take m (records_of job))) r ≡ 0 → is_step (read b r) ≡ true → (a : Answer) × (answers_to b E (plain_after m job) r ≡ a ∷ [])

@@ -26,7 +26,7 @@ use Rattle.theory.specs.Job.{right_depth, answer_to, answers_to, run, answers_af
 use Rattle.theory.specs.Demand.{Demand3}
 use Rattle.theory.specs.Demands.{Demand2}
 use Rattle.theory.specs.Claim.{element, answer_codes}
-use Rattle.theory.proofs.Basics.{none_some, some_inj, getElem_lt}
+use Rattle.theory.proofs.Basics.{none_some, some_inj, get_elem_lt}
 use Rattle.theory.proofs.Blast.{to_from_list}
 use Rattle.theory.proofs.Places.{tree_at}
 use Rattle.theory.proofs.Run.{ran, AnswerOf, to_step, to_chain, answers_cases}
@@ -93,13 +93,13 @@ bytes_length b (a ∷ rest) =
 -- ---- the numbers of an answer are small
 rule_small : (n : ℕ) (rule : Rule) → rule_at n ≡ some rule → n < 65536
 rule_small zero rule e = absurd (none_some rule e)
-rule_small (suc k) rule e = let l : k < length rules = getElem_lt rules k rule e in omega arith
+rule_small (suc k) rule e = let l : k < length rules = get_elem_lt rules k rule e in omega arith
 
 chain_rule_small : (n : ℕ) (rule : ChainRule) → chain_rule_at n ≡ some rule → n < 65536
 chain_rule_small n rule e = go (leb first_chain_rule n) e
   where
     go : (b : Bool) → cond b (get_elem? chain_rules (n - first_chain_rule)) none ≡ some rule → n < 65536
-    go true d = let l : n - first_chain_rule < 3 = getElem_lt chain_rules (n - first_chain_rule) rule d in omega arith
+    go true d = let l : n - first_chain_rule < 3 = get_elem_lt chain_rules (n - first_chain_rule) rule d in omega arith
     go false d = absurd (none_some rule d)
 
 element_below : (b : ℕ) (ks : List ℕ) → T (all_below b ks) → (c : ℕ) → T (element c ks) → c < b

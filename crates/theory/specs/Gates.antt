@@ -5,7 +5,7 @@ use Rattle.theory.specs.Kind.{Op, True, False, Not, And, Or, Xor, Equals, Ite}
 use Rattle.theory.specs.Term.{Term, node, from_list}
 use Rattle.theory.specs.Value.{xor, all_true}
 
--- `all-gate` is an And of any number
+-- `all_gate` is an And of any number
 pub record Gates (A : Type 0) : Type 0 where
   pub true_gate : A
   pub false_gate : A

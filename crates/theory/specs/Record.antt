@@ -16,7 +16,7 @@ abbrev pub AllBytes : Bytes → Type 0
 AllBytes [] = Unit {0}
 AllBytes (b ∷ bs) = (b < 256) × AllBytes bs
 
--- ---- numbers, little_endian
+-- ---- numbers, little-endian
 -- the lowest byte first
 abbrev pub little_endian : Bytes → ℕ
 little_endian [] = 0
@@ -86,7 +86,7 @@ abbrev pub arguments : ℕ → ℕ → Bytes → List ℕ
 arguments b n body = words b ((length body - n) / b) (drop n body)
 
 -- ---- the kinds of a term, by the numbers that stand before the arguments: none, one, two, or a width and an eight-byte value
--- `plain` has none, `indexed` one, `twice-indexed` two, `valued` a width and a value
+-- `plain` has none, `indexed` one, `twice_indexed` two, `valued` a width and a value
 pub data Shape : Type 0 where
   plain : Op → Shape
   indexed : (ℕ → Op) → Shape

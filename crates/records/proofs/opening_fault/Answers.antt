@@ -15,7 +15,7 @@ overflow_add-at c = omega (arith, (stands c.args.job.now c.args.at c.requires).e
 
 pub returns-then-number : goal.returns-then-number
 returns-then-number c = let a = c.args in
-    opening_other a.place (record_at a.job.now a.at) c.if-place-ne0.false (λ e. c.if-number.true (sym ((let kind_is_here : let a = c.args in kind_of (record_at a.job.now a.at) ≡ c.number.result = kind_there (stands c.args.job.now c.args.at c.requires) c.number.ensures.value in kind_is_here)) ∙ e))
+    opening_other a.place (record_at a.job.now a.at) c.if-place-ne0.false (λ e. c.if-number.true (sym (let kind_is_here : let a = c.args in kind_of (record_at a.job.now a.at) ≡ c.number.result = kind_there (stands c.args.job.now c.args.at c.requires) c.number.ensures.value in kind_is_here) ∙ e))
 
 pub returns-then-number-ne-NUMBER_BYTES : goal.returns-then-number-ne-NUMBER_BYTES
 returns-then-number-ne-NUMBER_BYTES c = let low = (stands c.args.job.now c.args.at c.requires).low in

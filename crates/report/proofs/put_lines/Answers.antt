@@ -1,4 +1,3 @@
--- The invariant: what is written, with the lines of the answers that are left, is the whole text.
 use native.Mathlib.Omega.{arith}
 use Prim.Native.Nat.{suc, ◌*◌, ◌≤◌}
 use native.Mathlib.Nat.{mul-le-mul_right}

@@ -1,3 +1,4 @@
+-- The invariant: what is written, with the lines of the answers that are left, is the whole text.
 use Prim.Native.Nat.{◌-◌}
 use Rattle.report.proofs.Lines.{Lines}
 use Rattle.report.proofs.put_lines.Given as goal

@@ -1,4 +1,3 @@
--- The invariant: the first i bytes of the text are copied.
 use native.Mathlib.Omega.{arith}
 use Prim.Native.Nat.{◌≤◌}
 use lib.ListN.{length}

@@ -1,3 +1,4 @@
+-- The invariant: the first i bytes of the text are copied.
 use Prim.Native.Nat.{◌-◌}
 use lib.ListN.{length}
 use Rattle.report.proofs.Writing.{Copied}

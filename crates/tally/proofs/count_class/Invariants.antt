@@ -1,3 +1,4 @@
+-- The invariant: what is counted, with the answers that are left, is the whole count.
 use Prim.Native.Nat.{◌-◌}
 use Rattle.tally.specs.Counted.{in_class}
 use Rattle.tally.proofs.Counting.{Counted}

@@ -12,11 +12,11 @@ pub loop-i-init : goal.loop-i-init
 loop-i-init c = are_start
 
 pub returns-then-not-same_sort : goal.returns-then-not-same_sort
-returns-then-not-same_sort c = are_not c.loop-i.invariant ((let more_here : let a = c.args in c.loop-i.i < length (numbers_of a.job.now a.ops) = let a = c.args in omega (arith, count_length a.job.now a.ops, c.count-end.ensures, c.loop-i-test.true) in more_here)) c.operand_sort-t.ensures
+returns-then-not-same_sort c = are_not c.loop-i.invariant (let more_here : let a = c.args in c.loop-i.i < length (numbers_of a.job.now a.ops) = let a = c.args in omega (arith, count_length a.job.now a.ops, c.count-end.ensures, c.loop-i-test.true) in more_here) c.operand_sort-t.ensures
     (sym c.same_sort.ensures ∙ c.if-not-same_sort.true)
 
 pub loop-i-preserved : goal.loop-i-preserved
-loop-i-preserved c = are_turn c.loop-i.invariant ((let more_here : let a = c.args in c.loop-i.i < length (numbers_of a.job.now a.ops) = let a = c.args in omega (arith, count_length a.job.now a.ops, c.count-end.ensures, c.loop-i-test.true) in more_here)) c.operand_sort-t.ensures
+loop-i-preserved c = are_turn c.loop-i.invariant (let more_here : let a = c.args in c.loop-i.i < length (numbers_of a.job.now a.ops) = let a = c.args in omega (arith, count_length a.job.now a.ops, c.count-end.ensures, c.loop-i-test.true) in more_here) c.operand_sort-t.ensures
     (sym c.same_sort.ensures ∙ c.if-not-same_sort.false)
 
 pub returns : goal.returns

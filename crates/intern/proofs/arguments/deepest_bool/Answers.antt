@@ -19,11 +19,11 @@ pub bool_depth-d-requires : goal.bool_depth-d-requires
 bool_depth-d-requires c = (shelf c.requires.store, (let kept_here : c.operand.result < first_terms + c.args.n = operand_below c.requires c.loop-i.i (search rules) c.operand.ensures in kept_here))
 
 pub returns-then-d : goal.returns-then-d
-returns-then-d c = bools_not c.loop-i.invariant ((let more_here : let a = c.args in c.loop-i.i < length (numbers_of a.job.now a.ops) = let a = c.args in omega (arith, count_length a.job.now a.ops, c.count-end.ensures, c.loop-i-test.true) in more_here)) c.operand.ensures (depth_there c.requires.store ((let kept_here : c.operand.result < first_terms + c.args.n = operand_below c.requires c.loop-i.i (search rules) c.operand.ensures in kept_here))) c.bool_depth-d.ensures c.if-d.true
+returns-then-d c = bools_not c.loop-i.invariant (let more_here : let a = c.args in c.loop-i.i < length (numbers_of a.job.now a.ops) = let a = c.args in omega (arith, count_length a.job.now a.ops, c.count-end.ensures, c.loop-i-test.true) in more_here) c.operand.ensures (depth_there c.requires.store (let kept_here : c.operand.result < first_terms + c.args.n = operand_below c.requires c.loop-i.i (search rules) c.operand.ensures in kept_here)) c.bool_depth-d.ensures c.if-d.true
 
 pub loop-i-preserved : goal.loop-i-preserved
-loop-i-preserved c = bools_turn c.loop-i.invariant ((let more_here : let a = c.args in c.loop-i.i < length (numbers_of a.job.now a.ops) = let a = c.args in omega (arith, count_length a.job.now a.ops, c.count-end.ensures, c.loop-i-test.true) in more_here)) c.operand.ensures (depth_there c.requires.store ((let kept_here : c.operand.result < first_terms + c.args.n = operand_below c.requires c.loop-i.i (search rules) c.operand.ensures in kept_here))) c.bool_depth-d.ensures c.if-d.false
-    ((let larger_here : c.if-most-d.most ≡ max c.loop-i.most c.bool_depth-d.result = elim c.if-most-d.branch [ then-most-d w ↦ omega arith | else-most-d w ↦ omega arith ] in larger_here))
+loop-i-preserved c = bools_turn c.loop-i.invariant (let more_here : let a = c.args in c.loop-i.i < length (numbers_of a.job.now a.ops) = let a = c.args in omega (arith, count_length a.job.now a.ops, c.count-end.ensures, c.loop-i-test.true) in more_here) c.operand.ensures (depth_there c.requires.store (let kept_here : c.operand.result < first_terms + c.args.n = operand_below c.requires c.loop-i.i (search rules) c.operand.ensures in kept_here)) c.bool_depth-d.ensures c.if-d.false
+    (let larger_here : c.if-most-d.most ≡ max c.loop-i.most c.bool_depth-d.result = elim c.if-most-d.branch [ then-most-d w ↦ omega arith | else-most-d w ↦ omega arith ] in larger_here)
 
 pub returns : goal.returns
 returns c = let a = c.args in

@@ -22,7 +22,7 @@ pub fold_arguments-bits-requires : goal.fold_arguments-bits-requires
 fold_arguments-bits-requires c = alike_at c.requires c.argument-first.ensures c.width_at-w.ensures.value
 
 pub compare_bits-requires : goal.compare_bits-requires
-compare_bits-requires c = record { table = (first_of c.requires.alike).store.table; w_le_max_width = c.width_at-w.ensures.bound.1 }
+compare_bits-requires c = record { table = (first_of c.requires.alike).store.table; width = c.width_at-w.ensures.bound.1 }
 
 pub returns : goal.returns
 returns c = let a = c.args in

@@ -20,7 +20,7 @@ get_term_bits-ys-requires c = let p = c.requires in
 
 pub equality-requires : goal.equality-requires
 equality-requires c = let p = c.requires in
-    record { table = search rules; le_w = widths (operand_told p.store p.left c.sort_at.ensures c.in-Bv.is) }
+    record { table = search rules; width = widths (operand_told p.store p.left c.sort_at.ensures c.in-Bv.is) }
 
 pub returns : goal.returns
 returns c = let p = c.requires in

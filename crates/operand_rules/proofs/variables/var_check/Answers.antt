@@ -15,10 +15,10 @@ get_term_bits-bits-requires c = let p = c.requires in
 
 pub compare_bits-requires : goal.compare_bits-requires
 compare_bits-requires c = let p = c.requires in
-    record { table = search rules; w_le_max_width = (widths (operand_told p.store.0 p.store.1 c.sort_at.ensures c.in-Bv.is)).1 }
+    record { table = search rules; width = (widths (operand_told p.store.0 p.store.1 c.sort_at.ensures c.in-Bv.is)).1 }
 
 pub returns : goal.returns
 returns c = let p = c.requires in
     let a = c.args in
     is_bits _ (operand_told p.store.0 p.store.1 c.sort_at.ensures c.in-Bv.is)
-    (bits_end held p.store.0 p.claim_bound (get_term_bits (tree a.job.now a.work.now a.n a.x)) c.get_term_bits-bits.ensures c.compare_bits.ensures)
+    (bits_end held p.store.0 p.claim (get_term_bits (tree a.job.now a.work.now a.n a.x)) c.get_term_bits-bits.ensures c.compare_bits.ensures)

@@ -8,8 +8,8 @@ use Rattle.shift_circuits.proofs.shift.ashr.Goals as goal
 
 pub returns-then-standard : goal.returns-then-standard
 returns-then-standard c = let a = c.args in
-    ashr_whole _ _ _ _ _ _ c.if-standard.true (top_bit a.x a.w 1 c.requires.le_w.0 ((let long_here : c.args.w ≤ length c.args.x = search rules in long_here))) c.shr_stages-shifted.ensures c.bounded.ensures (length-take-le _ _ ((let long_here : c.args.w ≤ length c.args.x = search rules in long_here)))
+    ashr_whole _ _ _ _ _ _ c.if-standard.true (top_bit a.x a.w 1 c.requires.width.0 (let long_here : c.args.w ≤ length c.args.x = search rules in long_here)) c.shr_stages-shifted.ensures c.bounded.ensures (length-take-le _ _ (let long_here : c.args.w ≤ length c.args.x = search rules in long_here))
 
 pub returns-else-standard : goal.returns-else-standard
 returns-else-standard c = let a = c.args in
-    ashr_whole _ _ _ _ _ _ c.if-standard.false (top_bit a.x a.w 1 c.requires.le_w.0 ((let long_here : c.args.w ≤ length c.args.x = search rules in long_here))) c.shr_stages-shifted.ensures c.bounded-else-standard.ensures (length-take-le _ _ ((let long_here : c.args.w ≤ length c.args.x = search rules in long_here)))
+    ashr_whole _ _ _ _ _ _ c.if-standard.false (top_bit a.x a.w 1 c.requires.width.0 (let long_here : c.args.w ≤ length c.args.x = search rules in long_here)) c.shr_stages-shifted.ensures c.bounded-else-standard.ensures (length-take-le _ _ (let long_here : c.args.w ≤ length c.args.x = search rules in long_here))

@@ -50,7 +50,7 @@ returns-then-xs-w-eq-FALSE c = let a = c.args in
     let xs = get_term_bits t in
     let ys = get_term_bits (tree a.job.now a.work.now a.n a.y) in
     let e = c.width_bits-size.ensures ∙ ap (λ (w : ℕ). map (number_in a.job.now a.work.now a.n) (width_bits w)) c.width_at-w.ensures.value in
-    chosen st t c.get_term_bits-xs.result c.width_at-w.result c.width_at-w.ensures.bound.0 ((let long_here : c.width_at-w.result ≤ length c.get_term_bits-xs.result = search rules in long_here)) c.get_term_bits-xs.ensures true
+    chosen st t c.get_term_bits-xs.result c.width_at-w.result c.width_at-w.ensures.bound.0 (let long_here : c.width_at-w.result ≤ length c.get_term_bits-xs.result = search rules in long_here) c.get_term_bits-xs.ensures true
     (bb (ashr term_gates false size xs ys)) (tree a.job.now a.work.now a.n a.claim)
     (eq-eqb _ _ c.if-xs-w-eq-FALSE.true)
     (bits_end held st c.requires.claimed (ashr term_gates false size xs ys)
@@ -65,7 +65,7 @@ returns-else-xs-w-eq-FALSE c = let a = c.args in
     let xs = get_term_bits t in
     let ys = get_term_bits (tree a.job.now a.work.now a.n a.y) in
     let e = c.width_bits-size.ensures ∙ ap (λ (w : ℕ). map (number_in a.job.now a.work.now a.n) (width_bits w)) c.width_at-w.ensures.value in
-    chosen st t c.get_term_bits-xs.result c.width_at-w.result c.width_at-w.ensures.bound.0 ((let long_here : c.width_at-w.result ≤ length c.get_term_bits-xs.result = search rules in long_here)) c.get_term_bits-xs.ensures false
+    chosen st t c.get_term_bits-xs.result c.width_at-w.result c.width_at-w.ensures.bound.0 (let long_here : c.width_at-w.result ≤ length c.get_term_bits-xs.result = search rules in long_here) c.get_term_bits-xs.ensures false
     (bb (ashr term_gates false size xs ys)) (tree a.job.now a.work.now a.n a.claim)
     (ne_eqb _ _ c.if-xs-w-eq-FALSE.false)
     (bits_end form_only st c.requires.claimed (ashr term_gates false size xs ys)

@@ -10,8 +10,8 @@ use Rattle.slice_rules.specs.Given.{a_move}
 use Rattle.slice_rules.proofs.Moving.{moved_numbers}
 use Rattle.slice_rules.proofs.moves.moved_check.Goals as goal
 
-pub moved-bits-requires-clause-w_le_max_width : goal.moved-bits-requires-clause-w_le_max_width
-moved-bits-requires-clause-w_le_max_width c = ((widths c.requires.operand.0).1, c.requires.size_le_max_width.0)
+pub moved-bits-requires-clause-widths : goal.moved-bits-requires-clause-widths
+moved-bits-requires-clause-widths c = ((widths c.requires.operand.0).1, c.requires.sizes.0)
 
 pub returns : goal.returns
 returns c = let a = c.args in

@@ -16,7 +16,7 @@ overflow_mul-size c = let q : c.args.k * c.width_at-w.result ≤ max_width = rw 
 
 pub moved_check-requires : goal.moved_check-requires
 moved_check-requires c = let p = c.requires in let e = c.width_at-w.ensures.value in
-    record { operand = (operand_as p.one.only e, p.one.claimed); size_le_max_width = ((let q = p.fits in rw e q), (omega arith), (omega arith)) }
+    record { operand = (operand_as p.one.only e, p.one.claimed); sizes = ((let q = p.fits in rw e q), (omega arith), (omega arith)) }
 
 pub returns : goal.returns
 returns c = let a = c.args in

@@ -15,7 +15,7 @@ overflow_sub-shift c = le_of_lt (mod-lt c.args.k c.width_at-w.ensures.bound.0)
 
 pub moved_check-requires : goal.moved_check-requires
 moved_check-requires c = let p = c.requires in let e = c.width_at-w.ensures.value in
-    record { operand = (operand_as p.only e, p.claimed); size_le_max_width = (c.width_at-w.ensures.bound.1, (omega arith), (omega arith)) }
+    record { operand = (operand_as p.only e, p.claimed); sizes = (c.width_at-w.ensures.bound.1, (omega arith), (omega arith)) }
 
 pub returns : goal.returns
 returns c = let a = c.args in

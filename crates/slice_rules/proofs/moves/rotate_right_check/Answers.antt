@@ -13,7 +13,7 @@ pub moved_check-requires : goal.moved_check-requires
 moved_check-requires c = let p = c.requires in let e = c.width_at-w.ensures.value in
     let b = c.width_at-w.ensures.bound in
     let m = mod-lt c.args.k b.0 in
-    record { operand = (operand_as p.only e, p.claimed); size_le_max_width = (b.1, le_of_lt (lt_of_lt_of_le m b.1), b.0) }
+    record { operand = (operand_as p.only e, p.claimed); sizes = (b.1, le_of_lt (lt_of_lt_of_le m b.1), b.0) }
 
 pub returns : goal.returns
 returns c = let a = c.args in

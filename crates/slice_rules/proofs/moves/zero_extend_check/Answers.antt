@@ -11,7 +11,7 @@ use Rattle.slice_rules.proofs.moves.zero_extend_check.Goals as goal
 
 pub moved_check-requires : goal.moved_check-requires
 moved_check-requires c = let p = c.requires in let e = c.width_at-w.ensures.value in
-    record { operand = (operand_as p.one.only e, p.one.claimed); size_le_max_width = ((let q = p.fits in omega arith), (omega arith), (omega arith)) }
+    record { operand = (operand_as p.one.only e, p.one.claimed); sizes = ((let q = p.fits in omega arith), (omega arith), (omega arith)) }
 
 pub returns : goal.returns
 returns c = let a = c.args in

@@ -23,11 +23,11 @@ argument-x-requires c = (c.requires.arguments.placed, (let more_here : c.loop-i.
 
 pub width_at-size-requires : goal.width_at-size-requires
 width_at-size-requires c = (let operand_here : let a = c.args in let x = c.argument-x.result in
-    Operand a.job.now a.work.now a.n x (width_in a.job.now a.work.now a.n x) = argument_operand c.requires _ ((let more_here : c.loop-i.i - 1 < c.args.list.count = let a = c.args in omega (arith, c.loop-i.invariant.passed, count_length a.job.now (Listed a.list), c.loop-i-test.true) in more_here)) c.argument-x.ensures in operand_here)
+    Operand a.job.now a.work.now a.n x (width_in a.job.now a.work.now a.n x) = argument_operand c.requires _ (let more_here : c.loop-i.i - 1 < c.args.list.count = let a = c.args in omega (arith, c.loop-i.invariant.passed, count_length a.job.now (Listed a.list), c.loop-i-test.true) in more_here) c.argument-x.ensures in operand_here)
 
 pub get_term_bits-xs-requires : goal.get_term_bits-xs-requires
-get_term_bits-xs-requires c = operand_as ((let operand_here : let a = c.args in let x = c.argument-x.result in
-    Operand a.job.now a.work.now a.n x (width_in a.job.now a.work.now a.n x) = argument_operand c.requires _ ((let more_here : c.loop-i.i - 1 < c.args.list.count = let a = c.args in omega (arith, c.loop-i.invariant.passed, count_length a.job.now (Listed a.list), c.loop-i-test.true) in more_here)) c.argument-x.ensures in operand_here)) c.width_at-size.ensures.value
+get_term_bits-xs-requires c = operand_as (let operand_here : let a = c.args in let x = c.argument-x.result in
+    Operand a.job.now a.work.now a.n x (width_in a.job.now a.work.now a.n x) = argument_operand c.requires _ (let more_here : c.loop-i.i - 1 < c.args.list.count = let a = c.args in omega (arith, c.loop-i.invariant.passed, count_length a.job.now (Listed a.list), c.loop-i-test.true) in more_here) c.argument-x.ensures in operand_here) c.width_at-size.ensures.value
 
 pub put_bits-more-requires : goal.put_bits-more-requires
 put_bits-more-requires c = let r = (let room_here : c.loop-i.w + c.width_at-size.result ≤ 64 = join_fits c.loop-i.invariant c.loop-i-test.true c.argument-x.ensures c.width_at-size.ensures.value c.requires.fits in room_here) in (omega arith, omega arith)
@@ -37,10 +37,10 @@ overflow_add-w c = omega (arith, (let room_here : c.loop-i.w + c.width_at-size.r
 
 pub loop-i-preserved : goal.loop-i-preserved
 loop-i-preserved c = join_turn c.loop-i.invariant c.loop-i-test.true c.argument-x.ensures c.width_at-size.ensures.value
-    c.get_term_bits-xs.result c.get_term_bits-xs.ensures (search rules) ((let room_here : c.loop-i.w + c.width_at-size.result ≤ 64 = join_fits c.loop-i.invariant c.loop-i-test.true c.argument-x.ensures c.width_at-size.ensures.value c.requires.fits in room_here)) c.put_bits-more.ensures
+    c.get_term_bits-xs.result c.get_term_bits-xs.ensures (search rules) (let room_here : c.loop-i.w + c.width_at-size.result ≤ 64 = join_fits c.loop-i.invariant c.loop-i-test.true c.argument-x.ensures c.width_at-size.ensures.value c.requires.fits in room_here) c.put_bits-more.ensures
 
 pub compare_bits-requires : goal.compare_bits-requires
-compare_bits-requires c = record { table = search rules; w_le_max_width = join_small c.loop-i.invariant c.requires.fits }
+compare_bits-requires c = record { table = search rules; width = join_small c.loop-i.invariant c.requires.fits }
 
 pub returns : goal.returns
 returns c = let a = c.args in

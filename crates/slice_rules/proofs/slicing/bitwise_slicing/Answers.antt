@@ -34,7 +34,7 @@ returns-in_default-term_at c = let a = c.args in
 
 pub slices_check-requires : goal.slices_check-requires
 slices_check-requires c = let below = right_below c.term_at.ensures _ _ _ (ap operands_of c.in-Equals.is) c.requires.1 in
-    record { arguments = list_given c.term_at-2.ensures c.requires.0 below _ (ap operands_of c.in-BvConcat.is); a_bound = pair_kept c.and_pair.ensures c.in-Two.is }
+    record { arguments = list_given c.term_at-2.ensures c.requires.0 below _ (ap operands_of c.in-BvConcat.is); sides = pair_kept c.and_pair.ensures c.in-Two.is }
 
 pub returns : goal.returns
 unfolding on_sides

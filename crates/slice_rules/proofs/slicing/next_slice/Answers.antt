@@ -36,6 +36,6 @@ returns c = let a = c.args in
     let k = pair_kept c.and_pair.ensures c.in-Two.is in
     λ next. c.slice_check.ensures next
     ∙ pair_tested c.term_at.ensures c.term_at-2.ensures a.a a.c a.done _ _ _ _ _ _ next c.requires.store.0 (ap op_of c.in-BvExtract.is) d (ap op_of c.in-BvExtract-term_at.is) g
-    c.requires.a_bound.0 c.requires.a_bound.1 (one_below c.term_at.ensures _ _ d k.0) (one_below c.term_at-2.ensures _ _ g k.1)
+    c.requires.sides.0 c.requires.sides.1 (one_below c.term_at.ensures _ _ d k.0) (one_below c.term_at-2.ensures _ _ g k.1)
     ∙ pair_form c.and_pair.ensures c.in-Two.is
     (parts_verdict a.done (tree a.job.now a.work.now a.n a.a) (tree a.job.now a.work.now a.n a.c) next)

@@ -38,9 +38,9 @@ loop-k-preserved c = let i = c.loop-k.invariant in
     let t = c.loop-k-test.true in (
       search rules,
       search rules,
-      sealed_more c.args.bytes c.args.d.now _ _ _ _ ((let room_here : answer_bytes c.args.bytes * suc c.loop-k.k ≤ length c.args.d.now = let less : answer_bytes c.args.bytes * suc c.loop-k.k ≤ answer_bytes c.args.bytes * c.args.n
+      sealed_more c.args.bytes c.args.d.now _ _ _ _ (let room_here : answer_bytes c.args.bytes * suc c.loop-k.k ≤ length c.args.d.now = let less : answer_bytes c.args.bytes * suc c.loop-k.k ≤ answer_bytes c.args.bytes * c.args.n
           = mul-le-mul_left (answer_bytes c.args.bytes) c.loop-k-test.true in
-          omega (arith, c.requires.1) in room_here)) i.2 c.put_number.ensures c.put_number-in-loop-k.ensures,
+          omega (arith, c.requires.1) in room_here) i.2 c.put_number.ensures c.put_number-in-loop-k.ensures,
     )
 
 pub returns : goal.returns

@@ -29,7 +29,7 @@ bucket-j-requires c = (
         let s = c.heads_start-start.result in
         let e = sym c.head_count-c.ensures in
         subst (λ (k : ℕ). s + k * l + 4 ≤ length a.work.now) e
-        (count_room l (length a.work.now) s ((let link_length_here : Length c.link_bytes-link.result = rw c.link_bytes-link.ensures (link_whole c.requires) in link_length_here)).some_bytes (subst (λ (k : ℕ). 0 < k) c.head_count-c.ensures h)) in inside_here) h,
+        (count_room l (length a.work.now) s (let link_length_here : Length c.link_bytes-link.result = rw c.link_bytes-link.ensures (link_whole c.requires) in link_length_here).some_bytes (subst (λ (k : ℕ). 0 < k) c.head_count-c.ensures h)) in inside_here) h,
   ),
 )
 
@@ -49,7 +49,7 @@ overflow_mul-j c = omega (
             let s = c.heads_start-start.result in
             let e = sym c.head_count-c.ensures in
             subst (λ (k : ℕ). s + k * l + 4 ≤ length a.work.now) e
-            (count_room l (length a.work.now) s ((let link_length_here : Length c.link_bytes-link.result = rw c.link_bytes-link.ensures (link_whole c.requires) in link_length_here)).some_bytes (subst (λ (k : ℕ). 0 < k) c.head_count-c.ensures h)) in inside_here) some,
+            (count_room l (length a.work.now) s (let link_length_here : Length c.link_bytes-link.result = rw c.link_bytes-link.ensures (link_whole c.requires) in link_length_here).some_bytes (subst (λ (k : ℕ). 0 < k) c.head_count-c.ensures h)) in inside_here) some,
       ) in held_here),
 )
 
@@ -69,7 +69,7 @@ overflow_add-start c = omega (
             let s = c.heads_start-start.result in
             let e = sym c.head_count-c.ensures in
             subst (λ (k : ℕ). s + k * l + 4 ≤ length a.work.now) e
-            (count_room l (length a.work.now) s ((let link_length_here : Length c.link_bytes-link.result = rw c.link_bytes-link.ensures (link_whole c.requires) in link_length_here)).some_bytes (subst (λ (k : ℕ). 0 < k) c.head_count-c.ensures h)) in inside_here) some,
+            (count_room l (length a.work.now) s (let link_length_here : Length c.link_bytes-link.result = rw c.link_bytes-link.ensures (link_whole c.requires) in link_length_here).some_bytes (subst (λ (k : ℕ). 0 < k) c.head_count-c.ensures h)) in inside_here) some,
       ) in held_here),
 )
 
@@ -88,9 +88,9 @@ number-requires c = (
             let s = c.heads_start-start.result in
             let e = sym c.head_count-c.ensures in
             subst (λ (k : ℕ). s + k * l + 4 ≤ length a.work.now) e
-            (count_room l (length a.work.now) s ((let link_length_here : Length c.link_bytes-link.result = rw c.link_bytes-link.ensures (link_whole c.requires) in link_length_here)).some_bytes (subst (λ (k : ℕ). 0 < k) c.head_count-c.ensures h)) in inside_here) some,
+            (count_room l (length a.work.now) s (let link_length_here : Length c.link_bytes-link.result = rw c.link_bytes-link.ensures (link_whole c.requires) in link_length_here).some_bytes (subst (λ (k : ℕ). 0 < k) c.head_count-c.ensures h)) in inside_here) some,
       ) in held_here),
-  ((let link_length_here : Length c.link_bytes-link.result = rw c.link_bytes-link.ensures (link_whole c.requires) in link_length_here)).few_bytes,
+  (let link_length_here : Length c.link_bytes-link.result = rw c.link_bytes-link.ensures (link_whole c.requires) in link_length_here).few_bytes,
 )
 
 pub returns : goal.returns

@@ -21,11 +21,11 @@ pub number-requires : goal.number-requires
 number-requires c = (omega (arith, (let inside_here : c.offset_as-at.result + extent (drop c.offset_as-at.result c.args.job.now) ≤ length c.args.job.now = seek_inside c.rows.invariant c.if-held-eq0.false c.offset_as-at.ensures.value in inside_here)), omega arith)
 
 pub rows-smaller-then-number-wanted : goal.rows-smaller-then-number-wanted
-rows-smaller-then-number-wanted c = (let falls_here : c.link_at-held.result < c.rows.held = seek_falls c.rows.invariant c.if-held-eq0.false c.link_at-held.ensures.value in falls_here)
+rows-smaller-then-number-wanted c = seek_falls c.rows.invariant c.if-held-eq0.false c.link_at-held.ensures.value
 
 pub rows-preserved-then-number-wanted : goal.rows-preserved-then-number-wanted
 rows-preserved-then-number-wanted c = seek_next c.rows.invariant c.if-held-eq0.false c.offset_as-at.ensures.value c.link_at-held.ensures.value
-    (record_long _ _ _ ((let inside_here : c.offset_as-at.result + extent (drop c.offset_as-at.result c.args.job.now) ≤ length c.args.job.now = seek_inside c.rows.invariant c.if-held-eq0.false c.offset_as-at.ensures.value in inside_here)) (λ e. c.if-number-wanted.true (omega (arith, c.number.ensures.value, e))))
+    (record_long _ _ _ (let inside_here : c.offset_as-at.result + extent (drop c.offset_as-at.result c.args.job.now) ≤ length c.args.job.now = seek_inside c.rows.invariant c.if-held-eq0.false c.offset_as-at.ensures.value in inside_here) (λ e. c.if-number-wanted.true (omega (arith, c.number.ensures.value, e))))
 
 pub loop-left-init : goal.loop-left-init
 loop-left-init c = agree_start _ _ _
@@ -34,11 +34,11 @@ pub bounds-job-at : goal.bounds-job-at
 bounds-job-at c = omega (arith, (let inside_here : c.offset_as-at.result + extent (drop c.offset_as-at.result c.args.job.now) ≤ length c.args.job.now = seek_inside c.rows.invariant c.if-held-eq0.false c.offset_as-at.ensures.value in inside_here), (let long_here : length c.args.wanted.now ≡ extent (drop c.offset_as-at.result c.args.job.now) = omega (arith, c.number.ensures.value, c.if-number-wanted.false) in long_here))
 
 pub rows-smaller : goal.rows-smaller
-rows-smaller c = (let falls_here : c.link_at-held.result < c.rows.held = seek_falls c.rows.invariant c.if-held-eq0.false c.link_at-held.ensures.value in falls_here)
+rows-smaller c = seek_falls c.rows.invariant c.if-held-eq0.false c.link_at-held.ensures.value
 
 pub rows-preserved : goal.rows-preserved
 rows-preserved c = seek_next c.rows.invariant c.if-held-eq0.false c.offset_as-at.ensures.value c.link_at-held.ensures.value
-    (record_other _ c.args.wanted.now _ ((let inside_here : c.offset_as-at.result + extent (drop c.offset_as-at.result c.args.job.now) ≤ length c.args.job.now = seek_inside c.rows.invariant c.if-held-eq0.false c.offset_as-at.ensures.value in inside_here)) (c.loop-left.left - 1) (omega arith) ((let long_here : length c.args.wanted.now ≡ extent (drop c.offset_as-at.result c.args.job.now) = omega (arith, c.number.ensures.value, c.if-number-wanted.false) in long_here)) c.if-job-at.true)
+    (record_other _ c.args.wanted.now _ (let inside_here : c.offset_as-at.result + extent (drop c.offset_as-at.result c.args.job.now) ≤ length c.args.job.now = seek_inside c.rows.invariant c.if-held-eq0.false c.offset_as-at.ensures.value in inside_here) (c.loop-left.left - 1) (omega arith) (let long_here : length c.args.wanted.now ≡ extent (drop c.offset_as-at.result c.args.job.now) = omega (arith, c.number.ensures.value, c.if-number-wanted.false) in long_here) c.if-job-at.true)
 
 pub loop-left-preserved : goal.loop-left-preserved
 loop-left-preserved c = agree_turn c.loop-left.invariant c.if-job-at.false
@@ -54,4 +54,4 @@ returns-then-held-eq0 c = sym (seek_none c.rows.invariant c.if-held-eq0.true)
 
 pub returns-after-loop-left : goal.returns-after-loop-left
 returns-after-loop-left c = seek_found c.rows.invariant c.if-held-eq0.false c.offset_as-at.ensures.value
-    (record_equal _ _ _ ((let inside_here : c.offset_as-at.result + extent (drop c.offset_as-at.result c.args.job.now) ≤ length c.args.job.now = seek_inside c.rows.invariant c.if-held-eq0.false c.offset_as-at.ensures.value in inside_here)) ((let long_here : length c.args.wanted.now ≡ extent (drop c.offset_as-at.result c.args.job.now) = omega (arith, c.number.ensures.value, c.if-number-wanted.false) in long_here)) (λ k b. c.loop-left.invariant.bytes k (omega arith) b))
+    (record_equal _ _ _ (let inside_here : c.offset_as-at.result + extent (drop c.offset_as-at.result c.args.job.now) ≤ length c.args.job.now = seek_inside c.rows.invariant c.if-held-eq0.false c.offset_as-at.ensures.value in inside_here) (let long_here : length c.args.wanted.now ≡ extent (drop c.offset_as-at.result c.args.job.now) = omega (arith, c.number.ensures.value, c.if-number-wanted.false) in long_here) (λ k b. c.loop-left.invariant.bytes k (omega arith) b))

@@ -37,9 +37,9 @@ shape_of-key-then-limit-x c = (let same_here : length c.loop-i.key ≡ length c.
 pub returns-then-limit-x : goal.returns-then-limit-x
 returns-then-limit-x c = let a = c.args in
     built_none c.loop-i.i c.loop-i-test.true
-    (subst (λ (m : ℕ). m ≤ get_or a.args.now c.loop-i.i 0) c.last_number-limit.ensures c.if-limit-x.true) ((let same_here : length c.loop-i.key ≡ length c.args.key.now = let r = c.requires.1.room in
+    (subst (λ (m : ℕ). m ≤ get_or a.args.now c.loop-i.i 0) c.last_number-limit.ensures c.if-limit-x.true) (let same_here : length c.loop-i.key ≡ length c.args.key.now = let r = c.requires.1.room in
     c.loop-i.invariant.0.written.long
-    ∙ (written_more (written_more (written_none c.args.key.now) 2 _ (omega arith) c.put_number.ensures) 2 _ (omega arith) c.put_number-2.ensures).long in same_here))
+    ∙ (written_more (written_more (written_none c.args.key.now) 2 _ (omega arith) c.put_number.ensures) 2 _ (omega arith) c.put_number-2.ensures).long in same_here)
 
 pub put_number-requires-in-loop-i : goal.put_number-requires-in-loop-i
 put_number-requires-in-loop-i c = let r = room_for_words (suc c.loop-i.i) c.loop-i.invariant.1 c.loop-i-test.true in
@@ -65,6 +65,6 @@ shape_of-key c = (let same_here : length c.loop-i.key ≡ length c.args.key.now 
     ∙ (written_more (written_more (written_none c.args.key.now) 2 _ (omega arith) c.put_number.ensures) 2 _ (omega arith) c.put_number-2.ensures).long in same_here)
 
 pub returns : goal.returns
-returns c = built_all c.loop-i.invariant.0 c.loop-i-test.false ((let same_here : length c.loop-i.key ≡ length c.args.key.now = let r = c.requires.1.room in
+returns c = built_all c.loop-i.invariant.0 c.loop-i-test.false (let same_here : length c.loop-i.key ≡ length c.args.key.now = let r = c.requires.1.room in
     c.loop-i.invariant.0.written.long
-    ∙ (written_more (written_more (written_none c.args.key.now) 2 _ (omega arith) c.put_number.ensures) 2 _ (omega arith) c.put_number-2.ensures).long in same_here))
+    ∙ (written_more (written_more (written_none c.args.key.now) 2 _ (omega arith) c.put_number.ensures) 2 _ (omega arith) c.put_number-2.ensures).long in same_here)

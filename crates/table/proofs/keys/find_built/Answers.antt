@@ -20,7 +20,7 @@ pub returns-then-end-eq0 : goal.returns-then-end-eq0
 returns-then-end-eq0 c = built_missing c.build_key-end.ensures c.if-end-eq0.true _
 
 pub slice_bounds-first_of-end : goal.slice_bounds-first_of-end
-slice_bounds-first_of-end c = (let inside_here : c.build_key-end.result ≤ length c.build_key-end.new.key = omega (arith, built_inside c.build_key-end.ensures c.requires.1, c.build_key-end.ensures.long) in inside_here)
+slice_bounds-first_of-end c = omega (arith, built_inside c.build_key-end.ensures c.requires.1, c.build_key-end.ensures.long)
 
 pub first_of-first-requires : goal.first_of-first-requires
 first_of-first-requires c = link_back c.requires.0.rows.link_length
@@ -35,7 +35,7 @@ pub slice_bounds-first_of-end-2 : goal.slice_bounds-first_of-end-2
 slice_bounds-first_of-end-2 c = sym (length-take-le _ _ (let inside : c.build_key-end.result ≤ length c.build_key-end.new.key = omega (arith, built_inside c.build_key-end.ensures c.requires.1, c.build_key-end.ensures.long) in inside))
 
 pub slice_bounds-walk-end : goal.slice_bounds-walk-end
-slice_bounds-walk-end c = (let inside : c.build_key-end.result ≤ length c.build_key-end.new.key = omega (arith, built_inside c.build_key-end.ensures c.requires.1, c.build_key-end.ensures.long) in inside)
+slice_bounds-walk-end c = omega (arith, built_inside c.build_key-end.ensures c.requires.1, c.build_key-end.ensures.long)
 
 pub slice_bounds-walk-end-2 : goal.slice_bounds-walk-end-2
 slice_bounds-walk-end-2 c = sym (length-take-le _ _ (let inside : c.build_key-end.result ≤ length c.build_key-end.new.key = omega (arith, built_inside c.build_key-end.ensures c.requires.1, c.build_key-end.ensures.long) in inside))

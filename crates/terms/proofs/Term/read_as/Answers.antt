@@ -6,25 +6,25 @@ use Rattle.terms.proofs.Reading.{stands, kind_there, body_there, read_as_step, r
 use Rattle.terms.proofs.Term.read_as.Goals as goal
 
 pub overflow_sub-size : goal.overflow_sub-size
-overflow_sub-size c = omega (arith, ((stands c.args.job.now c.args.at c.requires.0)).low, c.number.ensures.value)
+overflow_sub-size c = omega (arith, (stands c.args.job.now c.args.at c.requires.0).low, c.number.ensures.value)
 
 pub overflow_add-at : goal.overflow_add-at
-overflow_add-at c = omega (arith, ((stands c.args.job.now c.args.at c.requires.0)).end)
+overflow_add-at c = omega (arith, (stands c.args.job.now c.args.at c.requires.0).end)
 
 pub overflow_add-body : goal.overflow_add-body
-overflow_add-body c = omega (arith, ((stands c.args.job.now c.args.at c.requires.0)).low, ((stands c.args.job.now c.args.at c.requires.0)).end)
+overflow_add-body c = omega (arith, (stands c.args.job.now c.args.at c.requires.0).low, (stands c.args.job.now c.args.at c.requires.0).end)
 
 pub read_step-requires : goal.read_step-requires
-read_step-requires c = (omega (arith, ((stands c.args.job.now c.args.at c.requires.0)).low, ((stands c.args.job.now c.args.at c.requires.0)).end, c.number.ensures.value), c.requires.1)
+read_step-requires c = (omega (arith, (stands c.args.job.now c.args.at c.requires.0).low, (stands c.args.job.now c.args.at c.requires.0).end, c.number.ensures.value), c.requires.1)
 
 pub read_back-requires : goal.read_back-requires
-read_back-requires c = (omega (arith, ((stands c.args.job.now c.args.at c.requires.0)).low, ((stands c.args.job.now c.args.at c.requires.0)).end, c.number.ensures.value), c.requires.1)
+read_back-requires c = (omega (arith, (stands c.args.job.now c.args.at c.requires.0).low, (stands c.args.job.now c.args.at c.requires.0).end, c.number.ensures.value), c.requires.1)
 
 pub read_chain-requires : goal.read_chain-requires
-read_chain-requires c = (omega (arith, ((stands c.args.job.now c.args.at c.requires.0)).low, ((stands c.args.job.now c.args.at c.requires.0)).end, c.number.ensures.value), c.requires.1)
+read_chain-requires c = (omega (arith, (stands c.args.job.now c.args.at c.requires.0).low, (stands c.args.job.now c.args.at c.requires.0).end, c.number.ensures.value), c.requires.1)
 
 pub read_term-requires : goal.read_term-requires
-read_term-requires c = (omega (arith, ((stands c.args.job.now c.args.at c.requires.0)).low, ((stands c.args.job.now c.args.at c.requires.0)).end, c.number.ensures.value), c.requires.1)
+read_term-requires c = (omega (arith, (stands c.args.job.now c.args.at c.requires.0).low, (stands c.args.job.now c.args.at c.requires.0).end, c.number.ensures.value), c.requires.1)
 
 pub returns-in-100 : goal.returns-in-100
 returns-in-100 c = let a = c.args in let s = (stands c.args.job.now c.args.at c.requires.0) in let e = c.read_step.ensures in

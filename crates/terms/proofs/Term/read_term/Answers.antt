@@ -14,9 +14,9 @@ returns-in_default c = let a = c.args in
 pub returns-then-not-fits : goal.returns-then-not-fits
 returns-then-not-fits c = let a = c.args in
     record {
-      says = term_misfit a.bytes (shape_of a.kind) (part a.job.now a.body a.size) ((sym c.in-Known.is ∙ c.form.ensures)) (sym ((let a = c.args in
+      says = term_misfit a.bytes (shape_of a.kind) (part a.job.now a.body a.size) (sym c.in-Known.is ∙ c.form.ensures) (sym (let a = c.args in
           c.fits.ensures
-          ∙ test_of a.bytes (shape_of a.kind) (steady_of a.kind) _ (length_part a.job.now a.body a.size c.requires.0) ((sym c.in-Known.is ∙ c.form.ensures)))) ∙ c.if-not-fits.true);
+          ∙ test_of a.bytes (shape_of a.kind) (steady_of a.kind) _ (length_part a.job.now a.body a.size c.requires.0) (sym c.in-Known.is ∙ c.form.ensures)) ∙ c.if-not-fits.true);
       placed = tt;
     }
 
@@ -25,10 +25,10 @@ core_term-requires c = let p = c.requires in (
   record {
     length_b = p.1;
     end = p.0;
-    fit = sym ((let a = c.args in
+    fit = sym (let a = c.args in
         c.fits.ensures
-        ∙ test_of a.bytes (shape_of a.kind) (steady_of a.kind) _ (length_part a.job.now a.body a.size c.requires.0) ((sym c.in-Known.is ∙ c.form.ensures)))) ∙ c.if-not-fits.false;
-    front_is = known_front (shape_of _) ((sym c.in-Known.is ∙ c.form.ensures));
+        ∙ test_of a.bytes (shape_of a.kind) (steady_of a.kind) _ (length_part a.job.now a.body a.size c.requires.0) (sym c.in-Known.is ∙ c.form.ensures)) ∙ c.if-not-fits.false;
+    front_is = known_front (shape_of _) (sym c.in-Known.is ∙ c.form.ensures);
   },
   search rules,
 )
@@ -38,10 +38,10 @@ bv_term-requires c = let p = c.requires in (
   record {
     length_b = p.1;
     end = p.0;
-    fit = sym ((let a = c.args in
+    fit = sym (let a = c.args in
         c.fits.ensures
-        ∙ test_of a.bytes (shape_of a.kind) (steady_of a.kind) _ (length_part a.job.now a.body a.size c.requires.0) ((sym c.in-Known.is ∙ c.form.ensures)))) ∙ c.if-not-fits.false;
-    front_is = known_front (shape_of _) ((sym c.in-Known.is ∙ c.form.ensures));
+        ∙ test_of a.bytes (shape_of a.kind) (steady_of a.kind) _ (length_part a.job.now a.body a.size c.requires.0) (sym c.in-Known.is ∙ c.form.ensures)) ∙ c.if-not-fits.false;
+    front_is = known_front (shape_of _) (sym c.in-Known.is ∙ c.form.ensures);
   },
   search rules,
 )
@@ -49,17 +49,17 @@ bv_term-requires c = let p = c.requires in (
 pub returns-then-kind-lt40 : goal.returns-then-kind-lt40
 returns-then-kind-lt40 c = let a = c.args in let e = c.core_term.ensures in
     record {
-      says = e.says ∙ term_fits a.bytes (shape_of a.kind) (part a.job.now a.body a.size) (sym ((let a = c.args in
+      says = e.says ∙ term_fits a.bytes (shape_of a.kind) (part a.job.now a.body a.size) (sym (let a = c.args in
           c.fits.ensures
-          ∙ test_of a.bytes (shape_of a.kind) (steady_of a.kind) _ (length_part a.job.now a.body a.size c.requires.0) ((sym c.in-Known.is ∙ c.form.ensures)))) ∙ c.if-not-fits.false);
+          ∙ test_of a.bytes (shape_of a.kind) (steady_of a.kind) _ (length_part a.job.now a.body a.size c.requires.0) (sym c.in-Known.is ∙ c.form.ensures)) ∙ c.if-not-fits.false);
       placed = e.placed;
     }
 
 pub returns-else-kind-lt40 : goal.returns-else-kind-lt40
 returns-else-kind-lt40 c = let a = c.args in let e = c.bv_term.ensures in
     record {
-      says = e.says ∙ term_fits a.bytes (shape_of a.kind) (part a.job.now a.body a.size) (sym ((let a = c.args in
+      says = e.says ∙ term_fits a.bytes (shape_of a.kind) (part a.job.now a.body a.size) (sym (let a = c.args in
           c.fits.ensures
-          ∙ test_of a.bytes (shape_of a.kind) (steady_of a.kind) _ (length_part a.job.now a.body a.size c.requires.0) ((sym c.in-Known.is ∙ c.form.ensures)))) ∙ c.if-not-fits.false);
+          ∙ test_of a.bytes (shape_of a.kind) (steady_of a.kind) _ (length_part a.job.now a.body a.size c.requires.0) (sym c.in-Known.is ∙ c.form.ensures)) ∙ c.if-not-fits.false);
       placed = e.placed;
     }
