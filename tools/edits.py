@@ -1,8 +1,8 @@
 #!/usr/bin/env python3
 """The must-fail edits that make functions wrong: each function that one names is refused for an error of its own.
 
-A line `wrong: MODULE::FUNCTION: WHAT` in crates/NAME/must-fail/LABEL.edit, or the same behind `# `, says that the edit makes this function wrong. A function
-is proved against what its callees promise, so one edit makes many functions wrong at once, and the prover reports each at its own proof.
+A line `# wrong: MODULE::FUNCTION: WHAT` in crates/NAME/must-fail/LABEL.edit says that the edit makes this function wrong. A function is proved against
+what its callees promise, so one edit makes many functions wrong at once, and the prover reports each at its own proof.
 
   edits.py fits [NAME..]        in a second: each text that an edit changes stands in its file once; each public function is named by two edits; of all crates,
                                 or of those named
@@ -10,9 +10,10 @@ is proved against what its callees promise, so one edit makes many functions wro
                                 refused, or where its first error says only that a proof no longer fits the text; where an edit of src/ names no function;
                                 where a public function is named by fewer than two edits
   edits.py try [NAME..]         checks each edit in a copy of the crates, as `rt must-fail` does, and reads all that is said: exit status 1 also where a function
-                                that an edit names has no error of its own, or where its first one says only that the proof no longer fits the text
+                                that an edit names has no error of its own, or none but that the proof no longer fits the text
+  edits.py try --several [NAME..]   the same of the edits that name several functions, of whose errors a log has one
   edits.py list [NAME..]        how many edits name each public function"""
-import collections, glob, os, re, shutil, subprocess, sys, tempfile
+import collections, concurrent.futures, contextlib, glob, itertools, os, queue, re, shutil, subprocess, sys, tempfile
 
 ROOT = os.path.normpath(os.path.join(os.path.dirname(os.path.abspath(__file__)), '..'))
 # An error that follows from another one.
@@ -29,8 +30,8 @@ def read(path):
 
 
 def wrong_lines(path):
-    """(function, what is wrong in it) for each `wrong:` line of an edit."""
-    return re.findall(r'^(?:# )?wrong: (\S+): (.+)$', read(path), re.M)
+    """(function, what is wrong in it) for each `# wrong:` line of an edit."""
+    return re.findall(r'^# wrong: (\S+): (.+)$', read(path), re.M)
 
 
 def edits():
@@ -57,26 +58,33 @@ def first_in_log(log, crate, label):
     return found.group(1) if found else None
 
 
+def folder_of(function):
+    """A pattern for the folder of a function's proof; that of functions that call themselves, or each other, has their names after a +."""
+    *module, name = function.split('::')
+    return '/'.join(['proofs'] + module) + r'/(?:%s|\+(?:\w+_)?%s(?:_\w+)?)' % (name, name)
+
+
 def faults_in_log(log, crate, label, path):
     """What is wrong with one edit, by the one line that rt says of it."""
-    if not wrong_lines(path) and re.search(r'^file: src/', read(path), re.M):
+    functions = {function for function, _ in wrong_lines(path)}
+    if not functions and re.search(r'^file: src/', read(path), re.M):
         return ['it edits src/ and names no function']
     said = first_in_log(log, crate, label)
     if said is None:
         return ['it was not tried: run rt must-fail ' + crate]
     if not said.startswith(REFUSED):
         return [said[:200]]
-    if 'only because a proof file names' in said or UNFIT.search(said):
+    if 'only because a proof file names' in said or 'only by a limit' in said or UNFIT.search(said):
         return ['its first error shows nothing: ' + said[len(REFUSED):][:200].lstrip(': ')]
+    place = re.match(r': \S*?(proofs/\S+)/\w+\.antt:', said[len(REFUSED):])
+    if len(functions) == 1 and place and not re.fullmatch(folder_of(*functions), place.group(1)):
+        return ['its first error is in another function\'s proof: ' + place.group(1)]
     return []
 
 
 def own_errors(said, crate, function):
     """What a check says of the function's own proof: the errors in its proof files, or the goals that no search closed."""
-    *module, name = function.split('::')
-    # the proof of functions that call themselves, or each other, stands in a folder of their names, each after a +
-    folder = '/'.join(['proofs'] + module) + r'/(?:%s|(?:\+\w+)*\+%s(?:\+\w+)*)' % (name, name)
-    found = re.findall(r'^\S*/%s/\w+\.antt:\d+:\d+: error: (.*(?:\n  .*)*)' % folder, said, re.M)
+    found = re.findall(r'^\S*/%s/\w+\.antt:\d+:\d+: error: (.*(?:\n  .*)*)' % folder_of(function), said, re.M)
     return found or re.findall(r'^fn %s::%s: no proof: .*(`search` did not prove .*)$' % (re.escape(crate), re.escape(function)), said, re.M)
 
 
@@ -98,11 +106,13 @@ def faults_of(said, crate, path):
         return ['its first error shows nothing: ' + error[:200]] if error == 'none' or UNFIT.search(error) else []
     faults = ['its own text has an error: ' + error[:200] for error in re.findall(r'^\S*(?:^|/)src/\S+: error.*', said, re.M)]
     for function in functions:
+        # an edit that takes a variable away takes the goals away that are named after it: as rt does, go on to the first error that is another
         own = own_errors(said, crate, function)
+        first = next((error for error in own if not UNFIT.search(error.split('\n')[0])), None)
         if not own:
             faults.append('%s has no error of its own' % function)
-        elif UNFIT.search(own[0].split('\n')[0]):
-            faults.append('the first error of %s shows nothing: %s' % (function, own[0].split('\n')[0][:200]))
+        elif not first:
+            faults.append('no error of %s shows anything: %s' % (function, own[0].split('\n')[0][:200]))
     return faults
 
 
@@ -123,31 +133,54 @@ def applied(crate, path):
     return texts, faults
 
 
+def room_of(folder):
+    """A copy of the crates in which edits are checked."""
+    for name in ('crates.txt', 'HANDLES'):
+        if os.path.exists(os.path.join(ROOT, name)):
+            shutil.copy(os.path.join(ROOT, name), folder)
+    for part in glob.glob(os.path.join(ROOT, 'crates', '*', '*')):
+        if os.path.basename(part) in ('src', 'specs', 'proofs'):
+            shutil.copytree(part, os.path.join(folder, os.path.relpath(part, ROOT)))
+
+
+def tried_in(room, crate, path):
+    """What is wrong with one edit, by a check of it in a room, which is then as it was."""
+    folder = os.path.join(room, 'crates', crate)
+    texts, faults = applied(crate, path)
+    for place, text in texts.items():
+        with open(os.path.join(folder, place), 'w', encoding='utf-8') as f:
+            f.write(text)
+    done = subprocess.run(['rt', 'check'], cwd=folder, stdin=subprocess.DEVNULL, stdout=subprocess.PIPE, stderr=subprocess.STDOUT, errors='replace')
+    if done.returncode == 0:
+        faults.append('it is not refused')
+    for place in texts:
+        shutil.copy(os.path.join(ROOT, 'crates', crate, place), os.path.join(folder, place))
+    return faults or faults_of(done.stdout, crate, path)
+
+
 def tried(chosen):
-    """(crate, label, faults) of each edit, by a check of it in a copy of the crates."""
-    with tempfile.TemporaryDirectory() as room:
-        for name in ('crates.txt', 'HANDLES'):
-            if os.path.exists(os.path.join(ROOT, name)):
-                shutil.copy(os.path.join(ROOT, name), room)
-        for part in glob.glob(os.path.join(ROOT, 'crates', '*', '*')):
-            if os.path.basename(part) in ('src', 'specs', 'proofs'):
-                shutil.copytree(part, os.path.join(room, os.path.relpath(part, ROOT)))
-        for crate, label, path in chosen:
-            folder = os.path.join(room, 'crates', crate)
-            texts, faults = applied(crate, path)
-            for place, text in texts.items():
-                with open(os.path.join(folder, place), 'w', encoding='utf-8') as f:
-                    f.write(text)
-            done = subprocess.run(['rt', 'check'], cwd=folder, stdin=subprocess.DEVNULL, stdout=subprocess.PIPE, stderr=subprocess.STDOUT, errors='replace')
-            if done.returncode == 0:
-                faults.append('it is not refused')
-            yield crate, label, faults or faults_of(done.stdout, crate, path)
-            for place in texts:
-                shutil.copy(os.path.join(ROOT, 'crates', crate, place), os.path.join(folder, place))
+    """(crate, label, faults) of each edit, by checks in as many rooms as there are processors; a crate's edits are all checked in one."""
+    crates = queue.SimpleQueue()
+    for _, group in itertools.groupby(chosen, key=lambda edit: edit[0]):
+        crates.put(list(group))
+
+    def worker():
+        found = []
+        with tempfile.TemporaryDirectory() as room, contextlib.suppress(queue.Empty):
+            room_of(room)
+            while True:
+                found += [(crate, label, tried_in(room, crate, path)) for crate, label, path in crates.get_nowait()]
+        return found
+
+    with concurrent.futures.ThreadPoolExecutor() as pool:
+        for done in [pool.submit(worker) for _ in range(os.cpu_count() or 1)]:
+            yield from done.result()
 
 
 def main(verb, words):
     log = read(words.pop(0)) if verb == 'check' else ''
+    is_several = verb == 'try' and words[:1] == ['--several']
+    words = words[is_several:]
     chosen = [e for e in edits() if not words or e[0] in words]
     named = collections.Counter((crate, f) for crate, _, path in chosen for f in {function for function, _ in wrong_lines(path)})
     public = [p for p in public_functions() if not words or p[0] in words]
@@ -158,11 +191,11 @@ def main(verb, words):
         print('%d public functions, %d of them made wrong by fewer than two edits' % (len(public), len(few)))
         return 0
     if verb == 'try':
-        found = tried(chosen)
+        found = tried([e for e in chosen if not is_several or 1 < len({function for function, _ in wrong_lines(e[2])})])
     else:
         found = ((crate, label, faults_in_log(log, crate, label, path) if verb == 'check' else applied(crate, path)[1]) for crate, label, path in chosen)
     count = 0
-    for fault in [*('%s/%s: %s' % (crate, label, fault) for crate, label, faults in found for fault in faults), *few]:
+    for fault in itertools.chain(('%s/%s: %s' % (crate, label, fault) for crate, label, faults in found for fault in faults), few):
         count += 1
         print(fault, flush=True)
     print('%d edits, %d wrong answers of %d functions, %d of them public: %d faults' % (len(chosen), sum(named.values()), len(named), len(public), count))
