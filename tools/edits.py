@@ -12,8 +12,9 @@ what its callees promise, so one edit makes many functions wrong at once, and th
   edits.py try [NAME..]         checks each edit in a copy of the crates, as `rt must-fail` does, and reads all that is said: exit status 1 also where a function
                                 that an edit names has no error of its own, or none but that the proof no longer fits the text
   edits.py try --several [NAME..]   the same of the edits that name several functions, of whose errors a log has one
+                                What was tried without a fault is kept on this machine, by the checksums of all that was read, and not tried again
   edits.py list [NAME..]        how many edits name each public function"""
-import collections, concurrent.futures, contextlib, glob, itertools, os, queue, re, shutil, subprocess, sys, tempfile
+import collections, concurrent.futures, contextlib, glob, hashlib, itertools, os, queue, re, shutil, subprocess, sys, tempfile
 
 ROOT = os.path.normpath(os.path.join(os.path.dirname(os.path.abspath(__file__)), '..'))
 # An error that follows from another one.
@@ -22,6 +23,8 @@ FOLLOWS = re.compile(r'was not admitted|was rejected|was not checked|cannot be c
 # scope, or what follows from another error.
 UNFIT = re.compile(r'can be named from here|not in scope|out of scope|unknown name|is no name|has no field|has no `|binders, but its type|' + FOLLOWS.pattern)
 REFUSED = 'refused, as it must be'
+# Where the checksums of the edits that were tried without a fault are kept on a machine.
+KEPT = os.path.join(os.environ.get('XDG_CACHE_HOME') or os.path.expanduser('~/.cache'), 'kigbuleja', 'edits')
 
 
 def read(path):
@@ -158,10 +161,39 @@ def tried_in(room, crate, path):
     return faults or faults_of(done.stdout, crate, path)
 
 
+def crates_below():
+    """Each crate with those that it stands on, by crates.txt."""
+    direct = {}
+    for line in read(os.path.join(ROOT, 'crates.txt')).split('\n'):
+        name, colon, below = line.split('#')[0].partition(':')
+        if colon:
+            direct[name.split()[0]] = below.split()
+
+    def all_of(crate):
+        return {crate}.union(*(all_of(one) for one in direct[crate] if one in direct))
+
+    return {crate: sorted(all_of(crate)) for crate in direct}
+
+
+def checksums(chosen):
+    """For each edit by its path the checksum of all that its check reads: the kit, this script, the edit, and the sources of its crate and those below."""
+    below, sums = crates_below(), {}
+    kit = subprocess.run(['rt', 'version'], stdout=subprocess.PIPE).stdout + read(os.path.abspath(__file__)).encode()
+    for crate in below:
+        files = [f for part in ('src', 'specs', 'proofs') for f in glob.glob(os.path.join(ROOT, 'crates', crate, part, '**', '*.*'), recursive=True)]
+        texts = [os.path.relpath(f, ROOT) + '\0' + read(f) for f in sorted(files)]
+        sums[crate] = hashlib.sha256('\0'.join(texts).encode()).digest()
+    return {path: hashlib.sha256(b'\0'.join([kit, read(path).encode(), *(sums[one] for one in below[crate])])).hexdigest() for crate, _, path in chosen}
+
+
 def tried(chosen):
-    """(crate, label, faults) of each edit, by checks in as many rooms as there are processors; a crate's edits are all checked in one."""
-    crates = queue.SimpleQueue()
-    for _, group in itertools.groupby(chosen, key=lambda edit: edit[0]):
+    """(crate, label, faults) of each edit, by checks in as many rooms as there are processors; a crate's edits are all checked in one. An edit that was
+    tried before on this machine, over the same files, is not tried again."""
+    sums, crates = checksums(chosen), queue.SimpleQueue()
+    os.makedirs(KEPT, exist_ok=True)
+    new = [edit for edit in chosen if not os.path.exists(os.path.join(KEPT, sums[edit[2]]))]
+    print('%d edits to try, %d tried before' % (len(new), len(chosen) - len(new)), flush=True)
+    for _, group in itertools.groupby(new, key=lambda edit: edit[0]):
         crates.put(list(group))
 
     def worker():
@@ -169,7 +201,11 @@ def tried(chosen):
         with tempfile.TemporaryDirectory() as room, contextlib.suppress(queue.Empty):
             room_of(room)
             while True:
-                found += [(crate, label, tried_in(room, crate, path)) for crate, label, path in crates.get_nowait()]
+                for crate, label, path in crates.get_nowait():
+                    faults = tried_in(room, crate, path)
+                    found.append((crate, label, faults))
+                    if not faults:
+                        open(os.path.join(KEPT, sums[path]), 'w').close()
         return found
 
     with concurrent.futures.ThreadPoolExecutor() as pool:

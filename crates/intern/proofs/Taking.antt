@@ -49,7 +49,7 @@ use Rattle.store.proofs.Measuring.{measure_is, measure_small}
 use Rattle.store.specs.Store.{Store, stored, listed, records}
 use Rattle.store.specs.Sorts.{sorts_at, deepest_at}
 use Rattle.intern.specs.Kinds.{Fitting}
-use Rattle.intern.specs.Interning.{Offered, Taken, code_of, rows_after, offsets_after, bytes_after, with_term, answer_for, list_after as list-after-of}
+use Rattle.intern.specs.Interning.{Offered, Taken, code_of, rows_after, offsets_after, bytes_after, with_term, answer_for, list_after as list_after_of}
 use Rattle.store.proofs.Lookup.{says_count}
 use Rattle.intern.proofs.Asking.{tree_depth}
 use Rattle.intern.proofs.Bools.{deepest_small}
@@ -342,7 +342,7 @@ module _ (limits : Limits) {job work : Bytes} {n at : ℕ} {t : Decoded} (o : Of
   taken : {answer : Interned} {after : Bytes}
       → answer ≡ answer_for (well_sorted (capped (number_length job) limits) (term_of (listed job work n) (op_of t) (arguments_of job t))) (has (listed job work n) (record_at job at)) (room (number_length job) (capped (number_length job) limits) (length work) (listed job work n)) n
       → after ≡ bytes_after answer work (with_term job work n at (tree_of (listed job work n) (op_of t) (arguments_of job t)))
-      → Store job after (rows_after answer n) → listed job after (rows_after answer n) ≡ list-after-of answer (listed job work n) (feed (number_length job) (listed job work n) (record_at job at))
+      → Store job after (rows_after answer n) → listed job after (rows_after answer n) ≡ list_after_of answer (listed job work n) (feed (number_length job) (listed job work n) (record_at job at))
       → offsets (link_size job) after (rows_after answer n) ≡ offsets_after answer at (offsets (link_size job) work n) → Taken limits job work after n at t answer
   taken {answer} e m s l f = record { answer_is = e; code_is = ap code_of e ∙ code_law _ _ _ n; memory_is = m; store = s; listed_is = l; offsets_are = f }
 
