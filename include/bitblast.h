@@ -14,7 +14,7 @@
  * default thread of some C libraries has no room for. A text whose terms are nested 200 deep takes some 152 KiB.
  *
  * Time: every call ends, but nothing interrupts it. A job may repeat its longest step, a division of width 64, in eight bytes for
- * each answer that has room; such a step took less than ten milliseconds (docs/PERFORMANCE.md). So the time is bounded by the
+ * each answer that has room; such a step took up to twelve milliseconds (docs/PERFORMANCE.md). So the time is bounded by the
  * answers lent. For jobs of strangers lend few answers, and make the call where it can be ended: in a process of its own.
  *
  * Seed: the last four bytes of `work` at the call decide where the library looks for terms, and nothing else; no result depends on

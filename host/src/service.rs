@@ -45,7 +45,7 @@ impl Memory {
 /// is smaller may end the process. Rust's threads have 2 MiB unless they are built otherwise.
 ///
 /// Time: every job ends, but nothing interrupts it. A job may repeat its longest step, a division of width 64, in eight bytes for
-/// each answer that has room; such a step took less than ten milliseconds (docs/PERFORMANCE.md). So the time is bounded by the
+/// each answer that has room; such a step took up to twelve milliseconds (docs/PERFORMANCE.md). So the time is bounded by the
 /// answers lent: for jobs of strangers lend few answers, and check where the check can be ended, in a process of its own. Where
 /// terms are looked for depends on random bytes that the service puts into the work memory before each job, so that nobody can
 /// choose terms that take long to find.
