@@ -73,7 +73,7 @@ pub struct Word {
 pub fn flag(b: bool) -> u64
     ensures { result ≡ bit b }
 {
-    if b { 1 } else { 0 }
+    u64::from(b)
 }
 
 // x with k copies of its top bit above, at width m.
@@ -93,10 +93,8 @@ pub fn repeated(m: u32, k: u32, x: u64) -> u64
     ensures { (ρ : Assign) → result ≡ as_number (meaning ρ (unary_op (Unary.Repeat k)) (val_by m x ∷ [])) }
 {
     let mut r = x;
-    let mut i: u32 = 1;
-    while i < k {
+    for _ in 1..k {
         r = (r << m) + x;
-        i += 1;
     }
     r
 }
@@ -127,9 +125,8 @@ pub fn apply_two(op: Binary, m: u32, x: u64, y: u64) -> u64
 {
     match op {
         Binary::Xor => flag(x != y),
-        Binary::Equals => flag(x == y),
+        Binary::Equals | Binary::Comp => flag(x == y),
         Binary::XNor => xnor_n(m, x, y),
-        Binary::Comp => flag(x == y),
         Binary::ULt => flag(x < y),
         Binary::SLt => flag(signed_less(m, x, y)),
         Binary::Shl => shl_n(m, x, y),
@@ -155,14 +152,14 @@ pub fn start(op: Many, m: u32, x: u64) -> Word
 {
     match op {
         Many::Bits => Word { width: 1, value: x },
-        Many::And => Word { width: m, value: x },
-        Many::Or => Word { width: m, value: x },
-        Many::BvAnd => Word { width: m, value: x },
-        Many::BvOr => Word { width: m, value: x },
-        Many::BvXor => Word { width: m, value: x },
-        Many::Add => Word { width: m, value: x },
-        Many::Mul => Word { width: m, value: x },
-        Many::Concat => Word { width: m, value: x },
+        Many::And
+        | Many::Or
+        | Many::BvAnd
+        | Many::BvOr
+        | Many::BvXor
+        | Many::Add
+        | Many::Mul
+        | Many::Concat => Word { width: m, value: x },
     }
 }
 
@@ -174,25 +171,17 @@ pub fn extend(op: Many, a: Word, m: u32, x: u64) -> Word
     let w = a.width;
     let v = a.value;
     match op {
-        Many::And => Word {
+        Many::And | Many::BvAnd => Word {
             width: w,
             value: v & x,
         },
-        Many::Or => Word {
+        Many::Or | Many::BvOr => Word {
             width: w,
             value: v | x,
         },
         Many::Bits => Word {
             width: w + 1,
             value: v + (x << w),
-        },
-        Many::BvAnd => Word {
-            width: w,
-            value: v & x,
-        },
-        Many::BvOr => Word {
-            width: w,
-            value: v | x,
         },
         Many::BvXor => Word {
             width: w,

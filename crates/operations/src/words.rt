@@ -133,7 +133,8 @@ pub fn urem_n(n: u32, x: u64, y: u64) -> u64
 
 // The n bits of x, each s places lower; those that fall out at the bottom come in at the top.
 fn turned(n: u32, s: u32, x: u64) -> u64
-    requires { Fits n x × (s ≤ n) }
+    requires fits { Fits n x }
+    requires inside { s ≤ n }
     ensures { result ≡ moved_n (turn n s) x }
 {
     // A shift by the whole width is none of a machine word's at n = 64.

@@ -1,5 +1,5 @@
 -- Laws of the rows: numbers in bytes, the list of kept records, the search in it, and what a stored row changes.
-use mathlib.Core.Path.{◌≡◌, refl, sym, ap, ap₂, ◌∙◌}
+use mathlib.Core.Path.{◌≡◌, refl, sym, ap, ap₂, subst, ◌∙◌}
 use mathlib.Core.Bool.{Bool, true, false, ◌&&◌, cond}
 use mathlib.Core.Logic.{◌⊎◌, inl, inr, ⊎_elim}
 use mathlib.Core.List.{[], ◌∷◌, ◌++◌, append-nil, append_assoc}
@@ -41,21 +41,12 @@ number_same (suc len) s t at h =
     first m s at = digit m (drop at s) ∙ rw (get_or-drop at s 0 0, add-zero, drop-drop 1 at s)
 
 -- the bytes of a number are stored one by one
-pub put_start : (s : Bytes) (at x len : ℕ) → sets s at (bytes_of len x) ≡ sets s at (bytes_of (at + len - at) x)
-put_start s at x len =
-    let e : at + len - at ≡ len = omega arith in
-    rw e
-
-module _ (s : Bytes) (end i rest : ℕ) where
-  pub put_turn : i < end → sets s i (bytes_of (end - i) rest) ≡ sets (set s i (rest % 256)) (i + 1) (bytes_of (end - (i + 1)) (rest / 256))
-  put_turn h =
-      let e : end - i ≡ suc (end - (i + 1)) = omega arith in
-      rw (e, add-one)
-
-  pub put_end : end ≤ i → sets s i (bytes_of (end - i) rest) ≡ s
-  put_end h =
-      let e : end - i ≡ 0 = omega arith in
-      rw e
+pub put_turn : (s : Bytes) (at len i rest : ℕ) → i < len
+    → sets s (at + i) (bytes_of (len - i) rest) ≡ sets (set s (at + i) (rest % 256)) (at + (i + 1)) (bytes_of (len - (i + 1)) (rest / 256))
+put_turn s at len i rest h =
+    let e : len - i ≡ suc (len - (i + 1)) = omega arith in
+    let f : at + (i + 1) ≡ suc (at + i) = omega arith in
+    rw (e, f)
 
 -- one run of stores after the other
 pub sets_append : (s : Bytes) (i : ℕ) (a b : Bytes) → sets s i (a ++ b) ≡ sets (sets s i a) (i + length a) b
@@ -270,6 +261,19 @@ pub link_whole : {b : ℕ} → Length b → Length (link_bytes b)
 link_whole {b} l =
     let s = l.some_bytes in let f = l.few_bytes in
     record { some_bytes = ⊎_elim (λ w. omega arith) (λ w. omega arith) (link_cases b); few_bytes = omega (arith, link_least b) }
+
+-- the bytes of a link where numbers have two, and where they have four
+pub link_short : 2 ≡ link_bytes 2
+unfolding link_bytes
+link_short = refl
+
+pub link_long : 3 ≡ link_bytes 4
+unfolding link_bytes
+link_long = refl
+
+-- a link has as many as a number can have
+pub link_sized : {b l : ℕ} → l ≡ link_bytes b → Length b → Length l
+link_sized e sized = subst Length (sym e) (link_whole sized)
 
 -- a link has two bytes where a term's number has two, else three
 pub short_link : (job : Bytes) {r : ℕ} → r ≡ number_length job → r ≡ 2 → 2 ≡ link_size job

@@ -11,61 +11,62 @@ pub fn wide(x: u8) -> usize
     x as usize
 }
 
-// The number at a place, of up to four bytes.
-fn number_of(s: &[u8], at: usize, len: usize) -> usize
-    requires { (at + len ≤ length s.now) × (len ≤ 4) }
-    ensures { Bounded result (number_at s.now at len) (256 ^ len) }
+// The number of N bytes at a place.
+pub fn number_of<const N: usize>(s: &[u8], at: usize) -> usize
+    requires inside { at + N ≤ length s.now }
+    requires short { N ≤ 4 }
+    ensures { Bounded result (number_at s.now at N) (256 ^ N) }
 {
     let mut x: usize = 0;
-    let mut i = len;
-    while 0 < i {
-        i -= 1;
+    for i in (0..N).rev() {
         x = 256 * x + wide(s[at + i]);
     }
     x
 }
 
-// The same. A call for each length that is common: each is then compiled for its length.
+// The number at a place, of up to four bytes.
 pub fn number(s: &[u8], at: usize, len: usize) -> usize
     requires { (at + len ≤ length s.now) × (len ≤ 4) }
     ensures { Bounded result (number_at s.now at len) (256 ^ len) }
 {
-    if len == 2 {
-        return number_of(s, at, 2);
+    match len {
+        2 => number_of::<2>(s, at),
+        3 => number_of::<3>(s, at),
+        4 => number_of::<4>(s, at),
+        1 => number_of::<1>(s, at),
+        _ => number_of::<0>(s, at),
     }
-    if len == 3 {
-        return number_of(s, at, 3);
-    }
-    number_of(s, at, len)
 }
 
 // Stores `len` bytes of a number.
-fn put_number_of(s: &mut [u8], at: usize, len: usize, x: usize)
+#[inline]
+fn put_bytes(s: &mut [u8], at: usize, len: usize, x: usize)
     requires { at + len ≤ length s.old }
     ensures { s.new ≡ sets s.old at (bytes_of len x) }
 {
-    let end = at + len;
-    let mut i = at;
     let mut rest = x;
-    while i < end {
-        s[i] = (rest % 256) as u8;
+    for i in 0..len {
+        s[at + i] = (rest % 256) as u8;
         rest = rest / 256;
-        i += 1;
     }
 }
 
-// The same. A call for each length that is common: each is then compiled for its length.
+// Stores N bytes of a number.
+pub fn put_number_of<const N: usize>(s: &mut [u8], at: usize, x: usize)
+    requires { at + N ≤ length s.old }
+    ensures { s.new ≡ sets s.old at (bytes_of N x) }
+{
+    put_bytes(s, at, N, x);
+}
+
+// Stores `len` bytes of a number. A call for each length that is common: each is then compiled for its length.
 pub fn put_number(s: &mut [u8], at: usize, len: usize, x: usize)
     requires { at + len ≤ length s.old }
     ensures { s.new ≡ sets s.old at (bytes_of len x) }
 {
-    if len == 2 {
-        put_number_of(s, at, 2, x);
-        return;
+    match len {
+        2 => put_number_of::<2>(s, at, x),
+        3 => put_number_of::<3>(s, at, x),
+        _ => put_bytes(s, at, len, x),
     }
-    if len == 3 {
-        put_number_of(s, at, 3, x);
-        return;
-    }
-    put_number_of(s, at, len, x);
 }

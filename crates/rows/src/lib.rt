@@ -16,12 +16,13 @@ ghost use Rattle.terms.specs.Bodies.{Length};
 ghost use Rattle.rows.specs.Layout.{Bounded, link_bytes, link_size, row_size, offset_at, measure_at, link_at};
 ghost use Rattle.rows.specs.Rows.{stored_row};
 
-use crate::bytes::{number, put_number};
+use crate::bytes::{number_of, put_number_of};
 use crate::layout::{LONG_LINK_BYTES, OFFSET_BYTES};
 pub use layout::{FIRST_PLACE, MISSING};
 use terms::Term;
 
 // The bytes of a link, by the bytes of a term's number: three can count the most terms.
+#[tactic(auto, using(std::proofs::lemmas::Bool::Decides::nat_tests), unfolding(crate::specs::Layout::link_bytes))]
 pub fn link_bytes(bytes: usize) -> usize
     ensures { result ≡ link_bytes bytes }
 {
@@ -33,42 +34,51 @@ pub fn link_bytes(bytes: usize) -> usize
 }
 
 // Where row k's record stands in the job.
-pub fn offset_as(work: &[u8], bytes: usize, k: usize) -> usize
-    requires { (k * row_size bytes + row_size bytes ≤ length work.now) × Length bytes }
-    ensures { Bounded result (offset_at bytes work.now k) max_job }
+#[tactic(auto, unfolding(crate::specs::Layout::offset_at))]
+pub fn offset_as<const L: usize>(work: &[u8], k: usize) -> usize
+    requires inside { k * row_size L + row_size L ≤ length work.now }
+    requires sized { Length L }
+    ensures { Bounded result (offset_at L work.now k) max_job }
 {
-    number(work, k * (OFFSET_BYTES + 2 * bytes), OFFSET_BYTES)
+    number_of::<OFFSET_BYTES>(work, k * (OFFSET_BYTES + 2 * L))
 }
 
 // The measure of row k.
-pub fn measure_as(work: &[u8], bytes: usize, k: usize) -> usize
-    requires { (k * row_size bytes + row_size bytes ≤ length work.now) × Length bytes }
-    ensures { Bounded result (measure_at bytes work.now k) (256 ^ bytes) }
+#[tactic(auto, unfolding(crate::specs::Layout::measure_at))]
+pub fn measure_as<const L: usize>(work: &[u8], k: usize) -> usize
+    requires inside { k * row_size L + row_size L ≤ length work.now }
+    requires sized { Length L }
+    ensures { Bounded result (measure_at L work.now k) (256 ^ L) }
 {
-    number(work, k * (OFFSET_BYTES + 2 * bytes) + OFFSET_BYTES, bytes)
+    number_of::<L>(work, k * (OFFSET_BYTES + 2 * L) + OFFSET_BYTES)
 }
 
 // The link of row k: 0, or one more than the index of an earlier row.
-pub fn link_at(work: &[u8], bytes: usize, k: usize) -> usize
-    requires { (k * row_size bytes + row_size bytes ≤ length work.now) × Length bytes }
-    ensures { Bounded result (link_at bytes work.now k) (256 ^ bytes) }
+#[tactic(auto, unfolding(crate::specs::Layout::link_at))]
+pub fn link_at<const L: usize>(work: &[u8], k: usize) -> usize
+    requires inside { k * row_size L + row_size L ≤ length work.now }
+    requires sized { Length L }
+    ensures { Bounded result (link_at L work.now k) (256 ^ L) }
 {
-    number(
-        work,
-        k * (OFFSET_BYTES + 2 * bytes) + OFFSET_BYTES + bytes,
-        bytes,
-    )
+    number_of::<L>(work, k * (OFFSET_BYTES + 2 * L) + OFFSET_BYTES + L)
 }
 
 // Stores row n.
-pub fn put_row(work: &mut [u8], bytes: usize, n: usize, offset: usize, measure: usize, link: usize)
-    requires { (n * row_size bytes + row_size bytes ≤ length work.old) × Length bytes }
-    ensures { work.new ≡ stored_row bytes work.old n offset measure link }
+pub fn put_row<const L: usize>(
+    work: &mut [u8],
+    n: usize,
+    offset: usize,
+    measure: usize,
+    link: usize,
+)
+    requires inside { n * row_size L + row_size L ≤ length work.old }
+    requires sized { Length L }
+    ensures { work.new ≡ stored_row L work.old n offset measure link }
 {
-    let at = n * (OFFSET_BYTES + 2 * bytes);
-    put_number(work, at, OFFSET_BYTES, offset);
-    put_number(work, at + OFFSET_BYTES, bytes, measure);
-    put_number(work, at + OFFSET_BYTES + bytes, bytes, link);
+    let at = n * (OFFSET_BYTES + 2 * L);
+    put_number_of::<OFFSET_BYTES>(work, at, offset);
+    put_number_of::<L>(work, at + OFFSET_BYTES, measure);
+    put_number_of::<L>(work, at + OFFSET_BYTES + L, link);
 }
 
 // Where row k's record stands, in the job's own number length. A call for each of the two: each is then compiled for its length.
@@ -77,7 +87,7 @@ pub fn offset_at(job: &[u8], work: &[u8], k: usize) -> usize
     ensures { Bounded result (offset_at (link_size job.now) work.now k) max_job }
 {
     if Term::number_length(job) == Term::NUMBER_BYTES {
-        return offset_as(work, Term::NUMBER_BYTES, k);
+        return offset_as::<{ Term::NUMBER_BYTES }>(work, k);
     }
-    offset_as(work, LONG_LINK_BYTES, k)
+    offset_as::<LONG_LINK_BYTES>(work, k)
 }

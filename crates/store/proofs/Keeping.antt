@@ -2,11 +2,12 @@
 use mathlib.Core.Path.{◌≡◌, refl, sym, ap, ap₂, subst, ◌∙◌}
 use mathlib.Core.Bool.{true}
 use mathlib.Core.List.{List, [], ◌∷◌, map}
-use mathlib.Core.Option.{some}
+use Rattle.std.specs.Prelude.{Some as some}
 use Prim.Native.Nat.{ℕ, zero, suc, ◌+◌, ◌*◌, ◌-◌, ◌<◌, ◌≤◌}
 use native.Mathlib.Omega.{arith}
 use lib.Dec.{T}
-use lib.ListN.{length, take, drop, get_or, get_elem?, length-take, length-drop}
+use lib.ListN.{length, take, drop, get_or, length-take, length-drop}
+use Rattle.std.specs.Prelude.{slice_get as get_elem?}
 use lib.Seq.{get_or-drop}
 use borrow.Author.Tests.{le-leb}
 use Rattle.theory.specs.Limit.{first_terms}
@@ -29,8 +30,15 @@ use Rattle.terms.specs.declared.Term.{Term as Decoded}
 use Rattle.terms.specs.declared.Term.TheVariants as D
 use Rattle.terms.specs.declared.Item.{Item}
 use Rattle.terms.specs.declared.Item.TheVariants as I
-use Rattle.terms.specs.Decoded.{OperandsPlaced, op_of, operands_of, arguments_of, item_of, Placed}
+use Rattle.terms.specs.declared.Args.{Args}
+use Rattle.terms.specs.Decoded.{words_in, OperandsPlaced, op_of, operands_of, arguments_of, item_of, Placed}
 use Rattle.store.specs.Store.{Store, listed, records}
+use Rattle.store.specs.declared.gates.Kept.{Kept}
+use Rattle.store.specs.declared.shelf.Terms.{Terms}
+use Rattle.store.specs.KeptTerms.{Holds, kept_term}
+use Rattle.store.specs.Lookup.{Finds}
+use Rattle.store.specs.Kept as K
+use Rattle.store.specs.Terms.{TermAt}
 use Rattle.store.specs.Shelf.{Shelf, TermOn, item_args, args_at}
 use Rattle.store.proofs.Lookup.{says_count}
 use Rattle.theory.proofs.Basics.{T_true, some_inj, get_elem_of, get_elem_lt}
@@ -154,3 +162,48 @@ shelf s = record {
   records_are = s.records_are;
   measures_are = s.measures_are;
 }
+
+-- and what is kept is a store
+pub store_of : (k : Kept) → Store k.lookup.job.now k.lookup.work.now k.lookup.rows
+store_of k = record {
+  table = k.lookup.table;
+  well = k.shelf.well;
+  sorted = k.shelf.sorted;
+  count = k.shelf.count;
+  records_are = k.shelf.records_are;
+  measures_are = k.shelf.measures_are;
+}
+
+-- terms that hold the rows of a job say what these say
+module _ {t : Terms} {job work : Bytes} {n : ℕ} (h : Holds t job work n) where
+  pub same_kept : (p : ℕ) → kept_term t p ≡ tree_at (listed job work n) p
+  same_kept p = rw (h.job_is, h.work_is, h.rows_are) refl
+
+  pub same_at : {p : ℕ} {d : Decoded} → TermAt t.job.now t.work.now t.rows p d → TermAt job work n p d
+  same_at {p} {d} x =
+      subst (λ (j : Bytes). TermAt j work n p d) h.job_is
+      (subst (λ (w : Bytes). TermAt t.job.now w n p d) h.work_is (subst (λ (k : ℕ). TermAt t.job.now t.work.now k p d) h.rows_are x))
+
+  pub same_on : {p : ℕ} {d : Decoded} → TermOn t.job.now t.work.now t.rows p d → TermOn job work n p d
+  same_on {p} {d} x =
+      subst (λ (j : Bytes). TermOn j work n p d) h.job_is
+      (subst (λ (w : Bytes). TermOn t.job.now w n p d) h.work_is (subst (λ (k : ℕ). TermOn t.job.now t.work.now k p d) h.rows_are x))
+
+-- what is kept of the rows of a job says what these say
+module _ (k : Kept) {job work : Bytes} {n : ℕ} (h : Finds k.lookup job work n) where
+  found_terms : K.kept_terms k ≡ listed job work n
+  found_terms =
+      ap (λ (j : Bytes). listed j k.lookup.work.now k.lookup.rows) h.job_is ∙ ap (λ (w : Bytes). listed job w k.lookup.rows) h.work_is
+      ∙ ap (λ (r : ℕ). listed job work r) h.rows_are
+
+  pub found_term : (p : ℕ) → K.kept_term k p ≡ tree_at (listed job work n) p
+  found_term p = ap (λ (l : Plain). tree_at l p) found_terms
+
+  pub found_arguments : (a : Args) → K.kept_arguments k a ≡ map (tree_at (listed job work n)) (words_in job a)
+  found_arguments a =
+      ap (λ (j : Bytes). map (K.kept_term k) (words_in j a)) h.job_is ∙ ap (λ (l : Plain). map (tree_at l) (words_in job a)) found_terms
+
+  pub found_at : {p : ℕ} {d : Decoded} → K.IsTermAt k p d → TermAt job work n p d
+  found_at {p} {d} x =
+      subst (λ (j : Bytes). TermAt j work n p d) h.job_is
+      (subst (λ (w : Bytes). TermAt k.lookup.job.now w n p d) h.work_is (subst (λ (r : ℕ). TermAt k.lookup.job.now k.lookup.work.now r p d) h.rows_are x))

@@ -3,13 +3,14 @@ use mathlib.Core.Path.{◌≡◌, refl, sym, ap, ap₂, subst, ◌∙◌}
 use mathlib.Core.Bool.{Bool, true, false, ◌&&◌, cond}
 use mathlib.Core.List.{List, [], ◌∷◌, ◌++◌, map, map-map}
 use mathlib.Core.Logic.{◌↔◌}
-use mathlib.Core.Option.{Option, none, some}
+use Rattle.std.specs.Prelude.{Option, None as none, Some as some}
 use Prim.Native.Nat.{ℕ, suc, ◌+◌, ◌-◌, ◌/◌, ◌%◌, ◌^◌, ◌<◌, ◌≤◌}
 use native.Mathlib.Nat.{pow-le-pow_right}
 use native.Mathlib.Omega.{arith}
 use lib.Dec.{T, leb, ltb, eqb, lt→ltb, leb→le}
 use lib.Ieee.Fits.{and_l, and_r, and_i}
-use lib.ListN.{length, drop, get_elem?, length-map, length-append}
+use lib.ListN.{length, drop, length-map, length-append}
+use Rattle.std.specs.Prelude.{slice_get as get_elem?}
 use borrow.Author.Tests.{le-ltb}
 use Rattle.theory.specs.Limit.{first_terms}
 use Rattle.theory.specs.Kind.{Op, True, False, Not, And, Or, Xor, Equals, Ite, BvBitOf, BvBbTerm, Const, kind, many, arity, takes}

@@ -1,7 +1,10 @@
 pub mod Numbers
+pub mod Sorts
 pub mod Measure
 pub mod Store
-pub mod Sorts
 pub mod Terms
 pub mod Shelf
 pub mod Lent
+pub mod Lookup
+pub mod Kept
+pub mod KeptTerms

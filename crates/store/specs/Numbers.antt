@@ -1,6 +1,6 @@
 -- The gates of term numbers: each is looked up among the kept records, and is missing where none says it or an argument is missing.
 use Rattle.std.specs.Prelude.{Bool, List, [], ◌∷◌, ℕ, eqb}
-use Rattle.std.proofs.Math.Option.{Option, none, some}
+use Rattle.std.specs.Prelude.{Option, None as none, Some as some}
 use Rattle.theory.specs.Kind.{Not, And, Or, Xor, Equals, Ite, BvBitOf, BvBbTerm, Const, kind}
 use Rattle.theory.specs.Gates.{Gates}
 use Rattle.theory.specs.Record.{Bytes, number_length}

@@ -5,4 +5,3 @@ pub mod gates;
 pub mod measures;
 pub mod shelf;
 pub mod sorts;
-pub mod terms_at;

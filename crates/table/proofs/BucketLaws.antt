@@ -147,6 +147,10 @@ bucket_same work after c x e = go (ℕ_discrete c 0)
     go (yes z) = bucket_none after c x z ∙ sym (bucket_none work c x z)
     go (no z) = bucket_at work after c x (e (omega (arith, z)))
 
+-- a cell of c ones of l bytes each lies where they do
+pub cell_inside : (l start : ℕ) {c j len : ℕ} → (0 < c → start + c * l ≤ len) → j < c → start + j * l + l ≤ len
+cell_inside l start inside h = let p = inside (omega arith) in omega (arith, row_before l h)
+
 -- the newest row, with a head and without
 pub first_within : (l : ℕ) (work : Bytes) (n start c j : ℕ) → j < c → first_in l work n start c j ≡ head_at l work start j
 unfolding first_in

@@ -3,6 +3,7 @@ use mathlib.Core.Path.{◌≡◌, refl, sym, ap, subst, ◌∙◌}
 use mathlib.Core.Bool.{Bool, true, false, ◌&&◌, and-false, cond}
 use mathlib.Core.List.{List, [], ◌∷◌, ◌++◌, append_assoc, append-nil}
 use Prim.Native.Nat.{ℕ, zero, suc, ◌+◌, ◌*◌, ◌≤◌, ◌<◌}
+use Rattle.std.specs.Prelude.{Option, None as none, Some as some}
 use native.Mathlib.Nat.{not-suc-le-zero, le_of_suc-le-suc, mul-le-mul_right}
 use native.Mathlib.Numerals.{add-one}
 use native.Mathlib.Omega.{arith}
@@ -10,12 +11,11 @@ use lib.Dec.{ltb}
 use lib.ListN.{length-append, length-replicate, drop, get_or, length, replicate, take}
 use lib.Seq.{sets, sets-eq, length-sets, length-take-le, take_at, take-suc, take_all}
 use borrow.Author.Tests.{le-ltb, lt-ltb}
-use Rattle.theory.specs.Record.{Bytes, bytes_of, number_length}
+use Rattle.theory.specs.Record.{Bytes, bytes_of}
 use Rattle.rows.specs.Layout.{missing}
 use Rattle.rows.specs.Rows.{place_of}
 use Rattle.table.specs.Keys.{few_arguments, list_bytes, key_bytes, Roomy, last_number, all_places, built_length, Built, words_bytes, place_constant, place_indexed, place_list, record_of}
 use Rattle.rows.proofs.RowLaws.{and_first, and_second, length_bytes}
-use Rattle.theory.proofs.Lengths.{length_most}
 use Rattle.theory.specs.Limit.{number_bytes, value_bytes, max_arguments, long_bytes}
 
 -- ---- the first `at` bytes of the array are p
@@ -91,11 +91,17 @@ pub room_for_words : {nb count size : ℕ} (i : ℕ) → Roomy nb count size →
 room_for_words {nb} {count} i r h = let p : i * nb ≤ count * nb = mul-le-mul_right nb h in omega (arith, r.room)
 
 -- the arrays have room for the records that are built in them
-pub list_room : (job : Bytes) {b count : ℕ} → b ≡ number_length job → count ≤ max_arguments → Roomy b count list_bytes
-list_room job {b} {count} e h = let l = length_most job in record { few = h; room = let p = few_words {nb = b} {m = count} (omega arith) h in omega (arith, p) }
+pub few_room : {count : ℕ} → count ≤ few_arguments → Roomy long_bytes count key_bytes
+few_room h = record { few = omega arith; room = omega arith }
 
-pub few_room : {b count : ℕ} → b ≤ long_bytes → count ≤ few_arguments → Roomy b count key_bytes
-few_room {b} {count} e h = record { few = omega arith; room = let p : count * b ≤ 3 * b = mul-le-mul_right b h in omega arith }
+pub list_room : {count : ℕ} → count ≤ max_arguments → Roomy long_bytes count list_bytes
+list_room h = record { few = h; room = omega arith }
+
+pub roomy_less : {count space : ℕ} → Roomy long_bytes count space → Roomy number_bytes count space
+roomy_less r = record { few = r.few; room = let p = r.room in omega arith }
+
+pub roomy_new : {b count : ℕ} (space : ℕ) → Roomy b count space → Roomy b count (length (replicate {A = ℕ} space 0))
+roomy_new {b} {count} space r = subst (Roomy b count) (sym (length-replicate {A = ℕ} space 0)) r
 
 -- ---- the loop over the numbers: the array has the record's head and the first i of them
 
@@ -124,47 +130,58 @@ building_turn {size} {nb} {kind} {xs} {key} {at} {i} b roomy h x e low {after} s
     more = rw (add-one, take-suc xs i 0 h, e)
 
 -- after the last of them, or where one can't be a place, the record is built or there is none
-pub built_all : {size nb kind space : ℕ} {xs : List ℕ} {key : Bytes} {at i : ℕ} → Building size nb kind xs key at i → length xs ≤ i → length key ≡ space → Built nb kind xs space key at
+pub built_all : {size nb kind space : ℕ} {xs : List ℕ} {key : Bytes} {at i : ℕ} → Building size nb kind xs key at i → length xs ≤ i → length key ≡ space
+    → Built nb kind xs space key (some at)
 unfolding built_length record_of
 built_all {size} {nb} {kind} {space} {xs} {key} {at} {i} b h l =
     let t : take i xs ≡ xs = take_all i xs h in
     let all : all_places nb xs ≡ true = ap (all_places nb) (sym t) ∙ b.places in
     let whole : i ≡ length xs = omega (arith, b.many) in
-    record { long = l; end_is = rw all (b.far ∙ rw whole); record_is = λ e. b.written.bytes ∙ rw t }
+    let far : at ≡ 2 * number_bytes + length xs * nb = b.far ∙ rw whole in
+    record { long = l; end_is = rw (all, far); record_is = λ e. ap (λ (m : ℕ). take m key) (sym far) ∙ b.written.bytes ∙ rw t }
 
-pub built_none : {nb kind space : ℕ} {xs : List ℕ} {key : Bytes} (i : ℕ) → i < length xs → last_number nb ≤ get_or xs i 0 → length key ≡ space → Built nb kind xs space key 0
+pub built_none : {nb kind space : ℕ} {xs : List ℕ} {key : Bytes} (i : ℕ) → i < length xs → last_number nb ≤ get_or xs i 0 → length key ≡ space → Built nb kind xs space key none
 unfolding built_length
 built_none {nb} {kind} {space} {xs} {key} i h l e =
-    let none = places_no nb xs i h l in
-    record { long = e; end_is = rw none; record_is = λ all. absurd (let z : ◌≡◌ {A = ℕ} 0 1 = ap (λ (t : Bool). cond t 1 0) (sym none ∙ all) in omega arith) }
+    let none_fits = places_no nb xs i h l in
+    record { long = e; end_is = rw none_fits; record_is = λ all. absurd (let z : ◌≡◌ {A = ℕ} 0 1 = ap (λ (t : Bool). cond t 1 0) (sym none_fits ∙ all) in omega arith) }
 
 -- ---- a record that is built
 
-module _ {nb kind space end : ℕ} {xs : List ℕ} {key : Bytes} (b : Built nb kind xs space key end) where
-  pub built_inside : Roomy nb (length xs) space → end ≤ space
-  unfolding built_length
-  built_inside r = go (all_places nb xs) b.end_is
-    where
-      go : (t : Bool) → end ≡ cond t (2 * number_bytes + length xs * nb) 0 → end ≤ space
-      go true e = omega (arith, r.room)
-      go false e = omega arith
+-- its length
+told : Option ℕ → ℕ
+told (some n) = n
+told none = 0
 
-  pub built_missing : end ≡ 0 → (rows : List Bytes) → missing ≡ place_list nb kind xs rows
-  unfolding built_length place_list
-  built_missing z rows = go (all_places nb xs) b.end_is
+module _ {nb kind space : ℕ} {xs : List ℕ} {key : Bytes} {r : Option ℕ} (b : Built nb kind xs space key r) where
+  pub built_missing : r ≡ none → (rows : List Bytes) → missing ≡ place_list nb kind xs rows
+  unfolding built_length place_list told
+  built_missing is rows = go (all_places nb xs) (sym is ∙ b.end_is)
     where
-      go : (t : Bool) → end ≡ cond t (2 * number_bytes + length xs * nb) 0 → missing ≡ cond t (place_of (record_of kind (words_bytes nb xs)) rows) missing
-      go true e = absurd (omega arith)
+      go : (t : Bool) → none ≡ cond t (some (2 * number_bytes + length xs * nb)) none → missing ≡ cond t (place_of (record_of kind (words_bytes nb xs)) rows) missing
+      go true e = absurd (let z : ◌≡◌ {A = ℕ} 0 (4 + length xs * nb) = ap told e in omega arith)
       go false e = refl
 
-  pub built_place : (end ≡ 0 → ⊥) → (rows : List Bytes) → place_of (take end key) rows ≡ place_list nb kind xs rows
-  unfolding built_length place_list
-  built_place some rows = go (all_places nb xs) b.end_is b.record_is
-    where
-      go : (t : Bool) → end ≡ cond t (2 * number_bytes + length xs * nb) 0 → (t ≡ true → take end key ≡ record_of kind (words_bytes nb xs))
-          → place_of (take end key) rows ≡ cond t (place_of (record_of kind (words_bytes nb xs)) rows) missing
-      go true e f = ap (λ (x : Bytes). place_of x rows) (f refl)
-      go false e f = absurd (some e)
+  module _ {end : ℕ} (is : r ≡ some end) where
+    built_fits : (all_places nb xs ≡ true) × (end ≡ 2 * number_bytes + length xs * nb)
+    unfolding built_length told
+    built_fits = go (all_places nb xs) (sym is ∙ b.end_is)
+      where
+        go : (t : Bool) → some end ≡ cond t (some (2 * number_bytes + length xs * nb)) none → (t ≡ true) × (end ≡ 2 * number_bytes + length xs * nb)
+        go true e = (refl, ap told e)
+        go false e = cc
+
+    pub built_inside : Roomy nb (length xs) space → end ≤ space
+    built_inside r = omega (arith, built_fits.1, r.room)
+
+    pub built_place : (rows : List Bytes) → place_of (take end key) rows ≡ place_list nb kind xs rows
+    unfolding place_list
+    built_place rows = rw (built_fits.0, built_fits.1, b.record_is built_fits.0)
+
+-- in an array that was new, of `space` bytes
+pub built_new : (space : ℕ) {nb kind end : ℕ} {xs : List ℕ} {key : Bytes} {r : Option ℕ} → Built nb kind xs (length (replicate {A = ℕ} space 0)) key r → r ≡ some end
+    → Roomy nb (length xs) space → end ≤ space
+built_new space b is r = let i = built_inside b is (roomy_new space r) in let l = length-replicate {A = ℕ} space 0 in omega arith
 
 -- ---- an index and an argument
 

@@ -21,7 +21,7 @@ use Rattle.rows.specs.Rows as Listed
 use Rattle.table.specs.Buckets.{Sought, TableAs, TableOf, added_row, bucket_of, dropped_from, dropped_row, first_of, head_at, head_count, heads_start, most_heads, most_heads_of, most_rows, newest, row_bucket, seed_bytes, seed_in, stored_head}
 use Rattle.table.specs.Promise.{Cleared, Cut, Wiped, carried, cleared, dropped_rows}
 use Rattle.rows.proofs.RowLaws.{column_added, column_same, column_take, length_bytes, length_stored, link_before, link_least, link_stored, link_whole, measure_before, measure_stored, number_after, number_after_stored, number_before, number_same, number_stored, offset_before, offset_stored, row_before, row_least, rows_stored}
-use Rattle.table.proofs.BucketLaws.{bucket_below, bucket_none, first_outside, first_within, newest_low, sought_from}
+use Rattle.table.proofs.BucketLaws.{bucket_below, bucket_none, cell_inside, first_outside, first_within, newest_low, sought_from}
 use Rattle.table.proofs.TableLaws.{table_less, table_more}
 
 -- ---- a stored head
@@ -364,6 +364,17 @@ count_room l len start some h =
     let b = quotient_room (len - start - 4) l in
     let d : 1 * l ≤ head_count l len start * l = row_least l h in
     omega arith
+
+-- the heads of a frame: their number, and where they lie
+pub heads_few : (l len start : ℕ) {c : ℕ} → c ≡ head_count l len start → c ≤ most_heads
+heads_few l len start e = let k = count_least l len start in omega (arith, k.1)
+
+pub heads_inside : (start : ℕ) {l len c : ℕ} → Length l → c ≡ head_count l len start → 0 < c → start + c * l + seed_bytes ≤ len
+heads_inside start {l} {len} sized e h = rw e (count_room l len start sized.some_bytes (subst (λ (k : ℕ). 0 < k) e h))
+
+pub held_inside : (start : ℕ) (work x : Bytes) {l len c j : ℕ} → Length l → c ≡ head_count l len start → (c ≡ 0 → ⊥) → j ≡ bucket_of work c x → start + j * l + l ≤ len
+held_inside start work x {l} {c = c} sized e some q =
+    cell_inside l start (λ h. let p = heads_inside start sized e h in omega arith) (rw q (bucket_below work c x (omega (arith, some))))
 
 -- ---- an empty table
 

@@ -1,5 +1,5 @@
 -- The place of a record that is given by its parts. Numbers of terms have b bytes.
-use Rattle.std.specs.Prelude.{◌≡◌, Bool, true, cond, List, [], ◌∷◌, ◌++◌, ℕ, ◌+◌, ◌-◌, ◌*◌, ◌^◌, ◌≤◌, length, take}
+use Rattle.std.specs.Prelude.{◌≡◌, Bool, true, cond, Option, None as none, Some as some, List, [], ◌∷◌, ◌++◌, ℕ, ◌+◌, ◌-◌, ◌*◌, ◌^◌, ◌≤◌, length, take}
 use Rattle.theory.specs.Limit.{number_bytes, long_bytes, value_bytes, max_arguments}
 use Rattle.theory.specs.Record.{Bytes, bytes_of}
 use Rattle.theory.specs.Codes.{all_below}
@@ -40,15 +40,15 @@ last_number b = 256 ^ b - 1
 unfoldable pub all_places : ℕ → List ℕ → Bool
 all_places b xs = all_below (last_number b) xs
 
--- the length of a record of arguments; 0 where one of them can't be a place
-unfoldable pub built_length : ℕ → List ℕ → ℕ
-built_length b xs = cond (all_places b xs) (2 * number_bytes + length xs * b) 0
+-- the length of a record of arguments; none where one of them can't be a place
+unfoldable pub built_length : ℕ → List ℕ → Option ℕ
+built_length b xs = cond (all_places b xs) (some (2 * number_bytes + length xs * b)) none
 
 -- an array of `space` bytes was made `key`, which begins with the record of a kind with these arguments
-pub record Built (b kind : ℕ) (xs : List ℕ) (space : ℕ) (key : Bytes) (end : ℕ) : Type 0 where
+pub record Built (b kind : ℕ) (xs : List ℕ) (space : ℕ) (key : Bytes) (end : Option ℕ) : Type 0 where
   pub long : length key ≡ space
   pub end_is : end ≡ built_length b xs
-  pub record_is : all_places b xs ≡ true → take end key ≡ record_of kind (words_bytes b xs)
+  pub record_is : all_places b xs ≡ true → take (2 * number_bytes + length xs * b) key ≡ record_of kind (words_bytes b xs)
 
 -- the place of the record of a kind whose body is arguments. Missing where one of them can't be a place
 unfoldable pub place_list : ℕ → ℕ → List ℕ → List Bytes → ℕ

@@ -7,9 +7,9 @@ ghost use Rattle.rows.specs.Rows.{kept_as, place_of};
 ghost use Rattle.terms.specs.Bodies.{Length};
 ghost use Rattle.table.specs.Buckets.{most_heads, most_heads_of, seed_bytes, fold, hash_end, most_rows, heads_start, head_count, hash_of, bucket_of, first_in, first_of, stored_head, Sought};
 
-use rows::bytes::{number, put_number, wide};
+use rows::bytes::{number_of, put_number_of, wide};
 use rows::layout::{FIRST_PLACE, FIXED_BYTES, MISSING, OFFSET_BYTES};
-use rows::{link_at, link_bytes, offset_as};
+use rows::{link_at, offset_as};
 use terms::Term;
 
 // The most heads of any table, and of one with short links: about twice the most terms.
@@ -34,52 +34,39 @@ const HASH_END: usize = 2147483648;
 // The bytes of the seed.
 pub const SEED_BYTES: usize = 4;
 
-// How many terms fit into a work memory of `len` bytes.
-fn terms_in(len: usize, bytes: usize) -> usize
-    requires { Length bytes }
-    ensures { result ≡ len / term_bytes bytes }
+// How many terms fit into a work memory of `len` bytes, where their numbers have B.
+fn terms_in<const B: usize>(len: usize) -> usize
+    requires { Length B }
+    ensures { result ≡ len / term_bytes B }
 {
-    // By a constant where numbers are short: a division by one that is not known takes several times as long.
-    if bytes == Term::NUMBER_BYTES {
-        return len / (FIXED_BYTES + 2 * Term::NUMBER_BYTES);
-    }
-    len / (FIXED_BYTES + 2 * bytes)
+    len / (FIXED_BYTES + 2 * B)
 }
 
 // How many rows it can ever hold.
-fn most_rows(len: usize, bytes: usize) -> usize
-    requires { Length bytes }
-    ensures { result ≡ most_rows bytes len }
+fn most_rows<const B: usize>(len: usize) -> usize
+    requires { Length B }
+    ensures { result ≡ most_rows B len }
 {
-    let most = Term::max_terms(bytes);
-    let fit = terms_in(len, bytes);
+    let most = Term::max_terms(B);
+    let fit = terms_in::<B>(len);
     if fit < most { fit } else { most }
 }
 
-// Where the heads start in a work memory of `len` bytes: after as many rows as it can ever hold.
-pub fn heads_start(len: usize, bytes: usize, link: usize) -> usize
-    requires { Length bytes × (link ≡ link_bytes bytes) }
-    ensures { (result ≡ heads_start bytes len) × (result ≤ len) }
+// Where the heads start in a work memory of `len` bytes: after as many rows as it can ever hold. Numbers have B bytes here and below, and links L.
+pub fn heads_start<const B: usize, const L: usize>(len: usize) -> usize
+    requires sized { Length B }
+    requires linked { L ≡ link_bytes B }
+    ensures { (result ≡ heads_start B len) × (result ≤ len) }
 {
-    most_rows(len, bytes) * (OFFSET_BYTES + 2 * link)
-}
-
-// How many links fit into so many bytes; again by a constant where they are short.
-fn links_in(left: usize, link: usize) -> usize
-    requires { Length link }
-    ensures { result ≡ left / link }
-{
-    if link == Term::NUMBER_BYTES {
-        return left / Term::NUMBER_BYTES;
-    }
-    left / link
+    most_rows::<B>(len) * (OFFSET_BYTES + 2 * L)
 }
 
 // The most heads of a table, by the bytes of a link.
-fn most_heads(link: usize) -> usize
-    ensures { result ≡ most_heads_of link }
+#[tactic(auto, using(std::proofs::lemmas::Bool::Decides::nat_tests), unfolding(crate::specs::Buckets::most_heads_of))]
+fn most_heads<const L: usize>() -> usize
+    ensures { result ≡ most_heads_of L }
 {
-    if link == Term::NUMBER_BYTES {
+    if L == Term::NUMBER_BYTES {
         SHORT_HEADS
     } else {
         MOST_HEADS
@@ -87,16 +74,17 @@ fn most_heads(link: usize) -> usize
 }
 
 // How many heads there are.
-pub fn head_count(len: usize, start: usize, link: usize) -> usize
-    requires { Length link × (start ≤ len) }
-    ensures { result ≡ head_count link len start }
+pub fn head_count<const L: usize>(len: usize, start: usize) -> usize
+    requires sized { Length L }
+    requires inside { start ≤ len }
+    ensures { result ≡ head_count L len start }
 {
     let left = len - start;
     if left < SEED_BYTES {
         return 0;
     }
-    let most = most_heads(link);
-    let heads = links_in(left - SEED_BYTES, link);
+    let most = most_heads::<L>();
+    let heads = (left - SEED_BYTES) / L;
     if heads < most { heads } else { most }
 }
 
@@ -117,67 +105,68 @@ pub fn hash(m: usize, s: &[u8]) -> usize
         return 0;
     }
     let mut h: usize = wide(s[KIND_AT]) * WORD_END;
-    let mut i: usize = BODY_AT;
-    while i + WORD_BYTES <= s.len() {
-        h = fold((h + number(s, i, WORD_BYTES)) * m);
-        i += WORD_BYTES;
+    for k in 0..(s.len() - BODY_AT) / WORD_BYTES {
+        h = fold((h + number_of::<WORD_BYTES>(s, BODY_AT + WORD_BYTES * k)) * m);
     }
     h % HASH_END
 }
 
 // The bucket of a record, of c buckets.
 pub fn bucket(work: &[u8], c: usize, wanted: &[u8]) -> usize
-    requires { (c ≤ most_heads) × (0 < c → seed_bytes ≤ length work.now) }
+    requires few { c ≤ most_heads }
+    requires seeded { 0 < c → seed_bytes ≤ length work.now }
     ensures { result ≡ bucket_of work.now c wanted.now }
 {
     if c == 0 {
         return 0;
     }
-    let seed = number(work, work.len() - SEED_BYTES, SEED_BYTES);
+    let seed = number_of::<SEED_BYTES>(work, work.len() - SEED_BYTES);
     hash((seed + 668265263) % 1073741824 + 1, wanted) * c / HASH_END
 }
 
 // One more than the newest row of bucket j.
-pub fn first_in(work: &[u8], link: usize, n: usize, start: usize, c: usize, j: usize) -> usize
-    requires { Length link × (0 < c → start + c * link ≤ length work.now) }
-    ensures { result ≡ first_in link work.now n start c j }
+pub fn first_in<const L: usize>(work: &[u8], n: usize, start: usize, c: usize, j: usize) -> usize
+    requires sized { Length L }
+    requires inside { 0 < c → start + c * L ≤ length work.now }
+    ensures { result ≡ first_in L work.now n start c j }
 {
     if j < c {
-        return number(work, start + j * link, link);
+        return number_of::<L>(work, start + j * L);
     }
     n
 }
 
 // One more than the newest row of a record's bucket, of n rows.
-pub fn first_of(work: &[u8], bytes: usize, n: usize, wanted: &[u8]) -> usize
-    requires { Length bytes }
-    ensures { result ≡ first_of bytes work.now n wanted.now }
+pub fn first_of<const B: usize, const L: usize>(work: &[u8], n: usize, wanted: &[u8]) -> usize
+    requires sized { Length B }
+    requires linked { L ≡ link_bytes B }
+    ensures { result ≡ first_of B work.now n wanted.now }
 {
-    let link = link_bytes(bytes);
-    let start = heads_start(work.len(), bytes, link);
-    let c = head_count(work.len(), start, link);
+    let start = heads_start::<B, L>(work.len());
+    let c = head_count::<L>(work.len(), start);
     if c == 0 {
         return n;
     }
     let j = bucket(work, c, wanted);
-    number(work, start + j * link, link)
+    number_of::<L>(work, start + j * L)
 }
 
 // Stores v in the head of bucket j, where there is one.
-pub fn put_head(work: &mut [u8], link: usize, start: usize, c: usize, j: usize, v: usize)
-    requires { Length link × (0 < c → start + c * link ≤ length work.old) }
-    ensures { work.new ≡ stored_head link work.old start c j v }
+pub fn put_head<const L: usize>(work: &mut [u8], start: usize, c: usize, j: usize, v: usize)
+    requires sized { Length L }
+    requires inside { 0 < c → start + c * L ≤ length work.old }
+    ensures { work.new ≡ stored_head L work.old start c j v }
 {
     if j < c {
-        put_number(work, start + j * link, link, v);
+        put_number_of::<L>(work, start + j * L, v);
     }
 }
 
 // The place of a record among the first n rows, or MISSING: row by row of a bucket whose newest is `first`, and byte by byte from the last, where
 // records differ most often.
-pub fn walk(job: &[u8], work: &[u8], link: usize, n: usize, first: usize, wanted: &[u8]) -> u32
-    requires { Sought link job.now work.now n first wanted.now }
-    ensures { result ≡ place_of wanted.now (kept_as link job.now work.now n) }
+pub fn walk<const L: usize>(job: &[u8], work: &[u8], n: usize, first: usize, wanted: &[u8]) -> u32
+    requires { Sought L job.now work.now n first wanted.now }
+    ensures { result ≡ place_of wanted.now (kept_as L job.now work.now n) }
 {
     let mut held = first;
     'rows: loop {
@@ -185,15 +174,13 @@ pub fn walk(job: &[u8], work: &[u8], link: usize, n: usize, first: usize, wanted
             break MISSING;
         }
         let row = held - 1;
-        let at = offset_as(work, link, row);
-        held = link_at(work, link, row);
-        if number(job, at, Term::NUMBER_BYTES) + Term::NUMBER_BYTES != wanted.len() {
+        let at = offset_as::<L>(work, row);
+        held = link_at::<L>(work, row);
+        if number_of::<{ Term::NUMBER_BYTES }>(job, at) + Term::NUMBER_BYTES != wanted.len() {
             continue 'rows;
         }
-        let mut left = wanted.len();
-        while 0 < left {
-            left -= 1;
-            if job[at + left] != wanted[left] {
+        for i in (0..wanted.len()).rev() {
+            if job[at + i] != wanted[i] {
                 continue 'rows;
             }
         }

@@ -3,7 +3,7 @@ ghost use Rattle.std.specs.Prelude.{◌≡◌, ◌≤◌, length};
 ghost use Rattle.table.specs.Promise.{Cleared, carried, Wiped};
 
 use super::buckets::SEED_BYTES;
-use rows::bytes::{number, put_number};
+use rows::bytes::{number_of, put_number_of};
 
 // Sets every byte to zero but the last four, the seed: no row, and no trace of a job.
 pub fn clear(work: &mut [u8])
@@ -13,11 +13,7 @@ pub fn clear(work: &mut [u8])
         return;
     }
     let end = work.len() - SEED_BYTES;
-    let mut i: usize = 0;
-    while i < end {
-        work[i] = 0;
-        i += 1;
-    }
+    work[..end].fill(0);
 }
 
 // Puts the seed, the last four bytes, at the end of the first n too: these are the memory that a job gets.
@@ -28,17 +24,13 @@ pub fn carry_seed(work: &mut [u8], n: usize)
     if n < SEED_BYTES {
         return;
     }
-    let seed = number(work, work.len() - SEED_BYTES, SEED_BYTES);
-    put_number(work, n - SEED_BYTES, SEED_BYTES, seed);
+    let seed = number_of::<SEED_BYTES>(work, work.len() - SEED_BYTES);
+    put_number_of::<SEED_BYTES>(work, n - SEED_BYTES, seed);
 }
 
 // Sets every byte to zero, the seed's too.
 pub fn wipe(work: &mut [u8])
     ensures { Wiped work.old work.new }
 {
-    let mut i: usize = 0;
-    while i < work.len() {
-        work[i] = 0;
-        i += 1;
-    }
+    work.fill(0);
 }

@@ -1,20 +1,21 @@
 -- The form of each kind's body, and the kinds that are unknown.
-use mathlib.Core.Path.{◌≡◌, refl, sym, ap, subst}
+use mathlib.Core.Path.{◌≡◌, refl, subst}
 use mathlib.Core.Bool.{Bool, true, false, ◌&&◌}
 use mathlib.Core.List.{List, [], ◌∷◌}
-use mathlib.Core.Option.{Option, none, some}
+use Rattle.std.specs.Prelude.{Option, None as none, Some as some, Result, Ok, Err}
 use Prim.Native.Nat.{ℕ, zero, suc, ◌+◌, ◌<◌, ◌≤◌}
 use native.Mathlib.Decide.{dec_lt}
 use native.Mathlib.Nat.{add-suc}
 use native.Mathlib.Omega.{arith}
-use lib.Dec.{T, eqb, ltb, eqb→eq, ltb→lt}
+use lib.Dec.{T, ltb, ltb→lt}
 use lib.Ieee.Fits.{and_l, and_r}
 use borrow.Author.Tests.{ne_eqb}
 use Rattle.theory.specs.Kind.{kind}
 use Rattle.theory.specs.Record.{Shape, make, shapes, find_shape, shape_of}
-use Rattle.terms.specs.declared.Form.{Form}
-use Rattle.terms.specs.declared.Form.TheVariants.{Unknown, Known}
-use Rattle.terms.specs.Bodies.{form_of}
+use Rattle.terms.specs.declared.kind.Kind.{Kind}
+use Rattle.terms.specs.declared.kind.Kind.TheVariants as D
+use Rattle.terms.specs.declared.kind.UnknownKind.{UnknownKind}
+use Rattle.terms.specs.Numbered.{shape, number_of, Decodes}
 
 -- ---- a test that holds at n numbers from `low` on
 abbrev tested : ℕ → (ℕ → Bool) → ℕ → Bool
@@ -30,30 +31,51 @@ within (suc n) test low t k h l = go (within n test (suc low) (and_r (test low) 
     go ih (no p) = let e : low ≡ k = omega arith in subst (λ (m : ℕ). T (test m)) e (and_l (test low) _ t)
 
 -- ---- a kind of the table, by its shape
-pub known_shape : (k : ℕ) (s : Shape) → find_shape k shapes ≡ some s → {m : ℕ} → m ≡ k → shape_of m ≡ some s
+pub shape_number : (k : Kind) → shape_of (number_of k) ≡ some (shape k)
 unfolding shape_of
-known_shape k s e h = rw h e
+shape_number D.BoolVar = refl
+shape_number D.BvVar = refl
+shape_number D.Const = refl
+shape_number D.Not = refl
+shape_number D.And = refl
+shape_number D.Or = refl
+shape_number D.Xor = refl
+shape_number D.Equals = refl
+shape_number D.Ite = refl
+shape_number D.BvBitOf = refl
+shape_number D.BvBbTerm = refl
+shape_number D.BvNot = refl
+shape_number D.BvNeg = refl
+shape_number D.BvAnd = refl
+shape_number D.BvOr = refl
+shape_number D.BvXor = refl
+shape_number D.BvAdd = refl
+shape_number D.BvMul = refl
+shape_number D.BvXNor = refl
+shape_number D.BvComp = refl
+shape_number D.BvULt = refl
+shape_number D.BvSLt = refl
+shape_number D.BvShl = refl
+shape_number D.BvLShr = refl
+shape_number D.BvAShr = refl
+shape_number D.BvUDiv = refl
+shape_number D.BvURem = refl
+shape_number D.BvConcat = refl
+shape_number D.BvExtract = refl
+shape_number D.SignExtend = refl
+shape_number D.ZeroExtend = refl
+shape_number D.RotateLeft = refl
+shape_number D.RotateRight = refl
+shape_number D.Repeat = refl
 
-pub known_form : (k : ℕ) (s : Shape) → find_shape k shapes ≡ some s → {m : ℕ} → m ≡ k → form_of (some s) ≡ form_of (shape_of m)
-known_form k s e h = ap form_of (sym (known_shape k s e h))
+-- the number was that kind's
+pub known_kind : (n : ℕ) {k : Kind} (r : Result Kind UnknownKind) → r ≡ Ok k → Decodes n r → shape_of n ≡ some (shape k)
+known_kind n {k} r e d = subst (λ (m : ℕ). shape_of m ≡ some (shape k)) (subst (Decodes n) e d) (shape_number k)
 
--- ---- kinds in a row with one form
-abbrev is_form : ℕ → ℕ → ℕ → Form → Bool
-is_form f l m Unknown = false
-is_form f l m (Known a b c) = eqb f a && (eqb l b && eqb m c)
-
-form_is : (f l m : ℕ) (x : Form) → T (is_form f l m x) → Known f l m ≡ x
-form_is f l m Unknown t = absurd t
-form_is f l m (Known a b c) t =
-    let p = eqb→eq f a (and_l (eqb f a) _ t) in
-    let r = and_r (eqb f a) _ t in
-    let q = eqb→eq l b (and_l (eqb l b) _ r) in
-    let s = eqb→eq m c (and_r (eqb l b) _ r) in
-    cc
-
-pub known_row : (low n f l m : ℕ) → T (tested n (λ k. is_form f l m (form_of (find_shape k shapes))) low) → {k : ℕ} → low ≤ k → k < low + n → Known f l m ≡ form_of (shape_of k)
-unfolding shape_of
-known_row low n f l m t {k} h g = form_is f l m (form_of (shape_of k)) (within n (λ j. is_form f l m (form_of (find_shape j shapes))) low t k h g)
+-- and where it was none's
+pub unknown_kind : (n : ℕ) (r : Result Kind UnknownKind) → ((k : Kind) → r ≡ Ok k → ⊥) → Decodes n r → shape_of n ≡ none
+unknown_kind n (Ok k) f d = absurd (f k refl)
+unknown_kind n (Err e) f d = d
 
 -- ---- unknown kinds
 abbrev is_none : Option Shape → Bool
@@ -132,3 +154,15 @@ none_below_40 {k} h r =
     go : Rest 10 3 k (Unit {0}) → Dec (k < 20) → shape_of k ≡ none
     go t (yes p) = none_low p t.0.0.1 t.0.1 t.1
     go t (no p) = none_middle (passed 20 6 (Rest 10 3 k (Unit {0})) (not_below k 20 p) r.0.0).1 h r.0.1 r.1
+
+-- k is no number of a kind
+pub none_left : {k : ℕ} → Rest 60 4 k (Rest 40 19 k (Rest 30 2 k (Rest 20 6 k (Rest 10 3 k (Unit {0}))))) → shape_of k ≡ none
+none_left {k} r = go (dec_lt k 40)
+  where
+    go : Dec (k < 40) → shape_of k ≡ none
+    go (yes p) = none_below_40 p (before 19 r.0.0.0.0)
+      where
+        before : (n : ℕ) {t : Type 0} → Rest 40 n k t → t
+        before zero h = h
+        before (suc n) h = before n h.0
+    go (no p) = none_over (passed 40 19 _ (not_below k 40 p) r.0.0.0.0).1 r.0.0.0.1 r.0.0.1 r.0.1 r.1

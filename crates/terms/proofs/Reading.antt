@@ -1,8 +1,8 @@
 -- Where a record ends, and which of its readings holds.
-use mathlib.Core.Path.{◌≡◌, refl, sym, ap, ap₂, ◌∙◌}
+use mathlib.Core.Path.{◌≡◌, refl, sym, ap, ap₂, subst, ◌∙◌}
 use mathlib.Core.Bool.{Bool, true, false, ◌&&◌, cond}
 use mathlib.Core.List.{List, [], ◌∷◌}
-use mathlib.Core.Option.{Option, none, some}
+use Rattle.std.specs.Prelude.{Option, None as none, Some as some}
 use Prim.Native.Nat.{ℕ, ◌+◌, ◌-◌, ◌*◌, ◌/◌, ◌%◌, ◌<◌, ◌≤◌}
 use native.Mathlib.Omega.{arith}
 use lib.Dec.{leb, eqb, leb-zero}
@@ -11,15 +11,21 @@ use lib.Seq.{drop-drop, take-take}
 use borrow.Author.Tests.{le-leb, lt-leb, eq-eqb, ne_eqb, leb-true, leb-false, eqb-true}
 use Rattle.theory.specs.Limit.{number_bytes, max_arguments}
 use Rattle.theory.specs.Kind.{Arity, exactly, many, arity, takes}
-use Rattle.theory.specs.Record.{Bytes, little_endian, word, words, extent, whole, kind_of, body_of, fits, arguments, step, chain, back, unknown, misfit, premise_count, chain_front, chain_fits, Shape, plain, indexed, twice_indexed, valued, front, make, shapes, find_shape, shape_of, read, read_term, read_step, read_chain, read_back}
-use Rattle.terms.specs.declared.Frame.TheVariants.{Broken, Whole as Ends}
-use Rattle.terms.specs.declared.Form.TheVariants.{Unknown, Known}
+use Rattle.theory.specs.Record.{Bytes, little_endian, word, words, extent, whole, kind_of, body_of, fits, arguments, step, chain, back, unknown, misfit, premise_count, chain_front, chain_fits, Shape, plain, indexed, twice_indexed, valued, make, shapes, find_shape, shape_of, read, read_term, read_step, read_chain, read_back}
+use Rattle.std.specs.Prelude.{None as Broken, Some as Ends}
 use Rattle.terms.specs.Framing.{part, record_at, frame_of}
-use Rattle.terms.specs.Bodies.{form_of, front_of, sized, fitting, made, least, most}
+use Rattle.terms.specs.declared.kind.Form.{Form}
+use Rattle.terms.specs.declared.kind.Kind.{Kind}
+use Rattle.terms.specs.Bodies.{form_of, sized, fitting, made, least, most}
+use Rattle.terms.specs.Numbered.{shape, number_of}
 use Rattle.terms.proofs.Parts.{both, drop_take, word_take, words_take, length_part, whole_parts}
 use Rattle.terms.proofs.Arms.{Sized, sized_whole}
+use Rattle.terms.proofs.Forms.{shape_number}
 
 -- ---- where a record ends
+pub length_after : (n : ℕ) (bs : Bytes) → length (drop n bs) ≡ length bs - n
+length_after n bs = length-drop n bs
+
 module _ (bs : Bytes) where
   pub frame_short : length bs < number_bytes → Broken ≡ frame_of bs
   unfolding frame_of
@@ -102,55 +108,45 @@ find_steady k (s ∷ ss) h = go (eqb _ k) (find_steady k ss (steady_split s ss h
     go true ih = (steady_split s ss h).0
     go false ih = ih
 
-pub steady_of : (k : ℕ) → IfSome Steady (shape_of k)
+steady_of : (k : ℕ) → IfSome Steady (shape_of k)
 unfolding shape_of
 steady_of k = find_steady k shapes (λ b. refl, (λ b. refl, (λ b. refl, (λ b. refl, (λ b. refl, (λ b. refl, (λ b. refl, (λ b. refl, (λ b. refl, (λ b. refl, tt))))))))))
 
-fits_of : (c : ℕ) (s : Shape) → Steady s → (b : Bytes) {size : ℕ} → length b ≡ size
-    → sized c size (front s) (least (arity (make s []))) (most (arity (make s []))) ≡ fits c (front s) (takes (arity (make s b))) b
-fits_of c s h b e = rw (← e, h b, between (arity (make s [])))
+steady_kind : (k : Kind) → Steady (shape k)
+steady_kind k = subst (IfSome Steady) (shape_number k) (steady_of (number_of k))
 
 -- ---- a kind's body, by its form
-module _ (c : ℕ) (o : Option Shape) (h : IfSome Steady o) (b : Bytes) {size : ℕ} (e : length b ≡ size) where
-  pub test_of : {f l m : ℕ} → Known f l m ≡ form_of o → sized c size f l m ≡ fitting c o b
-  test_of g = go o h g
-    where
-      go : (q : Option Shape) → IfSome Steady q → {f l m : ℕ} → Known f l m ≡ form_of q → sized c size f l m ≡ fitting c q b
-      go none k {f} {l} {m} d = absurd (let z : ◌≡◌ {A = ℕ} 0 1 = cc in omega arith)
-      go (some s) k {f} {l} {m} d =
-          let x : f ≡ front s = cc in
-          let y : l ≡ least (arity (make s [])) = cc in
-          let z : m ≡ most (arity (make s [])) = cc in
-          rw (x, y, z) (fits_of c s k b e)
+-- what the test of length says of the body
+pub test_of : (c size : ℕ) {f : Form} {r w : Bool} (k : Kind) (b : Bytes) → r ≡ sized c size f → f ≡ form_of (shape k) → length b ≡ size → r ≡ w
+    → fitting c (shape k) b ≡ w
+test_of c size k b e g l t =
+    let m : sized c size (form_of (shape k)) ≡ fitting c (shape k) b = rw (← l, steady_kind k b, between (arity (make (shape k) []))) in
+    sym (e ∙ ap (sized c size) g ∙ m) ∙ t
 
--- the bytes before the arguments, by a form that is known
-pub known_front : (o : Option Shape) {f l m : ℕ} → Known f l m ≡ form_of o → f ≡ front_of o
-known_front none g = absurd (let z : ◌≡◌ {A = ℕ} 0 1 = cc in omega arith)
-known_front (some s) g = cc
+-- what a body says, where its number has no shape, where it does not fit, and where it does
+pub term_unknown : (c : ℕ) {o : Option Shape} → o ≡ none → (b : Bytes) → unknown ≡ read_term c o b
+term_unknown c e b = rw e
 
-pub form_unknown : (c : ℕ) (o : Option Shape) → Unknown ≡ form_of o → (b : Bytes) → unknown ≡ read_term c o b
-form_unknown c none e b = refl
-form_unknown c (some s) e b = absurd (let z : ◌≡◌ {A = ℕ} 0 1 = cc in omega arith)
+module _ (c : ℕ) {o : Option Shape} {s : Shape} (e : o ≡ some s) (b : Bytes) where
+  pub term_misfit : fitting c s b ≡ false → misfit ≡ read_term c o b
+  term_misfit f = rw (e, f)
 
-pub term_fits : (c : ℕ) (o : Option Shape) (b : Bytes) → fitting c o b ≡ true → made c o b ≡ read_term c o b
-term_fits c none b e = refl
-term_fits c (some s) b e = rw e
-
--- a form is known, so there is a shape
-pub term_misfit : (c : ℕ) (o : Option Shape) (b : Bytes) {f l m : ℕ} → Known f l m ≡ form_of o → fitting c o b ≡ false → misfit ≡ read_term c o b
-term_misfit c none b g e = absurd (let z : ◌≡◌ {A = ℕ} 0 1 = cc in omega arith)
-term_misfit c (some s) b g e = rw e
+  pub term_fits : fitting c s b ≡ true → made c s b ≡ read_term c o b
+  term_fits f = rw (e, f)
 
 -- ---- a step's body
-step_test : (c : ℕ) (b : Bytes) {size : ℕ} → length b ≡ size → sized c size number_bytes 0 max_arguments ≡ fits c number_bytes (λ n. leb n max_arguments) b
+abbrev step_form : Form
+step_form = record { front = number_bytes; least = 0; most = max_arguments }
+
+step_test : (c : ℕ) (b : Bytes) {size : ℕ} → length b ≡ size → sized c size step_form ≡ fits c number_bytes (λ n. leb n max_arguments) b
 step_test c b e = rw (← e, leb-zero)
 
 module _ (c : ℕ) (job : Bytes) (body size : ℕ) (h : body + size ≤ length job) where
-  pub step_misfit : sized c size number_bytes 0 max_arguments ≡ false → misfit ≡ read_step c (part job body size)
+  pub step_misfit : sized c size step_form ≡ false → misfit ≡ read_step c (part job body size)
   step_misfit e = rw (sym (step_test c (part job body size) (length_part job body size h)) ∙ e)
 
   -- the literals lie in the body, and are not too many
-  pub step_sizes : sized c size number_bytes 0 max_arguments ≡ true → Sized c number_bytes size × ((size - number_bytes) / c ≤ max_arguments)
+  pub step_sizes : sized c size step_form ≡ true → Sized c number_bytes size × ((size - number_bytes) / c ≤ max_arguments)
   step_sizes e =
       let p = both (leb number_bytes size) _ e in
       let q = both (eqb ((size - number_bytes) % c) 0) _ p.1 in
@@ -158,10 +154,10 @@ module _ (c : ℕ) (job : Bytes) (body size : ℕ) (h : body + size ≤ length j
       (record { long = leb-true number_bytes size p.0; even = eqb-true ((size - number_bytes) % c) 0 q.0 }, leb-true _ max_arguments r.1)
 
   -- and end where it does
-  pub step_end : sized c size number_bytes 0 max_arguments ≡ true → body + number_bytes + c * ((size - number_bytes) / c) ≤ length job
+  pub step_end : sized c size step_form ≡ true → body + number_bytes + c * ((size - number_bytes) / c) ≤ length job
   step_end e = let w = sized_whole (step_sizes e).0 in omega arith
 
-  pub step_fits : sized c size number_bytes 0 max_arguments ≡ true → {n : ℕ} → n ≡ word (drop body job)
+  pub step_fits : sized c size step_form ≡ true → {n : ℕ} → n ≡ word (drop body job)
       → step n (words c ((size - number_bytes) / c) (drop (body + number_bytes) job)) ≡ read_step c (part job body size)
   step_fits e {n} f =
       let b = part job body size in

@@ -2,3 +2,4 @@
 pub mod Framing
 pub mod Decoded
 pub mod Bodies
+pub mod Numbered

@@ -1,6 +1,7 @@
 // A job's bytes as decoded records: the numbers in them, where a record ends, and what it says.
-#![tactic(auto)]
+#![tactic(auto, using(std::proofs::lemmas::Bool::Decides::nat_tests))]
 
+pub mod kind;
 pub mod refusal;
 pub mod stop;
 
@@ -10,7 +11,11 @@ ghost use Rattle.theory.specs.Record.{little_endian, word, whole, shape_of, read
 ghost use Rattle.theory.specs.Codes.{all_below};
 ghost use Rattle.terms.specs.Framing.{part, record_at, frame_of};
 ghost use Rattle.terms.specs.Decoded.{Inside, OperandsPlaced, Placed, Says, words_in, item_of, head_of, operands_of, arguments_of};
-ghost use Rattle.terms.specs.Bodies.{Body, Length, form_of, sized, made};
+ghost use Rattle.terms.specs.Bodies.{Body, Length, made};
+ghost use Rattle.terms.specs.Numbered.{shape};
+ghost use Rattle.terms.specs.declared.Item.TheVariants as I;
+
+use kind::{Form, Kind};
 
 // The bytes of the shorter answer: its length, its kind, a rule, a code and a depth, which has as many bytes as a term's number.
 pub const ANSWER_BYTES: usize = 5 * Term::NUMBER_BYTES;
@@ -100,11 +105,16 @@ pub struct Head {
     pub second: u64,
 }
 
-// What stands at a place of a job: no whole record, or a record of so many bytes.
-#[derive(Clone, Copy)]
-pub enum Frame {
-    Broken,
-    Whole(usize),
+impl Head {
+    fn new(kind: u32, first: u32, second: u64) -> Head
+        ensures { result ≡ record { kind = kind; first = first; second = second } }
+    {
+        Head {
+            kind,
+            first,
+            second,
+        }
+    }
 }
 
 // What a record says: a term, a step's rule and literals, a chain's rule, premises and literal, a back's count, or why it can't be read.
@@ -118,20 +128,6 @@ pub enum Item {
     Unknown,
     // a body that has not the kind's length
     Misfit,
-}
-
-// The body of a kind: so many bytes of numbers in front, then from a least to a greatest number of arguments.
-#[derive(Clone, Copy)]
-pub enum Form {
-    Unknown,
-    Known(usize, usize, usize),
-}
-
-// A byte as a wide number.
-fn wide(x: u8) -> u64
-    ensures { (result ≡ x) × (result < 256) }
-{
-    x as u64
 }
 
 impl Term {
@@ -151,18 +147,19 @@ impl Term {
     pub const LONG_KIND: u8 = 103;
     // bytes of a constant's value
     pub const VALUE_BYTES: usize = 8;
+    // where a record's kind stands in it, after its length
+    pub const KIND_AT: usize = Term::NUMBER_BYTES;
+    // where its body stands
+    pub const BODY_AT: usize = 2 * Term::NUMBER_BYTES;
 
     // Byte i after the place `at`, or 0 past the end.
     fn byte(s: &[u8], at: usize, i: usize) -> u64
         ensures { (result ≡ get_or (drop at s.now) i 0) × (result < 256) }
     {
-        if s.len() <= at {
+        if s.len() <= at || s.len() - at <= i {
             return 0;
         }
-        if s.len() - at <= i {
-            return 0;
-        }
-        wide(s[at + i])
+        u64::from(s[at + i])
     }
 
     // The number in the n bytes from `at` on, lowest byte first.
@@ -171,9 +168,7 @@ impl Term {
         ensures { (result ≡ little_endian (take n (drop at s.now))) × (result < 256 ^ n) }
     {
         let mut x: u64 = 0;
-        let mut i = n;
-        while 0 < i {
-            i -= 1;
+        for i in (0..n).rev() {
             x = 256 * x + Term::byte(s, at, i);
         }
         x
@@ -185,13 +180,10 @@ impl Term {
         ensures bound { result < 256 ^ number_bytes }
     {
         // Two bytes that are there are read at once, since every record is read by this; the others one by one.
-        if s.len() < Term::NUMBER_BYTES {
+        if s.len() < Term::NUMBER_BYTES || s.len() - Term::NUMBER_BYTES < at {
             return Term::bytes(s, at, Term::NUMBER_BYTES) as u32;
         }
-        if s.len() - Term::NUMBER_BYTES < at {
-            return Term::bytes(s, at, Term::NUMBER_BYTES) as u32;
-        }
-        (wide(s[at]) + 256 * wide(s[at + 1])) as u32
+        (u64::from(s[at]) + 256 * u64::from(s[at + 1])) as u32
     }
 
     // The term's number at `at`, of so many bytes.
@@ -205,20 +197,20 @@ impl Term {
         Term::bytes(s, at, bytes) as u32
     }
 
-    // The bytes of a term's number in a job: four where it begins with 02 00 67 00, the record of kind 103 with no body, else two.
+    // The bytes of a term's number in a job: four where it begins with 02 00 67 00, the record of
+    // kind 103 with no body, else two.
+    #[tactic(auto, using(std::proofs::lemmas::Bool::Decides::nat_tests, crate::proofs::Numbers::not_long, crate::proofs::Numbers::is_long))]
     pub fn number_length(job: &[u8]) -> usize
         ensures { result ≡ number_length job.now }
     {
-        if job.len() < 2 * Term::NUMBER_BYTES {
-            return Term::NUMBER_BYTES;
+        let is_long = 2 * Term::NUMBER_BYTES <= job.len()
+            && Term::number(job, 0) == 2
+            && Term::number(job, Term::NUMBER_BYTES) == u32::from(Term::LONG_KIND);
+        if is_long {
+            Term::LONG_BYTES
+        } else {
+            Term::NUMBER_BYTES
         }
-        if Term::number(job, 0) != 2 {
-            return Term::NUMBER_BYTES;
-        }
-        if Term::number(job, Term::NUMBER_BYTES) != Term::LONG_KIND as u32 {
-            return Term::NUMBER_BYTES;
-        }
-        Term::LONG_BYTES
     }
 
     // The greatest number of terms, `True` and `False` counted, by the bytes of a term's number.
@@ -239,216 +231,119 @@ impl Term {
         Term::bytes(s, at, Term::VALUE_BYTES)
     }
 
-    // What stands at the place `at` of a job.
-    pub fn frame(job: &[u8], at: usize) -> Frame
+    // The bytes of the whole record at the place `at` of a job, if one stands there.
+    #[tactic(auto, using(std::proofs::lemmas::Bool::Decides::nat_tests, crate::proofs::Reading::length_after), unfolding(crate::specs::Framing::frame_of))]
+    pub fn frame(job: &[u8], at: usize) -> Option<usize>
         ensures { result ≡ frame_of (drop at job.now) }
     {
         if job.len() <= at {
-            return Frame::Broken;
+            return None;
         }
         let left = job.len() - at;
         if left < Term::NUMBER_BYTES {
-            return Frame::Broken;
+            return None;
         }
         let size = Term::number(job, at) as usize;
-        if size < Term::NUMBER_BYTES {
-            return Frame::Broken;
+        if size < Term::NUMBER_BYTES || left - Term::NUMBER_BYTES < size {
+            return None;
         }
-        if left < Term::NUMBER_BYTES + size {
-            return Frame::Broken;
-        }
-        Frame::Whole(Term::NUMBER_BYTES + size)
+        Some(Term::NUMBER_BYTES + size)
     }
 
-    // The form of a kind's body, by document 01's table of kinds.
-    fn form(kind: u32) -> Form
-        ensures { result ≡ form_of (shape_of kind) }
+    // A term of a kind, from a body that fits it: `front` bytes of indices, then arguments. Past
+    // the end a byte is 0.
+    fn of_kind(job: &[u8], kind: Kind, body: usize, size: usize, front: usize, bytes: usize) -> Term
+        requires { Body bytes job.now (shape kind) body size front }
+        ensures { Says job.now (I.Term result) (made bytes (shape kind) (part job.now body size)) }
     {
-        match kind {
-            10 => Form::Known(Term::NUMBER_BYTES, 0, 0),
-            11 => Form::Known(2 * Term::NUMBER_BYTES, 0, 0),
-            12 => Form::Known(Term::NUMBER_BYTES + Term::VALUE_BYTES, 0, 0),
-            20 => Form::Known(0, 1, 1),
-            21..=22 => Form::Known(0, 1, Term::MAX_ARGUMENTS),
-            23..=24 => Form::Known(0, 2, 2),
-            25 => Form::Known(0, 3, 3),
-            30 => Form::Known(Term::NUMBER_BYTES, 1, 1),
-            31 => Form::Known(0, 1, Term::MAX_ARGUMENTS),
-            40..=41 => Form::Known(0, 1, 1),
-            42..=46 => Form::Known(0, 1, Term::MAX_ARGUMENTS),
-            47..=55 => Form::Known(0, 2, 2),
-            56 => Form::Known(0, 1, Term::MAX_ARGUMENTS),
-            57 => Form::Known(2 * Term::NUMBER_BYTES, 1, 1),
-            58 => Form::Known(Term::NUMBER_BYTES, 1, 1),
-            60 => Form::Known(Term::NUMBER_BYTES, 1, 1),
-            61 => Form::Known(Term::NUMBER_BYTES, 1, 1),
-            62 => Form::Known(Term::NUMBER_BYTES, 1, 1),
-            63 => Form::Known(Term::NUMBER_BYTES, 1, 1),
-            _ => Form::Unknown,
-        }
-    }
-
-    // How many numbers of so many bytes fit into a size: by a constant where they are short, since a division by one that is not known takes several
-    // times as long.
-    fn count_in(size: usize, bytes: usize) -> usize
-        requires { Length bytes }
-        ensures { result ≡ size / bytes }
-    {
-        if bytes == Term::NUMBER_BYTES {
-            return size / Term::NUMBER_BYTES;
-        }
-        size / bytes
-    }
-
-    // How many bytes are left after these numbers.
-    fn left_in(size: usize, bytes: usize) -> usize
-        requires { Length bytes }
-        ensures { result ≡ size % bytes }
-    {
-        if bytes == Term::NUMBER_BYTES {
-            return size % Term::NUMBER_BYTES;
-        }
-        size % bytes
-    }
-
-    // Is a body of `size` bytes `front` bytes and then from `least` to `most` arguments of so many bytes?
-    fn fits(size: usize, front: usize, least: usize, most: usize, bytes: usize) -> bool
-        requires { Length bytes }
-        ensures { result ≡ sized bytes size front least most }
-    {
-        if size < front {
-            return false;
-        }
-        let rest = size - front;
-        if Term::left_in(rest, bytes) != 0 {
-            return false;
-        }
-        let count = Term::count_in(rest, bytes);
-        if count < least {
-            return false;
-        }
-        count <= most
-    }
-
-    // A term of a kind below 40, from a body that fits its kind: `front` bytes of indices, then arguments. Past the end a byte is 0.
-    fn core_term(
-        job: &[u8],
-        kind: u32,
-        body: usize,
-        size: usize,
-        front: usize,
-        bytes: usize,
-    ) -> Item
-        requires { Body bytes job.now kind body size front × (kind < 40) }
-        ensures { Says job.now result (made bytes (shape_of kind) (part job.now body size)) }
-    {
+        let second = body + Term::NUMBER_BYTES;
         let first = body + front;
         let x = Term::place(job, first, bytes);
         let y = Term::place(job, first + bytes, bytes);
         let list = Args {
             at: body,
-            count: Term::count_in(size, bytes),
-            bytes: bytes,
+            count: Form::count_in(size, bytes),
+            bytes,
         };
         match kind {
-            10 => Item::Term(Term::BoolVar(Term::number(job, body))),
-            11 => Item::Term(Term::BvVar(
+            Kind::BoolVar => Term::BoolVar(Term::number(job, body)),
+            Kind::BvVar => Term::BvVar(Term::number(job, body), Term::number(job, second)),
+            Kind::Const => Term::Const(Term::number(job, body), Term::value(job, second)),
+            Kind::Not => Term::Not(x),
+            Kind::And => Term::And(list),
+            Kind::Or => Term::Or(list),
+            Kind::Xor => Term::Xor(x, y),
+            Kind::Equals => Term::Equals(x, y),
+            Kind::Ite => Term::Ite(x, y, Term::place(job, first + 2 * bytes, bytes)),
+            Kind::BvBitOf => Term::BvBitOf(Term::number(job, body), x),
+            Kind::BvBbTerm => Term::BvBbTerm(list),
+            Kind::BvNot => Term::BvNot(x),
+            Kind::BvNeg => Term::BvNeg(x),
+            Kind::BvAnd => Term::BvAnd(list),
+            Kind::BvOr => Term::BvOr(list),
+            Kind::BvXor => Term::BvXor(list),
+            Kind::BvAdd => Term::BvAdd(list),
+            Kind::BvMul => Term::BvMul(list),
+            Kind::BvXNor => Term::BvXNor(x, y),
+            Kind::BvComp => Term::BvComp(x, y),
+            Kind::BvULt => Term::BvULt(x, y),
+            Kind::BvSLt => Term::BvSLt(x, y),
+            Kind::BvShl => Term::BvShl(x, y),
+            Kind::BvLShr => Term::BvLShr(x, y),
+            Kind::BvAShr => Term::BvAShr(x, y),
+            Kind::BvUDiv => Term::BvUDiv(x, y),
+            Kind::BvURem => Term::BvURem(x, y),
+            Kind::BvConcat => Term::BvConcat(list),
+            Kind::BvExtract => Term::BvExtract(
                 Term::number(job, body),
-                Term::number(job, body + Term::NUMBER_BYTES),
-            )),
-            12 => Item::Term(Term::Const(
-                Term::number(job, body),
-                Term::value(job, body + Term::NUMBER_BYTES),
-            )),
-            20 => Item::Term(Term::Not(x)),
-            21 => Item::Term(Term::And(list)),
-            22 => Item::Term(Term::Or(list)),
-            23 => Item::Term(Term::Xor(x, y)),
-            24 => Item::Term(Term::Equals(x, y)),
-            25 => Item::Term(Term::Ite(x, y, Term::place(job, first + 2 * bytes, bytes))),
-            30 => Item::Term(Term::BvBitOf(Term::number(job, body), x)),
-            31 => Item::Term(Term::BvBbTerm(list)),
-            _ => Item::Unknown,
-        }
-    }
-
-    // A term of a kind from 40 on, from a body that fits its kind.
-    fn bv_term(job: &[u8], kind: u32, body: usize, size: usize, front: usize, bytes: usize) -> Item
-        requires { Body bytes job.now kind body size front × (40 ≤ kind) }
-        ensures { Says job.now result (made bytes (shape_of kind) (part job.now body size)) }
-    {
-        let first = body + front;
-        let x = Term::place(job, first, bytes);
-        let y = Term::place(job, first + bytes, bytes);
-        let list = Args {
-            at: body,
-            count: Term::count_in(size, bytes),
-            bytes: bytes,
-        };
-        match kind {
-            40 => Item::Term(Term::BvNot(x)),
-            41 => Item::Term(Term::BvNeg(x)),
-            42 => Item::Term(Term::BvAnd(list)),
-            43 => Item::Term(Term::BvOr(list)),
-            44 => Item::Term(Term::BvXor(list)),
-            45 => Item::Term(Term::BvAdd(list)),
-            46 => Item::Term(Term::BvMul(list)),
-            47 => Item::Term(Term::BvXNor(x, y)),
-            48 => Item::Term(Term::BvComp(x, y)),
-            49 => Item::Term(Term::BvULt(x, y)),
-            50 => Item::Term(Term::BvSLt(x, y)),
-            51 => Item::Term(Term::BvShl(x, y)),
-            52 => Item::Term(Term::BvLShr(x, y)),
-            53 => Item::Term(Term::BvAShr(x, y)),
-            54 => Item::Term(Term::BvUDiv(x, y)),
-            55 => Item::Term(Term::BvURem(x, y)),
-            56 => Item::Term(Term::BvConcat(list)),
-            57 => Item::Term(Term::BvExtract(
-                Term::number(job, body),
-                Term::number(job, body + Term::NUMBER_BYTES),
+                Term::number(job, second),
                 x,
-            )),
-            58 => Item::Term(Term::SignExtend(Term::number(job, body), x)),
-            60 => Item::Term(Term::ZeroExtend(Term::number(job, body), x)),
-            61 => Item::Term(Term::RotateLeft(Term::number(job, body), x)),
-            62 => Item::Term(Term::RotateRight(Term::number(job, body), x)),
-            63 => Item::Term(Term::Repeat(Term::number(job, body), x)),
-            _ => Item::Unknown,
+            ),
+            Kind::SignExtend => Term::SignExtend(Term::number(job, body), x),
+            Kind::ZeroExtend => Term::ZeroExtend(Term::number(job, body), x),
+            Kind::RotateLeft => Term::RotateLeft(Term::number(job, body), x),
+            Kind::RotateRight => Term::RotateRight(Term::number(job, body), x),
+            Kind::Repeat => Term::Repeat(Term::number(job, body), x),
         }
     }
 
-    // What a record of that kind says that is no step and no back. Its body is the `size` bytes from `body` on.
-    fn read_term(job: &[u8], kind: u32, body: usize, size: usize, bytes: usize) -> Item
-        requires { (body + size ≤ length job.now) × Length bytes }
+    // What a record says whose kind has that number, and is no step's, no chain's and no back's.
+    // Its body is the `size` bytes from `body` on.
+    fn read_term(job: &[u8], number: u32, body: usize, size: usize, bytes: usize) -> Item
+        requires inside { body + size ≤ length job.now }
+        requires sized { Length bytes }
         ensures { Says job.now result
-            (read_term bytes (shape_of kind) (part job.now body size)) }
+            (read_term bytes (shape_of number) (part job.now body size)) }
     {
-        let Form::Known(front, least, most) = Term::form(kind) else {
+        let Ok(kind) = Kind::try_from(number) else {
             return Item::Unknown;
         };
-        if !Term::fits(size, front, least, most, bytes) {
+        let form = kind.form();
+        if !form.fits(size, bytes) {
             return Item::Misfit;
         }
-        if kind < 40 {
-            Term::core_term(job, kind, body, size, front, bytes)
-        } else {
-            Term::bv_term(job, kind, body, size, front, bytes)
-        }
+        Item::Term(Term::of_kind(job, kind, body, size, form.front, bytes))
     }
 
     // What a step with that body says.
     fn read_step(job: &[u8], body: usize, size: usize, bytes: usize) -> Item
-        requires { (body + size ≤ length job.now) × Length bytes }
+        requires inside { body + size ≤ length job.now }
+        requires sized { Length bytes }
         ensures { Says job.now result (read_step bytes (part job.now body size)) }
     {
-        if !Term::fits(size, Term::NUMBER_BYTES, 0, Term::MAX_ARGUMENTS, bytes) {
+        let form = Form {
+            front: Term::NUMBER_BYTES,
+            least: 0,
+            most: Term::MAX_ARGUMENTS,
+        };
+        if !form.fits(size, bytes) {
             return Item::Misfit;
         }
         let rule = Term::number(job, body);
         let literals = Args {
             at: body + Term::NUMBER_BYTES,
             count: (size - Term::NUMBER_BYTES) / bytes,
-            bytes: bytes,
+            bytes,
         };
         Item::Step(rule, literals)
     }
@@ -456,7 +351,8 @@ impl Term {
     // What a chain with that body says: its rule, the number of its premises, from 1 to 64, the premises, which are places of steps and so numbers
     // of two bytes, and one literal.
     fn read_chain(job: &[u8], body: usize, size: usize, bytes: usize) -> Item
-        requires { (body + size ≤ length job.now) × Length bytes }
+        requires inside { body + size ≤ length job.now }
+        requires sized { Length bytes }
         ensures { Says job.now result (read_chain bytes (part job.now body size)) }
     {
         if size < 2 * Term::NUMBER_BYTES {
@@ -476,7 +372,7 @@ impl Term {
         }
         let premises = Args {
             at: body + 2 * Term::NUMBER_BYTES,
-            count: count,
+            count,
             bytes: Term::NUMBER_BYTES,
         };
         Item::Chain(rule, premises, Term::place(job, body + end, bytes))
@@ -484,7 +380,8 @@ impl Term {
 
     // What a back with that body says.
     fn read_back(job: &[u8], body: usize, size: usize, bytes: usize) -> Item
-        requires { (body + size ≤ length job.now) × Length bytes }
+        requires inside { body + size ≤ length job.now }
+        requires sized { Length bytes }
         ensures { Says job.now result (read_back bytes (part job.now body size)) }
     {
         if size != bytes {
@@ -496,7 +393,8 @@ impl Term {
     // What the whole record at `at` says, where the numbers of terms have so many bytes: 100 is a step, 101 a back, 104 a chain, and any other kind
     // a term or unknown.
     pub fn read_as(job: &[u8], at: usize, bytes: usize) -> Item
-        requires { (whole (drop at job.now) ≡ true) × Length bytes }
+        requires whole { whole (drop at job.now) ≡ true }
+        requires sized { Length bytes }
         ensures says { item_of job.now result ≡ read bytes (record_at job.now at) }
         ensures placed { Placed job.now result }
     {
@@ -530,19 +428,19 @@ impl Term {
         let bytes = list.bytes;
         let at = start + bytes * i;
         // Byte by byte: a loop over so few is several times as long, in every caller.
-        let one = wide(job[at]);
+        let one = u64::from(job[at]);
         if bytes == 1 {
             return one as u32;
         }
-        let two = one + 256 * wide(job[at + 1]);
+        let two = one + 256 * u64::from(job[at + 1]);
         if bytes == 2 {
             return two as u32;
         }
-        let three = two + 65536 * wide(job[at + 2]);
+        let three = two + 65536 * u64::from(job[at + 2]);
         if bytes == 3 {
             return three as u32;
         }
-        (three + 16777216 * wide(job[at + 3])) as u32
+        (three + 16777216 * u64::from(job[at + 3])) as u32
     }
 
     // Is each number of a list below n?
@@ -550,13 +448,10 @@ impl Term {
         requires { Inside job.now list }
         ensures { result ≡ all_below n (words_in job.now list) }
     {
-        let count = list.count;
-        let mut i = 0;
-        while i < count {
+        for i in 0..list.count {
             if n <= Term::argument(job, list, i) {
                 return false;
             }
-            i += 1;
         }
         true
     }
@@ -566,42 +461,24 @@ impl Term {
         ensures { result ≡ operands_of self }
     {
         match self {
-            Term::True => Operands::None,
-            Term::False => Operands::None,
-            Term::BoolVar(_) => Operands::None,
-            Term::BvVar(_, _) => Operands::None,
-            Term::Const(_, _) => Operands::None,
-            Term::Not(x) => Operands::One(x),
-            Term::And(a) => Operands::List(a),
-            Term::Or(a) => Operands::List(a),
-            Term::Xor(x, y) => Operands::Two(x, y),
-            Term::Equals(x, y) => Operands::Two(x, y),
-            Term::Ite(c, x, y) => Operands::Three(c, x, y),
-            Term::BvBitOf(_, x) => Operands::One(x),
-            Term::BvBbTerm(a) => Operands::List(a),
-            Term::BvNot(x) => Operands::One(x),
-            Term::BvNeg(x) => Operands::One(x),
-            Term::BvAnd(a) => Operands::List(a),
-            Term::BvOr(a) => Operands::List(a),
-            Term::BvXor(a) => Operands::List(a),
-            Term::BvAdd(a) => Operands::List(a),
-            Term::BvMul(a) => Operands::List(a),
-            Term::BvXNor(x, y) => Operands::Two(x, y),
-            Term::BvComp(x, y) => Operands::Two(x, y),
-            Term::BvULt(x, y) => Operands::Two(x, y),
-            Term::BvSLt(x, y) => Operands::Two(x, y),
-            Term::BvShl(x, y) => Operands::Two(x, y),
-            Term::BvLShr(x, y) => Operands::Two(x, y),
-            Term::BvAShr(x, y) => Operands::Two(x, y),
-            Term::BvUDiv(x, y) => Operands::Two(x, y),
-            Term::BvURem(x, y) => Operands::Two(x, y),
-            Term::BvConcat(a) => Operands::List(a),
+            Term::True | Term::False => Operands::None,
+            Term::BoolVar(_) | Term::BvVar(_, _) | Term::Const(_, _) => Operands::None,
+            Term::Not(x) | Term::BvNot(x) | Term::BvNeg(x) => Operands::One(x),
+            Term::BvBitOf(_, x) | Term::SignExtend(_, x) | Term::ZeroExtend(_, x) => Operands::One(
+                x,
+            ),
+            Term::RotateLeft(_, x) | Term::RotateRight(_, x) | Term::Repeat(_, x) => Operands::One(
+                x,
+            ),
             Term::BvExtract(_, _, x) => Operands::One(x),
-            Term::SignExtend(_, x) => Operands::One(x),
-            Term::ZeroExtend(_, x) => Operands::One(x),
-            Term::RotateLeft(_, x) => Operands::One(x),
-            Term::RotateRight(_, x) => Operands::One(x),
-            Term::Repeat(_, x) => Operands::One(x),
+            Term::Xor(x, y) | Term::Equals(x, y) | Term::BvXNor(x, y) => Operands::Two(x, y),
+            Term::BvComp(x, y) | Term::BvULt(x, y) | Term::BvSLt(x, y) => Operands::Two(x, y),
+            Term::BvShl(x, y) | Term::BvLShr(x, y) | Term::BvAShr(x, y) => Operands::Two(x, y),
+            Term::BvUDiv(x, y) | Term::BvURem(x, y) => Operands::Two(x, y),
+            Term::Ite(c, x, y) => Operands::Three(c, x, y),
+            Term::And(a) | Term::Or(a) | Term::BvBbTerm(a) | Term::BvConcat(a) => Operands::List(a),
+            Term::BvAnd(a) | Term::BvOr(a) | Term::BvXor(a) => Operands::List(a),
+            Term::BvAdd(a) | Term::BvMul(a) => Operands::List(a),
         }
     }
 
@@ -610,186 +487,42 @@ impl Term {
         ensures { result ≡ head_of self }
     {
         match self {
-            Term::True => Head {
-                kind: 0,
-                first: 0,
-                second: 0,
-            },
-            Term::False => Head {
-                kind: 1,
-                first: 0,
-                second: 0,
-            },
-            Term::BoolVar(x) => Head {
-                kind: 10,
-                first: x,
-                second: 0,
-            },
-            Term::BvVar(n, x) => Head {
-                kind: 11,
-                first: n,
-                second: x as u64,
-            },
-            Term::Const(n, v) => Head {
-                kind: 12,
-                first: n,
-                second: v,
-            },
-            Term::Not(_) => Head {
-                kind: 20,
-                first: 0,
-                second: 0,
-            },
-            Term::And(_) => Head {
-                kind: 21,
-                first: 0,
-                second: 0,
-            },
-            Term::Or(_) => Head {
-                kind: 22,
-                first: 0,
-                second: 0,
-            },
-            Term::Xor(_, _) => Head {
-                kind: 23,
-                first: 0,
-                second: 0,
-            },
-            Term::Equals(_, _) => Head {
-                kind: 24,
-                first: 0,
-                second: 0,
-            },
-            Term::Ite(_, _, _) => Head {
-                kind: 25,
-                first: 0,
-                second: 0,
-            },
-            Term::BvBitOf(i, _) => Head {
-                kind: 30,
-                first: i,
-                second: 0,
-            },
-            Term::BvBbTerm(_) => Head {
-                kind: 31,
-                first: 0,
-                second: 0,
-            },
-            Term::BvNot(_) => Head {
-                kind: 40,
-                first: 0,
-                second: 0,
-            },
-            Term::BvNeg(_) => Head {
-                kind: 41,
-                first: 0,
-                second: 0,
-            },
-            Term::BvAnd(_) => Head {
-                kind: 42,
-                first: 0,
-                second: 0,
-            },
-            Term::BvOr(_) => Head {
-                kind: 43,
-                first: 0,
-                second: 0,
-            },
-            Term::BvXor(_) => Head {
-                kind: 44,
-                first: 0,
-                second: 0,
-            },
-            Term::BvAdd(_) => Head {
-                kind: 45,
-                first: 0,
-                second: 0,
-            },
-            Term::BvMul(_) => Head {
-                kind: 46,
-                first: 0,
-                second: 0,
-            },
-            Term::BvXNor(_, _) => Head {
-                kind: 47,
-                first: 0,
-                second: 0,
-            },
-            Term::BvComp(_, _) => Head {
-                kind: 48,
-                first: 0,
-                second: 0,
-            },
-            Term::BvULt(_, _) => Head {
-                kind: 49,
-                first: 0,
-                second: 0,
-            },
-            Term::BvSLt(_, _) => Head {
-                kind: 50,
-                first: 0,
-                second: 0,
-            },
-            Term::BvShl(_, _) => Head {
-                kind: 51,
-                first: 0,
-                second: 0,
-            },
-            Term::BvLShr(_, _) => Head {
-                kind: 52,
-                first: 0,
-                second: 0,
-            },
-            Term::BvAShr(_, _) => Head {
-                kind: 53,
-                first: 0,
-                second: 0,
-            },
-            Term::BvUDiv(_, _) => Head {
-                kind: 54,
-                first: 0,
-                second: 0,
-            },
-            Term::BvURem(_, _) => Head {
-                kind: 55,
-                first: 0,
-                second: 0,
-            },
-            Term::BvConcat(_) => Head {
-                kind: 56,
-                first: 0,
-                second: 0,
-            },
-            Term::BvExtract(i, j, _) => Head {
-                kind: 57,
-                first: i,
-                second: j as u64,
-            },
-            Term::SignExtend(k, _) => Head {
-                kind: 58,
-                first: k,
-                second: 0,
-            },
-            Term::ZeroExtend(k, _) => Head {
-                kind: 60,
-                first: k,
-                second: 0,
-            },
-            Term::RotateLeft(k, _) => Head {
-                kind: 61,
-                first: k,
-                second: 0,
-            },
-            Term::RotateRight(k, _) => Head {
-                kind: 62,
-                first: k,
-                second: 0,
-            },
-            Term::Repeat(k, _) => Head {
-                kind: 63,
-                first: k,
-                second: 0,
-            },
+            Term::True => Head::new(0, 0, 0),
+            Term::False => Head::new(1, 0, 0),
+            Term::BoolVar(x) => Head::new(Kind::BoolVar as u32, x, 0),
+            Term::BvVar(n, x) => Head::new(Kind::BvVar as u32, n, u64::from(x)),
+            Term::Const(n, v) => Head::new(Kind::Const as u32, n, v),
+            Term::Not(_) => Head::new(Kind::Not as u32, 0, 0),
+            Term::And(_) => Head::new(Kind::And as u32, 0, 0),
+            Term::Or(_) => Head::new(Kind::Or as u32, 0, 0),
+            Term::Xor(_, _) => Head::new(Kind::Xor as u32, 0, 0),
+            Term::Equals(_, _) => Head::new(Kind::Equals as u32, 0, 0),
+            Term::Ite(_, _, _) => Head::new(Kind::Ite as u32, 0, 0),
+            Term::BvBitOf(i, _) => Head::new(Kind::BvBitOf as u32, i, 0),
+            Term::BvBbTerm(_) => Head::new(Kind::BvBbTerm as u32, 0, 0),
+            Term::BvNot(_) => Head::new(Kind::BvNot as u32, 0, 0),
+            Term::BvNeg(_) => Head::new(Kind::BvNeg as u32, 0, 0),
+            Term::BvAnd(_) => Head::new(Kind::BvAnd as u32, 0, 0),
+            Term::BvOr(_) => Head::new(Kind::BvOr as u32, 0, 0),
+            Term::BvXor(_) => Head::new(Kind::BvXor as u32, 0, 0),
+            Term::BvAdd(_) => Head::new(Kind::BvAdd as u32, 0, 0),
+            Term::BvMul(_) => Head::new(Kind::BvMul as u32, 0, 0),
+            Term::BvXNor(_, _) => Head::new(Kind::BvXNor as u32, 0, 0),
+            Term::BvComp(_, _) => Head::new(Kind::BvComp as u32, 0, 0),
+            Term::BvULt(_, _) => Head::new(Kind::BvULt as u32, 0, 0),
+            Term::BvSLt(_, _) => Head::new(Kind::BvSLt as u32, 0, 0),
+            Term::BvShl(_, _) => Head::new(Kind::BvShl as u32, 0, 0),
+            Term::BvLShr(_, _) => Head::new(Kind::BvLShr as u32, 0, 0),
+            Term::BvAShr(_, _) => Head::new(Kind::BvAShr as u32, 0, 0),
+            Term::BvUDiv(_, _) => Head::new(Kind::BvUDiv as u32, 0, 0),
+            Term::BvURem(_, _) => Head::new(Kind::BvURem as u32, 0, 0),
+            Term::BvConcat(_) => Head::new(Kind::BvConcat as u32, 0, 0),
+            Term::BvExtract(i, j, _) => Head::new(Kind::BvExtract as u32, i, u64::from(j)),
+            Term::SignExtend(k, _) => Head::new(Kind::SignExtend as u32, k, 0),
+            Term::ZeroExtend(k, _) => Head::new(Kind::ZeroExtend as u32, k, 0),
+            Term::RotateLeft(k, _) => Head::new(Kind::RotateLeft as u32, k, 0),
+            Term::RotateRight(k, _) => Head::new(Kind::RotateRight as u32, k, 0),
+            Term::Repeat(k, _) => Head::new(Kind::Repeat as u32, k, 0),
         }
     }
 
@@ -801,21 +534,8 @@ impl Term {
         match self.operands() {
             Operands::None => true,
             Operands::One(x) => x < n,
-            Operands::Two(x, y) => {
-                if n <= x {
-                    return false;
-                }
-                y < n
-            }
-            Operands::Three(x, y, z) => {
-                if n <= x {
-                    return false;
-                }
-                if n <= y {
-                    return false;
-                }
-                z < n
-            }
+            Operands::Two(x, y) => x < n && y < n,
+            Operands::Three(x, y, z) => x < n && y < n && z < n,
             Operands::List(a) => Term::all_below(job, a, n),
         }
     }

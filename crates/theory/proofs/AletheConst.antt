@@ -2,19 +2,17 @@
 use mathlib.Core.Path.{◌≡◌, refl, sym, ap, ap₂, subst, ◌∙◌}
 use mathlib.Core.Bool.{Bool, true, false, cond}
 use mathlib.Core.List.{List, [], ◌∷◌, map}
-use mathlib.Core.Option.{some}
-use Prim.Native.Nat.{ℕ, zero, suc, ◌^◌, ◌<◌}
-use native.Mathlib.Omega.{arith}
+use Rattle.std.specs.Prelude.{Some as some}
+use Prim.Native.Nat.{ℕ, zero, suc}
 use lib.Dec.{T, eqb, eqb_refl}
 use lib.ListN.{length, get_or}
 use Rattle.theory.specs.Kind.{True, False, Equals, Const}
-use Rattle.theory.specs.Term.{Term, node, nil, to_list, from_list, two, same_op, same_term}
-use Rattle.theory.specs.Sort.{bool, sort_of}
+use Rattle.theory.specs.Term.{Term, node, nil, two, same_op, same_term}
 use Rattle.theory.specs.Value.{to_number, bit_at}
 use Rattle.theory.specs.Optional.{cons_some}
 use Rattle.theory.specs.Bits.{bb}
 use Rattle.theory.specs.Move.{bits}
-use Rattle.theory.specs.Verdict.{Verdict, held, other_value}
+use Rattle.theory.specs.Verdict.{held, other_value}
 use Rattle.theory.specs.RuleTable.{by_value}
 use Rattle.theory.specs.Rule.{args_of, constant, literal_bit, literal_bits, value_bits, on_sides, verdict}
 use Rattle.theory.specs.AletheRules.{AletheConst}

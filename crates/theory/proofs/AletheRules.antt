@@ -3,19 +3,19 @@ use mathlib.Core.Path.{◌≡◌, refl, sym, ap, ap₂, subst, ◌∙◌}
 use mathlib.Core.Bool.{Bool, true, false, cond}
 use mathlib.Core.List.{List, [], ◌∷◌, ◌++◌, map, foldl}
 use Prim.Native.Nat.{ℕ, zero, suc, ◌+◌, ◌-◌, ◌≤◌, ◌<◌}
-use native.Mathlib.Nat.{suc-add, add-suc, add-zero}
+use native.Mathlib.Nat.{add-zero}
 use native.Mathlib.Omega.{arith}
 use lib.Dec.{T, eqb, ltb, eqb→eq, ltb→lt}
 use lib.ListN.{length, get_or}
-use Rattle.theory.specs.Kind.{Op, False, And, Or, Xor, Equals, BvBitOf, BvBbTerm, BvNot, BvNeg, BvAnd, BvOr, BvXor, BvAdd, BvMul, BvXNor, BvComp, BvULt, BvSLt, BvConcat, BvExtract, SignExtend, kind}
-use Rattle.theory.specs.Term.{Term, Terms, node, nil, cons, to_list, from_list, two, same_term, fold}
-use Rattle.theory.specs.Sort.{Sort, bv, sort_of, sort_width, is_bv_sort, guard}
-use Rattle.theory.specs.Value.{Val, value, truth}
+use Rattle.theory.specs.Kind.{Op, False, And, Or, Xor, Equals, BvBitOf, BvBbTerm, BvConcat, BvExtract, kind}
+use Rattle.theory.specs.Term.{Term, Terms, node, nil, cons, to_list, from_list, two, same_term}
+use Rattle.theory.specs.Sort.{Sort, bv, sort_of, sort_width, is_bv_sort}
+use Rattle.theory.specs.Value.{value, truth}
 use Rattle.theory.specs.Gates.{term_gates}
 use Rattle.theory.specs.Circuit.{zip_with, ripple_carry_adder, negate, bitblast_ult, slt, gather, equality, shift_add_multiplier}
 use Rattle.theory.specs.Bits.{select, get_term_bits, bb, fold_terms, zipped, add_bits, product, concat_bits, extract_bits, extend_bits}
 use Rattle.theory.specs.Move.{bits, bit_of}
-use Rattle.theory.specs.Alethe.{bitwise, bvnot, bvult, bvslt, bvadd, bvneg, bvmul, bvequal, bvcomp, extract, sign_extend}
+use Rattle.theory.specs.Alethe.{bvadd, bvneg, extract, sign_extend}
 use Rattle.theory.specs.Verdict.{Verdict, held, not_bit_vector, terms_differ}
 use Rattle.theory.specs.RuleTable.{Rule, by_extract, by_concat}
 use Rattle.theory.specs.Rule.{args_of, compare, of_bits, on_sides, verdict}

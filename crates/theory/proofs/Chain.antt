@@ -2,11 +2,11 @@
 use mathlib.Core.Path.{◌≡◌, refl, sym, ap, ap₂, subst, ◌∙◌}
 use mathlib.Core.Bool.{cond}
 use mathlib.Core.List.{List, [], ◌∷◌, map}
-use mathlib.Core.Option.{some}
+use Rattle.std.specs.Prelude.{Some as some}
 use lib.Dec.{T, leb}
 use lib.Ieee.Fits.{and_l, and_r}
 use lib.ListN.{length}
-use Rattle.theory.specs.Kind.{Equals, kind}
+use Rattle.theory.specs.Kind.{Equals}
 use Rattle.theory.specs.Term.{Term, Terms, node, nil, cons, fold, to_list, two, same_op, same_term}
 use Rattle.theory.specs.Value.{Assign, Val, meaning, value, values}
 use Rattle.theory.specs.Optional.{collect}

@@ -2,16 +2,16 @@
 use mathlib.Core.Path.{◌≡◌, sym}
 use mathlib.Core.Bool.{true}
 use mathlib.Core.List.{List}
-use mathlib.Core.Option.{some}
+use Rattle.std.specs.Prelude.{Some as some}
 use Prim.Native.Nat.{ℕ, ◌<◌}
 use native.Mathlib.Omega.{arith}
-use lib.ListN.{length, get_elem?}
+use lib.ListN.{length}
+use Rattle.std.specs.Prelude.{slice_get as get_elem?}
 use Rattle.theory.specs.Limit.{Limits}
 use Rattle.theory.specs.Kind.{Equals}
 use Rattle.theory.specs.Term.{two}
 use Rattle.theory.specs.Value.{Assign, truth, value}
-use Rattle.theory.specs.Verdict.{held}
-use Rattle.theory.specs.Record.{Bytes, records_of, step}
+use Rattle.theory.specs.Record.{Bytes, records_of}
 use Rattle.theory.specs.Plain.{Plain, plain_after}
 use Rattle.theory.specs.Answer.{Answer}
 use Rattle.theory.specs.Job.{run}

@@ -1,13 +1,14 @@
 -- In a job of bytes, the terms at two places of the plain list are different: a term has one number.
 use mathlib.Core.Path.{◌≡◌, refl, sym, ap, ap₂, subst, ◌∙◌}
 use mathlib.Core.List.{List, [], ◌∷◌, ◌++◌, map}
-use mathlib.Core.Option.{some}
+use Rattle.std.specs.Prelude.{Some as some}
 use Prim.Native.Nat.{ℕ, zero, suc, ◌<◌, ◌≤◌}
 use native.Mathlib.Omega.{arith}
 use native.Mathlib.Decide.{ℕ_discrete}
 use lib.Dec.{T, ltb, ltb→lt}
 use lib.Ieee.Fits.{and_l, and_r}
-use lib.ListN.{length, take, drop, get_elem?, take-append-drop}
+use lib.ListN.{length, take, drop, take-append-drop}
+use Rattle.std.specs.Prelude.{slice_get as get_elem?}
 use Rattle.theory.specs.Limit.{Limits, first_terms}
 use Rattle.theory.specs.Kind.{Op, True, False, kind}
 use Rattle.theory.specs.Term.{Term, node, nil, to_list, from_list, same_numbers}

@@ -1,20 +1,19 @@
 -- The three tests that Rule leaves out cannot fail on a well-sorted literal.
-use mathlib.Core.Path.{◌≡◌, refl, sym, ap, ap₂, subst, ◌∙◌}
+use mathlib.Core.Path.{◌≡◌, sym, ap, subst, ◌∙◌}
 use mathlib.Core.Bool.{◌&&◌}
-use mathlib.Core.List.{List, [], ◌∷◌, map}
-use mathlib.Core.Option.{some}
+use mathlib.Core.List.{List, map}
 use Prim.Native.Nat.{ℕ, suc, ◌+◌, ◌-◌, ◌≤◌}
 use native.Mathlib.Omega.{arith}
 use lib.Dec.{T}
 use lib.Ieee.Fits.{and_l, and_r}
 use lib.ListN.{length, length-map}
-use Rattle.theory.specs.Kind.{Equals, Const, BvBbTerm, BvConcat, BvAnd, BvExtract, takes, many}
+use Rattle.theory.specs.Kind.{BvBbTerm, BvConcat, BvAnd, takes, many}
 use Rattle.theory.specs.Term.{Term, Terms, node, nil, cons, to_list, from_list, two, fold}
-use Rattle.theory.specs.Sort.{Sort, bool, bv, good, is_bv_sort, all_bv, is_width, sum_widths, sort_width, sort_op, sort_of, sorts_of}
+use Rattle.theory.specs.Sort.{Sort, bv, good, is_bv_sort, all_bv, is_width, sum_widths, sort_width, sort_op, sort_of, sorts_of}
 use Rattle.theory.specs.Verdict.{held}
-use Rattle.theory.specs.Rule.{nth, args_of, index_of, slices_verdict}
+use Rattle.theory.specs.Rule.{nth, index_of, slices_verdict}
 use Rattle.theory.specs.LeftOut.{ValueSize, ConcatSize, low_index, lowest, Covered}
-use Rattle.theory.proofs.Blast.{guard_yes, to_from_list, folds_from_list}
+use Rattle.theory.proofs.Blast.{guard_yes, folds_from_list}
 use Rattle.theory.proofs.Form.{args_held}
 use Rattle.theory.proofs.Slicing.{slice_held, slice_sort}
 use Rattle.theory.proofs.Verdict.{guard_good, equal_sorts, const_args, concat_sort, and_pair}

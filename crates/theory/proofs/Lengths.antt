@@ -1,5 +1,4 @@
 -- The bytes of a term's number in a job: two or four. Either counts the most terms that the job may keep.
-use mathlib.Core.Path.{◌≡◌}
 use mathlib.Core.Bool.{Bool, true, false, cond}
 use Prim.Native.Nat.{ℕ, ◌^◌, ◌<◌, ◌≤◌, max}
 use native.Mathlib.Omega.{arith}

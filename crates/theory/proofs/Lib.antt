@@ -54,3 +54,4 @@ pub mod Demands
 pub mod AletheRules
 pub mod LeftOut
 pub mod AletheConst
+pub mod Facts

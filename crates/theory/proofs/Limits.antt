@@ -1,10 +1,10 @@
 -- The stated limits: no bit-vector on the list is wider than its limit; and they matter through codes 7 and 8 alone, so that a job which neither stops
 -- comes to the same under larger limits.
 use mathlib.Core.Path.{◌≡◌, refl, sym, ap, subst, ◌∙◌}
-use mathlib.Core.Bool.{Bool, true, false, ◌&&◌, ◌||◌, cond}
+use mathlib.Core.Bool.{Bool, true, false, ◌||◌, cond}
 use mathlib.Core.List.{List, [], ◌∷◌, ◌++◌}
-use mathlib.Core.Option.{Option, none, some}
-use Prim.Native.Nat.{ℕ, zero, suc, ◌+◌, ◌-◌, ◌*◌, ◌≤◌, min}
+use Rattle.std.specs.Prelude.{Option, None as none, Some as some}
+use Prim.Native.Nat.{ℕ, zero, suc, ◌+◌, ◌-◌, ◌*◌, ◌≤◌}
 use native.Mathlib.Omega.{arith}
 use lib.Dec.{T, leb, ltb, leb→le, le→leb, ltb→lt, lt→ltb}
 use lib.Ieee.Fits.{and_l, and_r, and_i}
@@ -17,7 +17,7 @@ use Rattle.theory.specs.Plain.{Entry, entry, Plain, start, at_place, term_of, ha
 use Rattle.theory.specs.Codes.{first_fault, all_below, well_sorted, room, tests, fault}
 use Rattle.theory.specs.Answer.{Answer}
 use Rattle.theory.specs.Chain.{Earlier}
-use Rattle.theory.specs.Job.{answers_to, recall, Outcome, outcome, run_from, run, returned, answers_after, work_after, Call}
+use Rattle.theory.specs.Job.{answers_to, recall, Outcome, outcome, run_from, run, returned, answers_after, work_after}
 use Rattle.theory.specs.Claim.{NoWider, LimitsOnly}
 use Rattle.theory.proofs.Basics.{none_some, some_inj}
 use Rattle.theory.proofs.Places.{tree_of}

@@ -2,14 +2,15 @@
 use mathlib.Core.Path.{◌≡◌, refl, sym, ap, subst, ◌∙◌}
 use mathlib.Core.Bool.{Bool, true, false, not, ◌&&◌, cond}
 use mathlib.Core.List.{List, [], ◌∷◌, ◌++◌, foldl}
-use mathlib.Core.Option.{Option, some}
+use Rattle.std.specs.Prelude.{Option, Some as some}
 use Prim.Native.Nat.{ℕ, zero, suc, ◌+◌, ◌-◌, ◌*◌, ◌/◌, ◌%◌, ◌≤◌, ◌<◌}
 use native.Mathlib.Nat.{div-eq_of_lt}
 use native.Mathlib.Omega.{arith}
 use native.Mathlib.Decide.{dec_le}
 use lib.Dec.{T, eqb, leb, ltb, leb→le}
 use lib.Ieee.Fits.{and_l, and_r}
-use lib.ListN.{length, take, get_elem?, length-append, length-take, length-drop}
+use lib.ListN.{length, take, length-append, length-take, length-drop}
+use Rattle.std.specs.Prelude.{slice_get as get_elem?}
 use borrow.Author.Tests.{le-leb, lt-leb}
 use Rattle.theory.specs.Limit.{Limits, max_job}
 use Rattle.theory.specs.Kind.{Op, kind, arity, takes}

@@ -3,7 +3,7 @@
 use mathlib.Core.Path.{◌≡◌, refl, sym, ap, ap₂, subst, subst₂, ◌∙◌}
 use mathlib.Core.Bool.{Bool, true, false, ◌||◌, ◌&&◌, cond}
 use mathlib.Core.List.{List, [], ◌∷◌, ◌++◌, map, foldl, append_assoc, append-nil}
-use mathlib.Core.Option.{Option, none, some}
+use Rattle.std.specs.Prelude.{Option, None as none, Some as some}
 use Prim.Native.Nat.{ℕ, zero, suc, ◌+◌, ◌*◌, ◌<◌, ◌≤◌}
 use native.Mathlib.Nat.{suc-add}
 use native.Mathlib.Numerals.{add-one}
@@ -11,7 +11,8 @@ use native.Mathlib.Omega.{arith}
 use native.Mathlib.Decide.{ℕ_discrete, dec_le}
 use lib.Dec.{T, leb, ltb, leb→le, le→leb, ltb→lt}
 use lib.Ieee.Fits.{and_l, and_r}
-use lib.ListN.{length, take, get_or, get_elem?, length-append}
+use lib.ListN.{length, take, get_or, length-append}
+use Rattle.std.specs.Prelude.{slice_get as get_elem?}
 use lib.Seq.{take-append_seam, take-suc}
 use Rattle.theory.specs.Limit.{Limits, capped, max_job, first_terms, answer_bytes}
 use Rattle.theory.specs.Kind.{Op}

@@ -1,16 +1,15 @@
 -- Demand 3 shuts out a false "held". This job says (= true false), and a step claims it: an outcome that answers it with code 0 does not meet
 -- demand 3, whatever its rule and depth.
 use mathlib.Core.Path.{◌≡◌, refl, sym, ap, subst, ◌∙◌}
-use mathlib.Core.Bool.{true, false}
 use mathlib.Core.List.{List, [], ◌∷◌}
-use mathlib.Core.Option.{Option, none, some}
+use Rattle.std.specs.Prelude.{Option, Some as some}
 use Prim.Native.Nat.{ℕ, zero, suc, ◌<◌}
 use native.Mathlib.Omega.{arith}
-use lib.ListN.{get_elem?}
+use Rattle.std.specs.Prelude.{slice_get as get_elem?}
 use Rattle.theory.specs.Limit.{rack}
 use Rattle.theory.specs.Kind.{True, False, Equals}
 use Rattle.theory.specs.Term.{Term, node, nil, two, fold}
-use Rattle.theory.specs.Value.{Assign, Val, truth, value, meaning}
+use Rattle.theory.specs.Value.{Assign, value, meaning}
 use Rattle.theory.specs.Record.{Bytes, records_of, read, number_length, cut, shape_of, claim_of}
 use Rattle.theory.specs.Plain.{plain_after, at_place, feed}
 use Rattle.theory.specs.Answer.{Answer}

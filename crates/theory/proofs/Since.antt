@@ -2,11 +2,12 @@
 use mathlib.Core.Path.{◌≡◌, refl, sym, ap, subst, ◌∙◌}
 use mathlib.Core.Bool.{Bool, true, false, cond}
 use mathlib.Core.List.{List, [], ◌∷◌, ◌++◌, map}
-use mathlib.Core.Option.{none, some}
-use Prim.Native.Nat.{ℕ, zero, suc, ◌+◌, ◌<◌, ◌≤◌}
+use Rattle.std.specs.Prelude.{None as none, Some as some}
+use Prim.Native.Nat.{ℕ, zero, suc, ◌+◌, ◌<◌}
 use native.Mathlib.Omega.{arith}
 use native.Mathlib.Decide.{ℕ_discrete}
-use lib.ListN.{length, take, get_elem?, length-append, length-map}
+use lib.ListN.{length, take, length-append, length-map}
+use Rattle.std.specs.Prelude.{slice_get as get_elem?}
 use borrow.Author.Tests.{lt-ltb, eq-eqb}
 use Rattle.theory.specs.Limit.{Limits}
 use Rattle.theory.specs.Record.{Bytes, records_of, Item, term, step, chain, back, unknown, misfit, read, is_step, claim_of, step_count, number_length}
@@ -14,7 +15,7 @@ use Rattle.theory.specs.Plain.{plain_after}
 use Rattle.theory.specs.Codes.{fault}
 use Rattle.theory.specs.Answer.{Answer}
 use Rattle.theory.specs.Chain.{Earlier, leaves, unless_dropped, recall_item}
-use Rattle.theory.specs.Job.{answers_to, recall, run}
+use Rattle.theory.specs.Job.{answers_to, recall}
 use Rattle.theory.specs.Demands.{earlier_after, Kept, Tells, PremisesTold}
 use Rattle.theory.proofs.Basics.{none_some, some_inj, get_elem_lt, get_elem_old, get_elem_seam, snoc_elim}
 use Rattle.theory.proofs.Premises.{dropped_not, get_elem_map, left_held}

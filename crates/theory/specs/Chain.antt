@@ -1,7 +1,7 @@
 -- Document 02, P12: steps joined into a chain. What its rules ask of premises and claim, and which earlier steps may be premises.
 use Rattle.std.specs.Prelude.{Bool, true, false, ◌&&◌, cond, List, [], ◌∷◌, ◌++◌, map, ℕ, zero, suc, leb, ltb, eqb, length}
-use Rattle.std.proofs.Math.Option.{Option, none, some}
-use Rattle.std.proofs.Math.ListN.{get_elem?}
+use Rattle.std.specs.Prelude.{Option, None as none, Some as some}
+use Rattle.std.specs.Prelude.{slice_get as get_elem?}
 use Rattle.theory.specs.Kind.{Equals, kind}
 use Rattle.theory.specs.Term.{Term, node, to_list, same_op, same_term}
 use Rattle.theory.specs.Optional.{either, collect}

@@ -1,8 +1,8 @@
 -- Statements beside the three demands, of document 01 and of the requests after it: on codes, on what is kept, on repeats, on depths,
 -- on the tally. Each is proved in proofs/.
 use Rattle.std.specs.Prelude.{◌≡◌, Bool, true, false, ◌||◌, cond, List, [], ◌∷◌, map, ℕ, ◌+◌, ◌-◌, ◌*◌, ◌%◌, ◌^◌, ◌<◌, ◌≤◌, max, T, eqb, ltb, length, take, drop}
-use Rattle.std.proofs.Math.Option.{some}
-use Rattle.std.proofs.Math.ListN.{get_elem?}
+use Rattle.std.specs.Prelude.{Some as some}
+use Rattle.std.specs.Prelude.{slice_get as get_elem?}
 use Rattle.theory.specs.Limit.{Limits, capped, first_terms, term_bytes, answer_bytes}
 use Rattle.theory.specs.Kind.{Op, Equals, BvBbTerm, BvNeg, BvAdd, BvMul, BvULt, BvSLt}
 use Rattle.theory.specs.Term.{Term, Terms, node, nil, cons, two}

@@ -2,7 +2,7 @@
 -- code 3 is in Record (`ending`), code 2 in Job. Codes 7 and 8 are under limits that the caller states (document 02, P8);
 -- codes 4 and 5 know the first record of a job with long numbers (P10).
 use Rattle.std.specs.Prelude.{Bool, true, false, ◌&&◌, ◌||◌, cond, List, [], ◌∷◌, ℕ, suc, ◌-◌, ◌*◌, eqb, leb, ltb, length}
-use Rattle.std.proofs.Math.Option.{Option}
+use Rattle.std.specs.Prelude.{Option}
 use Rattle.theory.specs.Limit.{Limits, capped, first_terms, term_bytes, answer_bytes}
 use Rattle.theory.specs.Term.{Term}
 use Rattle.theory.specs.Sort.{good, sort_width, sort_of}

@@ -1,8 +1,8 @@
 -- Demands 1 and 2 over a whole job, in the words of Demand.antt: why a job stops, and what each step, of either kind,
 -- that it reaches is answered.
 use Rattle.std.specs.Prelude.{◌≡◌, List, [], ◌∷◌, ℕ, suc, ◌<◌, ◌≤◌, length, take}
-use Rattle.std.proofs.Math.Option.{some}
-use Rattle.std.proofs.Math.ListN.{get_elem?}
+use Rattle.std.specs.Prelude.{Some as some}
+use Rattle.std.specs.Prelude.{slice_get as get_elem?}
 use Rattle.theory.specs.Limit.{Limits, max_job}
 use Rattle.theory.specs.Term.{Term}
 use Rattle.theory.specs.RuleTable.{Rule, rule_at, ChainRule, chain_rule_at}

@@ -1,7 +1,7 @@
 -- Document 01, "The job" and "Codes": the run of a job; what it returns, and what it leaves in the lent memory.
 use Rattle.std.specs.Prelude.{true, false, cond, List, [], ◌∷◌, ◌++◌, ℕ, zero, suc, ◌+◌, leb, length, drop, replicate}
-use Rattle.std.proofs.Math.Option.{Option, none, some}
-use Rattle.std.proofs.Math.ListN.{get_elem?}
+use Rattle.std.specs.Prelude.{Option, None as none, Some as some}
+use Rattle.std.specs.Prelude.{slice_get as get_elem?}
 use Rattle.theory.specs.Limit.{Limits, max_job}
 use Rattle.theory.specs.Term.{Term, node, to_list}
 use Rattle.theory.specs.Depth.{depth}

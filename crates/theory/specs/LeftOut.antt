@@ -1,6 +1,6 @@
 -- The three tests of bitvectors.rs that Rule leaves out, because they cannot fail on a well-sorted literal (= l r).
 use Rattle.std.specs.Prelude.{◌≡◌, List, [], ◌∷◌, map, ℕ, length, get_or}
-use Rattle.std.proofs.Math.Option.{some}
+use Rattle.std.specs.Prelude.{Some as some}
 use Rattle.theory.specs.Kind.{True, Equals, BvBbTerm, BvConcat, BvAnd, kind}
 use Rattle.theory.specs.Term.{Term, Terms, node, nil, to_list, two}
 use Rattle.theory.specs.Sort.{bool, sum_widths, sort_of, sort_width}

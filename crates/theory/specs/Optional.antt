@@ -1,6 +1,6 @@
 -- Values that may be missing.
 use Rattle.std.specs.Prelude.{Bool, true, false, List, [], ◌∷◌}
-use Rattle.std.proofs.Math.Option.{Option, none, some}
+use Rattle.std.specs.Prelude.{Option, None as none, Some as some}
 
 -- it is there
 abbrev pub is_some : {A : Type 0} → Option A → Bool

@@ -1,8 +1,8 @@
 -- How a program can tell that a literal has not been dropped since its step: the record of the term that now has the literal's place begins
 -- before the step's record. A term that is added again has a later record.
 use Rattle.std.specs.Prelude.{cond, List, [], ◌∷◌, ◌++◌, map, ℕ, suc, leb, take}
-use Rattle.std.proofs.Math.Option.{Option, none, some}
-use Rattle.std.proofs.Math.ListN.{get_elem?}
+use Rattle.std.specs.Prelude.{Option, None as none, Some as some}
+use Rattle.std.specs.Prelude.{slice_get as get_elem?}
 use Rattle.theory.specs.Optional.{either}
 use Rattle.theory.specs.Record.{Bytes, Item, term, step, chain, back, unknown, misfit}
 use Rattle.theory.specs.Plain.{Plain, has}

@@ -1,6 +1,6 @@
 -- The terms at the places of a plain list, and the place of a term: what the contracts between the crates cite of them.
 use Rattle.std.specs.Prelude.{Bool, false, ◌&&◌, cond, List, [], ◌∷◌, map, ℕ, suc, get_or}
-use Rattle.std.proofs.Math.Option.{Option, none, some}
+use Rattle.std.specs.Prelude.{Option, None as none, Some as some}
 use Rattle.theory.specs.Kind.{Op, True, False}
 use Rattle.theory.specs.Term.{Term, node, nil, fold, from_list, same_numbers, same_op}
 use Rattle.theory.specs.Optional.{either, collect}

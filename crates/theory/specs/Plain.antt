@@ -1,8 +1,8 @@
 -- Document 01, "Demand 3 over a whole job": the plain list, fed the job's records and nothing else.
 use Rattle.std.specs.Prelude.{Bool, false, ◌||◌, cond, ℕ, take}
 use mathlib.Core.List.{List, [], ◌∷◌, ◌++◌, map, foldl}
-use Rattle.std.proofs.Math.Option.{Option, none, some}
-use Rattle.std.proofs.Math.ListN.{get_elem?}
+use Rattle.std.specs.Prelude.{Option, None as none, Some as some}
+use Rattle.std.specs.Prelude.{slice_get as get_elem?}
 use Rattle.theory.specs.Kind.{Op, True, False}
 use Rattle.theory.specs.Term.{Term, node, nil, from_list, same_numbers}
 use Rattle.theory.specs.Optional.{either, collect}

@@ -1,6 +1,6 @@
 -- The 23 rules of bitvectors.rs, three by the standard, and four that move bits: from the literal's tree to the verdict.
 use Rattle.std.specs.Prelude.{Bool, true, false, ◌&&◌, not, cond, List, [], ◌∷◌, map, ℕ, suc, eqb, get_or}
-use Rattle.std.proofs.Math.Option.{Option, none, some}
+use Rattle.std.specs.Prelude.{Option, None as none, Some as some}
 use Rattle.theory.specs.Kind.{True, False, And, Or, Xor, Equals, Const, BvBbTerm, BvNot, BvNeg, BvAnd, BvOr, BvXor, BvAdd, BvMul, BvXNor, BvComp, BvULt, BvSLt, BvShl, BvLShr, BvAShr, BvUDiv, BvURem, BvConcat, BvExtract, SignExtend, ZeroExtend, RotateLeft, RotateRight, Repeat, kind, indices}
 use Rattle.theory.specs.Term.{Term, node, nil, to_list, same_term, two}
 use Rattle.theory.specs.Sort.{is_bv_sort, sort_width, sort_of}

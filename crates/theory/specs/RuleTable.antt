@@ -1,8 +1,8 @@
 -- Document 01, "The job": the 23 rules and their numbers; and those after them: three by the standard, four that move bits.
 -- Document 02, P12: the three rules of a chain and theirs.
 use Rattle.std.specs.Prelude.{cond, List, [], ◌∷◌, ℕ, zero, suc, ◌-◌, leb}
-use Rattle.std.proofs.Math.Option.{Option, none}
-use Rattle.std.proofs.Math.ListN.{get_elem?}
+use Rattle.std.specs.Prelude.{Option, None as none}
+use Rattle.std.specs.Prelude.{slice_get as get_elem?}
 
 -- document 01 names them value, var, and, or, ..; `standard`: the circuit whose value is the standard's
 pub data Rule : Type 0 where

@@ -1,6 +1,6 @@
 -- Document 01, "Specimens": the ten rows of the table. x and y are variables.
 use Rattle.std.specs.Prelude.{Bool, true, false, ◌&&◌, cond, List, [], ◌∷◌, ℕ, zero, suc, ◌%◌, ◌^◌, eqb}
-use Rattle.std.proofs.Math.Option.{some}
+use Rattle.std.specs.Prelude.{Some as some}
 use Rattle.std.proofs.Common.{mod-lt, pow_pos}
 use Rattle.theory.specs.Limit.{max_width}
 use Rattle.theory.specs.Kind.{Not, And, Equals, BvVar, BvBitOf, BvAnd, BvNeg, BvAdd, BvMul, BvSLt, BvAShr, BvUDiv, BvURem, SignExtend}

@@ -1,4 +1,5 @@
 use Rattle.std.proofs.Common.{ap, ◌∙◌}
+use mathlib.Core.Logic.{inl, inr}
 use Rattle.operations.proofs.ApplyLaws.{in_two, out_two, two_both, two_wide, two_fits, xnor_bv, shl_bv, lshr_bv, ashr_bv, udiv_bv, is_xor, is_equals, is_xnor, is_comp, is_ult, is_slt, is_shl, is_lshr, is_ashr, is_udiv, is_urem}
 use Rattle.theory.specs.Value.{bit}
 use Rattle.operations.proofs.apply.apply_two.Goals as goal
@@ -22,13 +23,13 @@ pub returns-in-Xor : goal.returns-in-Xor
 returns-in-Xor c = let a = c.args in out_two a.m a.x a.y _ _ _ c.in-Xor.is (is_xor _ _ _ _ (in_two _ _ c.in-Xor.is c.requires) c.flag.ensures)
 
 pub returns-in-Equals : goal.returns-in-Equals
-returns-in-Equals c = let a = c.args in out_two a.m a.x a.y _ _ _ c.in-Equals.is (is_equals _ _ _ _ (in_two _ _ c.in-Equals.is c.requires) c.flag-in-Equals.ensures)
+returns-in-Equals c = let a = c.args in elim c.in-Equals.is [
+  | inl e ↦ out_two a.m a.x a.y _ _ _ e (is_equals _ _ _ _ (in_two _ _ e c.requires) c.flag-in-Equals.ensures)
+  | inr e ↦ out_two a.m a.x a.y _ _ _ e (is_comp _ _ _ _ (in_two _ _ e c.requires) c.flag-in-Equals.ensures)
+]
 
 pub returns-in-XNor : goal.returns-in-XNor
 returns-in-XNor c = let a = c.args in out_two a.m a.x a.y _ _ _ c.in-XNor.is (is_xnor _ _ _ _ (in_two _ _ c.in-XNor.is c.requires) c.xnor_n.ensures)
-
-pub returns-in-Comp : goal.returns-in-Comp
-returns-in-Comp c = let a = c.args in out_two a.m a.x a.y _ _ _ c.in-Comp.is (is_comp _ _ _ _ (in_two _ _ c.in-Comp.is c.requires) c.flag-in-Comp.ensures)
 
 pub returns-in-ULt : goal.returns-in-ULt
 returns-in-ULt c = let a = c.args in out_two a.m a.x a.y _ _ _ c.in-ULt.is (is_ult _ _ _ _ (in_two _ _ c.in-ULt.is c.requires) c.flag-in-ULt.ensures)

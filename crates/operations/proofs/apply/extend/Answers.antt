@@ -1,4 +1,5 @@
 use Rattle.std.proofs.Common.{arith}
+use mathlib.Core.Logic.{inl, inr}
 use Rattle.operations.proofs.ManyLaws.{add_wide, mul_wide, bits_room, bits_small, concat_room, concat_small, at_and, at_or, at_bits, at_bvand, at_bvor, at_bvxor, at_add, at_mul, at_concat}
 use Rattle.operations.proofs.apply.extend.Goals as goal
 
@@ -27,19 +28,13 @@ pub overflow_add-result-in-Concat-2 : goal.overflow_add-result-in-Concat-2
 overflow_add-result-in-Concat-2 c = record { fits = concat_small _ c.requires c.in-Concat.is }
 
 pub returns-in-And : goal.returns-in-And
-returns-in-And c = at_and _ c.requires c.in-And.is
+returns-in-And c = elim c.in-And.is [ inl e ↦ at_and _ c.requires e | inr e ↦ at_bvand _ c.requires e ]
 
 pub returns-in-Or : goal.returns-in-Or
-returns-in-Or c = at_or _ c.requires c.in-Or.is
+returns-in-Or c = elim c.in-Or.is [ inl e ↦ at_or _ c.requires e | inr e ↦ at_bvor _ c.requires e ]
 
 pub returns-in-Bits : goal.returns-in-Bits
 returns-in-Bits c = at_bits _ c.requires c.in-Bits.is
-
-pub returns-in-BvAnd : goal.returns-in-BvAnd
-returns-in-BvAnd c = at_bvand _ c.requires c.in-BvAnd.is
-
-pub returns-in-BvOr : goal.returns-in-BvOr
-returns-in-BvOr c = at_bvor _ c.requires c.in-BvOr.is
 
 pub returns-in-BvXor : goal.returns-in-BvXor
 returns-in-BvXor c = at_bvxor _ c.requires c.in-BvXor.is

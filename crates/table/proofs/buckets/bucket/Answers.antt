@@ -10,17 +10,17 @@ pub returns-then-c-eq0 : goal.returns-then-c-eq0
 returns-then-c-eq0 c = sym (bucket_none _ _ _ c.if-c-eq0.true)
 
 pub overflow_sub-work : goal.overflow_sub-work
-overflow_sub-work c = let p = c.requires.1 (omega (arith, c.if-c-eq0.false)) in omega arith
+overflow_sub-work c = let p = c.requires.seeded (omega (arith, c.if-c-eq0.false)) in omega arith
 
-pub number-seed-requires : goal.number-seed-requires
-number-seed-requires c = let p = c.requires.1 (omega (arith, c.if-c-eq0.false)) in (omega arith, omega arith)
+pub number_of-seed-requires : goal.number_of-seed-requires
+number_of-seed-requires c = let p = c.requires.seeded (omega (arith, c.if-c-eq0.false)) in record { inside = omega arith; short = omega arith }
 
 pub overflow_mul-result : goal.overflow_mul-result
 overflow_mul-result c = let r = row_least c.args.c (let z : c.hash.result ≤ 2147483648 = omega (arith, c.hash.ensures.below) in z) in
-    let s = c.requires.0 in
+    let s = c.requires.few in
     omega arith
 
 pub returns : goal.returns
 unfolding bucket_of multiplier seed_in
 returns c = let a = c.args in
-    ap (λ (h : ℕ). h * a.c / 2147483648) (c.hash.ensures.value ∙ ap (λ (s : ℕ). hash_of ((s + 668265263) % 1073741824 + 1) a.wanted.now) c.number-seed.ensures.value)
+    ap (λ (h : ℕ). h * a.c / 2147483648) (c.hash.ensures.value ∙ ap (λ (s : ℕ). hash_of ((s + 668265263) % 1073741824 + 1) a.wanted.now) c.number_of-seed.ensures.value)

@@ -7,19 +7,19 @@ use Rattle.table.proofs.MemoryLaws.{Unmoved, before_drop, cut, drop_next, drop_t
 use Rattle.table.proofs.kept.drop_rows_as.Goals as goal
 
 pub heads_start-start-requires : goal.heads_start-start-requires
-heads_start-start-requires c = (link_back c.requires.0.rows.link_length, c.link_bytes-link.ensures)
+heads_start-start-requires g c = record { sized = link_back c.requires.kept.rows.link_length; linked = c.requires.linked }
 
 pub head_count-c-requires : goal.head_count-c-requires
-head_count-c-requires c = (rw c.link_bytes-link.ensures c.requires.0.rows.link_length, c.heads_start-start.ensures.1)
+head_count-c-requires g c = record { sized = rw c.requires.linked c.requires.kept.rows.link_length; inside = c.heads_start-start.ensures.1 }
 
 pub loop-k-init : goal.loop-k-init
-loop-k-init c = (c.requires.1, framed c.args.bytes c.link_bytes-link.ensures c.heads_start-start.ensures.0 c.head_count-c.ensures c.requires.0, refl, unmoved_start _ _ _, refl)
+loop-k-init g c = (c.requires.fewer, framed g.row.B c.requires.linked c.heads_start-start.ensures.0 c.head_count-c.ensures c.requires.kept, refl, unmoved_start _ _ _, refl)
 
 pub drop_row-requires : goal.drop_row-requires
-drop_row-requires c = before_drop c.loop-k-test.true c.loop-k.invariant.1
+drop_row-requires g c = before_drop c.loop-k-test.true c.loop-k.invariant.1
 
 pub loop-k-preserved : goal.loop-k-preserved
-loop-k-preserved c = let r = drop_turn c.loop-k-test.true c.loop-k.invariant.1 c.loop-k.invariant.3 c.drop_row.ensures in (
+loop-k-preserved g c = let r = drop_turn c.loop-k-test.true c.loop-k.invariant.1 c.loop-k.invariant.3 c.drop_row.ensures in (
   omega arith,
   r.0,
   r.1 ∙ c.loop-k.invariant.2,
@@ -29,12 +29,12 @@ loop-k-preserved c = let r = drop_turn c.loop-k-test.true c.loop-k.invariant.1 c
 )
 
 pub returns : goal.returns
-returns c = let a = c.args in
+returns g c = let a = c.args in
     let same = sym c.loop-k.invariant.2 in
-    cut a.bytes
-    (unframed a.bytes c.link_bytes-link.ensures (c.heads_start-start.ensures.0 ∙ ap (heads_start a.bytes) same)
-    (c.head_count-c.ensures ∙ ap (λ (len : ℕ). head_count c.link_bytes-link.result len c.heads_start-start.result) same) c.loop-k.invariant.1)
-    (subst (λ (l : ℕ). Unmoved l a.work.now c.loop-k.work c.loop-k.k) c.link_bytes-link.ensures c.loop-k.invariant.3)
-    c.loop-k-test.false c.loop-k.invariant.0 c.requires.1
-    (dropped_is a.bytes a.job.now a.work.now c.loop-k.work a.n a.m c.loop-k-test.false c.link_bytes-link.ensures c.heads_start-start.ensures.0
+    cut g.row.B
+    (unframed g.row.B c.requires.linked (c.heads_start-start.ensures.0 ∙ ap (heads_start g.row.B) same)
+    (c.head_count-c.ensures ∙ ap (λ (len : ℕ). head_count g.row.L len c.heads_start-start.result) same) c.loop-k.invariant.1)
+    (subst (λ (l : ℕ). Unmoved l a.work.now c.loop-k.work c.loop-k.k) c.requires.linked c.loop-k.invariant.3)
+    c.loop-k-test.false c.loop-k.invariant.0 c.requires.fewer
+    (dropped_is g.row.B a.job.now a.work.now c.loop-k.work a.n a.m c.loop-k-test.false c.requires.linked c.heads_start-start.ensures.0
     c.head_count-c.ensures c.loop-k.invariant.4)

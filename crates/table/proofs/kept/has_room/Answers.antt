@@ -12,26 +12,26 @@ cheap : (n b : ℕ) → Length b → 2 + n < 4294967296 → n * (4 + 2 * b) ≤ 
 cheap n b l h = mul-le-mul_left n (let f = l.few_bytes in let z : 4 + 2 * b ≤ 12 = omega arith in z)
 
 pub returns-then-max_terms-n : goal.returns-then-max_terms-n
-returns-then-max_terms-n c = let a = c.args in
-    room_numbers a.bytes a.limit a.n a.len (omega (arith, c.max_terms.ensures, c.if-max_terms-n.true))
+returns-then-max_terms-n g c = let a = c.args in
+    room_numbers g.row.B a.limit a.n a.len (omega (arith, c.max_terms.ensures, c.if-max_terms-n.true))
 
 pub returns-then-limit-n : goal.returns-then-limit-n
-returns-then-limit-n c = let a = c.args in room_numbers a.bytes a.limit a.n a.len (omega (arith, c.if-limit-n.true))
+returns-then-limit-n g c = let a = c.args in room_numbers g.row.B a.limit a.n a.len (omega (arith, c.if-limit-n.true))
 
 pub overflow_mul-cost : goal.overflow_mul-cost
-overflow_mul-cost c = let l = c.requires.0.few_bytes in omega arith
+overflow_mul-cost g c = let l = c.requires.sized.few_bytes in omega arith
 
 pub overflow_add-cost : goal.overflow_add-cost
-overflow_add-cost c = let l = c.requires.0.few_bytes in omega arith
+overflow_add-cost g c = let l = c.requires.sized.few_bytes in omega arith
 
 pub overflow_mul-result : goal.overflow_mul-result
-overflow_mul-result c = omega (arith, c.requires.1, cheap c.args.n c.args.bytes c.requires.0 c.requires.1)
+overflow_mul-result g c = omega (arith, c.requires.few, cheap c.args.n g.row.B c.requires.sized c.requires.few)
 
 pub overflow_add-result : goal.overflow_add-result
-overflow_add-result c = let l = c.requires.0.few_bytes in
-    omega (arith, c.requires.1, cheap c.args.n c.args.bytes c.requires.0 c.requires.1)
+overflow_add-result g c = let l = c.requires.sized.few_bytes in
+    omega (arith, c.requires.few, cheap c.args.n g.row.B c.requires.sized c.requires.few)
 
 pub returns : goal.returns
-returns c = let a = c.args in
-    room_memory a.bytes a.limit a.n a.len refl (omega arith)
+returns g c = let a = c.args in
+    room_memory g.row.B a.limit a.n a.len refl (omega arith)
     (omega (arith, c.max_terms.ensures, c.if-max_terms-n.false, c.if-limit-n.false))

@@ -9,26 +9,26 @@ use Rattle.table.proofs.KeyLaws.{indexed_end, indexed_none, written_more, writte
 use Rattle.table.proofs.keys.find_indexed_as.Goals as goal
 
 pub last_number-requires : goal.last_number-requires
-last_number-requires c = link_back c.requires.rows.link_length
+last_number-requires g c = link_back c.requires.kept.rows.link_length
 
 pub returns-then-last_number-x : goal.returns-then-last_number-x
-returns-then-last_number-x c = indexed_none c.args.bytes c.args.a _ _ (subst (λ (m : ℕ). m ≤ c.args.a) c.last_number.ensures c.if-last_number-x.true) _
+returns-then-last_number-x g c = indexed_none g.row.B c.args.a _ _ (subst (λ (m : ℕ). m ≤ c.args.a) c.last_number.ensures c.if-last_number-x.true) _
 
 pub overflow_add-at : goal.overflow_add-at
-overflow_add-at c = let l = (let fits_here : c.args.bytes ≤ 4 = (link_back c.requires.rows.link_length).few_bytes in fits_here) in omega arith
+overflow_add-at g c = let l = (link_back c.requires.kept.rows.link_length).few_bytes in omega arith
 
 pub overflow_add-end : goal.overflow_add-end
-overflow_add-end c = let l = (let fits_here : c.args.bytes ≤ 4 = (link_back c.requires.rows.link_length).few_bytes in fits_here) in omega arith
+overflow_add-end g c = let l = (link_back c.requires.kept.rows.link_length).few_bytes in omega arith
 
-pub put_number-requires-4 : goal.put_number-requires-4
-put_number-requires-4 c = let l = (let fits_here : c.args.bytes ≤ 4 = (link_back c.requires.rows.link_length).few_bytes in fits_here) in search rules
+pub put_number_of-requires-4 : goal.put_number_of-requires-4
+put_number_of-requires-4 g c = let l = (link_back c.requires.kept.rows.link_length).few_bytes in search rules
 
 pub find_key-requires : goal.find_key-requires
-find_key-requires c = (c.requires, let l = (let fits_here : c.args.bytes ≤ 4 = (link_back c.requires.rows.link_length).few_bytes in fits_here) in omega arith)
+find_key-requires g c = record { kept = c.requires.kept; linked = c.requires.linked; short = let l = (link_back c.requires.kept.rows.link_length).few_bytes in omega arith }
 
 pub returns : goal.returns
-returns c = let l = (let fits_here : c.args.bytes ≤ 4 = (link_back c.requires.rows.link_length).few_bytes in fits_here) in
+returns g c = let l = (link_back c.requires.kept.rows.link_length).few_bytes in
     c.find_key.ensures
-    ∙ indexed_end c.args.bytes c.args.a _ _ _ _ (subst (λ (m : ℕ). c.args.a < m) c.last_number.ensures c.if-last_number-x.false) (let e : 4 + 2 + c.args.bytes ≡ 6 + c.args.bytes = omega arith in e)
-    (let e : 4 + 2 + c.args.bytes - 2 ≡ 4 + c.args.bytes = omega arith in e)
-    (written_more (written_more (written_more (written_more written_start 2 _ (omega arith) c.put_number.ensures) 2 _ (omega arith) c.put_number-2.ensures) 2 _ (omega arith) c.put_number-3.ensures) c.args.bytes _ (omega arith) c.put_number-4.ensures) _
+    ∙ indexed_end g.row.B c.args.a _ _ _ _ (subst (λ (m : ℕ). c.args.a < m) c.last_number.ensures c.if-last_number-x.false) (let e : 4 + 2 + g.row.B ≡ 6 + g.row.B = omega arith in e)
+    (let e : 4 + 2 + g.row.B - 2 ≡ 4 + g.row.B = omega arith in e)
+    (written_more (written_more (written_more (written_more written_start 2 _ (omega arith) c.put_number_of.ensures) 2 _ (omega arith) c.put_number_of-2.ensures) 2 _ (omega arith) c.put_number_of-3.ensures) g.row.B _ (omega arith) c.put_number_of-4.ensures) _

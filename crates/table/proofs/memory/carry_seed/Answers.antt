@@ -9,8 +9,8 @@ returns-then-n-lt-SEED_BYTES c = carried_not c.args.work.now c.args.n c.if-n-lt-
 pub overflow_sub-work : goal.overflow_sub-work
 overflow_sub-work c = omega (arith, c.requires, c.if-n-lt-SEED_BYTES.false)
 
-pub number-seed-requires : goal.number-seed-requires
-number-seed-requires c = (omega (arith, c.requires, c.if-n-lt-SEED_BYTES.false), omega arith)
+pub number_of-seed-requires : goal.number_of-seed-requires
+number_of-seed-requires c = record { inside = omega (arith, c.requires, c.if-n-lt-SEED_BYTES.false); short = omega arith }
 
 pub returns : goal.returns
-returns c = c.put_number.ensures ∙ carried_on c.args.work.now c.args.n c.if-n-lt-SEED_BYTES.false c.number-seed.ensures.value
+returns c = c.put_number_of.ensures ∙ carried_on c.args.work.now c.args.n c.if-n-lt-SEED_BYTES.false c.number_of-seed.ensures.value

@@ -1,10 +1,6 @@
-use Prim.Native.Nat.{◌-◌}
 use Rattle.terms.specs.Decoded.{words_in}
 use Rattle.terms.proofs.Lists.{Passing}
 use Rattle.terms.proofs.Term.all_below.Given as goal
 
 abbrev pub invariant-loop-i : goal.invariant-loop-i
 invariant-loop-i l = Passing l.n (words_in l.job l.list) l.i
-
-abbrev pub decreases-loop-i : goal.decreases-loop-i
-decreases-loop-i l = l.count - l.i

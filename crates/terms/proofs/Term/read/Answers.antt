@@ -8,7 +8,7 @@ use Rattle.terms.proofs.Numbers.{length_of}
 use Rattle.terms.proofs.Term.read.Goals as goal
 
 pub read_as-requires : goal.read_as-requires
-read_as-requires c = (c.requires, subst Length (sym c.number_length.ensures) (length_of c.args.job.now))
+read_as-requires c = record { whole = c.requires; sized = subst Length (sym c.number_length.ensures) (length_of c.args.job.now) }
 
 pub returns : goal.returns
 returns c = let a = c.args in let e = c.read_as.ensures in
