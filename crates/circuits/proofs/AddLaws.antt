@@ -11,7 +11,7 @@ use Rattle.theory.specs.Circuit.{ripple_carry_adder, last_carry, sum_bit, next_c
 use Rattle.theory.specs.Move.{bits, bit_of}
 use Rattle.theory.specs.Alethe.{sum_at, carry_at}
 use Rattle.theory.proofs.Indexed.{adder_bits, last_carry_bits}
-use Rattle.circuits.proofs.FillLaws.{Filling, fill_start, fill_turn, fill_end, front}
+use Rattle.circuits.proofs.FillLaws.{Filling, fill_turn, fill_end, front}
 
 -- i bits are stored, c is the carry into bit i, and l the one into the bit before it
 pub record Adding (g : Gates ℕ) (xs ys : List ℕ) (n c₀ : ℕ) (out : List ℕ) (l c i : ℕ) : Type 0 where
@@ -20,9 +20,6 @@ pub record Adding (g : Gates ℕ) (xs ys : List ℕ) (n c₀ : ℕ) (out : List 
   pub last : l ≡ carry_at g c₀ (bit_of 0 xs) (bit_of 0 ys) (i - 1)
 
 module _ {g : Gates ℕ} {xs ys : List ℕ} {n c₀ : ℕ} {out : List ℕ} where
-  pub adder_start : length out ≡ 64 → Adding g xs ys n c₀ out c₀ c₀ 0
-  adder_start e = record { fill = fill_start e; into = refl; last = refl }
-
   pub adder_turn : {l c v c' i : ℕ} → Adding g xs ys n c₀ out l c i
       → v ≡ sum_bit g (get_or xs i 0) (get_or ys i 0) c → c' ≡ next_carry g (get_or xs i 0) (get_or ys i 0) c
       → i < n → n ≤ 64 → Adding g xs ys n c₀ (set out i v) c c' (i + 1)

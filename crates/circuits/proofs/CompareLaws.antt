@@ -1,12 +1,12 @@
 -- Comparisons: the loop of bitblast_ult, the sign bit, and one equation or several.
 use mathlib.Core.Path.{◌≡◌, refl, sym, ap, ap₂, ◌∙◌}
 use mathlib.Core.List.{List, [], ◌∷◌}
-use Prim.Native.Nat.{ℕ, zero, suc, ◌+◌, ◌-◌, ◌<◌, ◌≤◌}
+use Prim.Native.Nat.{ℕ, zero, suc, ◌-◌, ◌<◌, ◌≤◌}
 use native.Mathlib.Nat.{not-suc-le-zero}
 use native.Mathlib.Omega.{arith}
 use lib.ListN.{length, take, get_or}
 use Rattle.theory.specs.Gates.{Gates}
-use Rattle.theory.specs.Circuit.{less_step, sign_step, bitblast_ult, slt, gather}
+use Rattle.theory.specs.Circuit.{sign_step, bitblast_ult, slt, gather}
 use Rattle.theory.specs.Move.{bit_of}
 use Rattle.theory.specs.Alethe.{less_at}
 use Rattle.theory.proofs.Indexed.{ult_bits, slt_bits}
@@ -28,18 +28,6 @@ module _ (g : Gates ℕ) (xs ys : List ℕ) where
       ∙ ult_bits g k (λ i. get_or xs (suc i) 0) (λ i. get_or ys (suc i) 0) (less_at g (bit_of 0 xs) (bit_of 0 ys)) (λ i. refl)
 
 module _ {g : Gates ℕ} {xs ys : List ℕ} where
-  pub ult_start : {n r : ℕ} → r ≡ g.and_gate (g.not_gate (get_or xs 0 0)) (get_or ys 0 0) → 1 ≤ n → Comparing g xs ys n r 1
-  ult_start e h = record { passed = h; k = 0; at = refl; says = e }
-
-  pub ult_turn : {n r r' i : ℕ} → Comparing g xs ys n r i → r' ≡ less_step g (get_or xs i 0) (get_or ys i 0) r → i < n → Comparing g xs ys n r' (i + 1)
-  ult_turn {i} inv e h =
-      record {
-        passed = omega arith;
-        k = suc inv.k;
-        at = omega (arith, inv.at);
-        says = e ∙ ap₂ (λ (j r : ℕ). less_step g (get_or xs j 0) (get_or ys j 0) r) inv.at inv.says;
-      }
-
   pub ult_end : {n r i : ℕ} → Comparing g xs ys n r i → n ≤ i → n ≤ length xs → n ≤ length ys → r ≡ bitblast_ult g (take n xs) (take n ys)
   ult_end {n} inv h lx ly =
       let z : n ≡ suc inv.k = omega (arith, inv.at, inv.passed) in

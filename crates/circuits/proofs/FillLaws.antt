@@ -54,9 +54,6 @@ pub record Mapping (f : ℕ → ℕ) (xs : List ℕ) (n : ℕ) (out : List ℕ) 
   pub fill : Filling (λ k. f (get_or xs k 0)) n out i
 
 module _ {f : ℕ → ℕ} {xs : List ℕ} {n : ℕ} {out : List ℕ} where
-  pub map_start : length out ≡ 64 → Mapping f xs n out 0
-  map_start e = record { fill = fill_start e }
-
   pub map_turn : {i v : ℕ} → Mapping f xs n out i → v ≡ f (get_or xs i 0) → i < n → n ≤ 64 → Mapping f xs n (set out i v) (i + 1)
   map_turn inv e h k = record { fill = fill_turn inv.fill e h k }
 
@@ -68,9 +65,6 @@ pub record Zipping (f : ℕ → ℕ → ℕ) (xs ys : List ℕ) (n : ℕ) (out :
   pub fill : Filling (λ k. f (get_or xs k 0) (get_or ys k 0)) n out i
 
 module _ {f : ℕ → ℕ → ℕ} {xs ys : List ℕ} {n : ℕ} {out : List ℕ} where
-  pub zip_start : length out ≡ 64 → Zipping f xs ys n out 0
-  zip_start e = record { fill = fill_start e }
-
   pub zip_turn : {i v : ℕ} → Zipping f xs ys n out i → v ≡ f (get_or xs i 0) (get_or ys i 0) → i < n → n ≤ 64 → Zipping f xs ys n (set out i v) (i + 1)
   zip_turn inv e h k = record { fill = fill_turn inv.fill e h k }
 

@@ -11,7 +11,6 @@ use Rattle.theory.specs.Limit.{first_terms}
 use Rattle.theory.specs.Kind.{Op, Arity, BvAnd, BvOr, BvXor, BvMul, BvAdd, kind, arity, many, takes}
 use Rattle.theory.specs.Term.{Term, node, fold, folds, from_list}
 use Rattle.theory.specs.Sort.{Sort, good, alike, all_are, same_sort, is_bv_sort, fitting, result_sort, sort_op, sort_of}
-use Rattle.theory.specs.Record.{Bytes}
 use Rattle.theory.specs.Codes.{all_below}
 use Rattle.theory.specs.Verdict.{Verdict, held, wrong_form}
 use Rattle.theory.specs.RuleTable.{Rule, by_and, by_or, by_xor, by_mult, by_add}
@@ -24,17 +23,16 @@ use Rattle.terms.specs.declared.Term.{Term as Decoded}
 use Rattle.terms.specs.declared.Term.TheVariants as D
 use Rattle.terms.specs.declared.Operands.{Operands}
 use Rattle.terms.specs.declared.Operands.TheVariants.{List as Listed}
-use Rattle.terms.specs.Decoded.{op_of, operands_of, numbers_of, words_in}
+use Rattle.terms.specs.Decoded.{op_of, operands_of, numbers_of}
 use Rattle.terms.proofs.Lists.{words_in_length}
-use Rattle.store.specs.Store.{Store}
-use Rattle.store.specs.Sorts.{Arguments}
-use Rattle.store.specs.Terms.{TermAt}
+use Rattle.store.specs.declared.gates.Kept.{Kept}
+use Rattle.store.specs.Kept.{KeptArguments, IsTermAt, kept_term, kept_arguments, words_of}
+use Rattle.store.proofs.Keeping.{store_of}
 use Rattle.store.proofs.Arguments.{operand_below}
-use Rattle.operand_rules.specs.Rules.{tree}
 use Rattle.operand_rules.proofs.Forms.{good_guard, no_form, args_form, list_inside, below_of, fits, left_below, right_below, sides}
 use Rattle.list_rules.specs.declared.folds.Operation.{Operation}
 use Rattle.list_rules.specs.declared.folds.Operation.TheVariants.{And, Or, Xor, Mult, Add}
-use Rattle.list_rules.specs.Lists.{Many, argument, arguments, expected}
+use Rattle.list_rules.specs.Lists.{Many, argument, expected}
 use Rattle.theory.proofs.Basics.{T_true, true_T}
 use Rattle.theory.proofs.Sound.{same_sort_eq}
 
@@ -130,10 +128,10 @@ fits_alike op us g =
     subst (λ (rs : List Sort). T (alike rs)) (folds_from_list sort_op us) (subst T (asks_alike op ss) h)
 
 -- ---- THE LITERAL: it is decoded as an equation, whose left side is decoded as u
-module _ (op : Operation) {job work : Bytes} {n p l r : ℕ} {t u : Decoded} (s : TermAt job work n p t) (e : t ≡ D.Equals l r) (q : TermAt job work n l u) where
+module _ (op : Operation) (k : Kept) {p l r : ℕ} {t u : Decoded} (s : IsTermAt k p t) (e : t ≡ D.Equals l r) (q : IsTermAt k l u) where
   -- u is of another kind
-  pub refused : eqb (kind (op_of u)) (kind (kind_of op)) ≡ false → wrong_form ≡ verdict (rule_of op) (tree job work n p)
-  refused k = no_form q (kind (kind_of op)) k _ ∙ on_list op _ _ ∙ sides s (rule_of op) e
+  pub refused : eqb (kind (op_of u)) (kind (kind_of op)) ≡ false → wrong_form ≡ verdict (rule_of op) (kept_term k p)
+  refused o = no_form q (kind (kind_of op)) o _ ∙ on_list op _ _ ∙ sides s (rule_of op) e
 
   -- u is the operation on the list a
   module _ (a : Args) (d : u ≡ term_of op a) where
@@ -145,30 +143,29 @@ module _ (op : Operation) {job work : Bytes} {n p l r : ℕ} {t u : Decoded} (s 
     its_list = ap operands_of d ∙ term_list op a
 
     -- the check's answer is the rule's
-    pub answered : {v : Verdict} → v ≡ compare held (expected op (arguments job work n a)) (tree job work n r) → v ≡ verdict (rule_of op) (tree job work n p)
+    pub answered : {v : Verdict} → v ≡ compare held (expected op (kept_arguments k a)) (kept_term k r) → v ≡ verdict (rule_of op) (kept_term k p)
     answered h = h ∙ sym (args_form q (kind_of op) (Listed a) its_kind its_list _) ∙ on_list op _ _ ∙ sides s (rule_of op) e
 
     -- what the check may take for granted
-    pub many_given : Store job work n → p < first_terms + n → Many job work n a r
-    many_given store there =
-        let ks = words_in job a in
+    pub many_given : p < first_terms + k.lookup.rows → Many k a r
+    many_given there =
+        let ks = words_of k a in
         let left = left_below s l r _ (ap operands_of e) there in
-        let size = words_in_length job a in
+        let size = words_in_length k.lookup.job.now a in
         let b : T (all_below l ks) = below_of q (Listed a) its_list in
         let inside = list_inside q a its_list in
         let count : T (takes many (length ks)) = true_T _ (ap (λ (x : Arity). takes x (length ks)) (sym (takes_many op))
-        ∙ ap₂ (λ (o : Op) (x : Operands). takes (arity o) (length (numbers_of job x))) (sym its_kind) (sym its_list) ∙ q.number) in
+        ∙ ap₂ (λ (o : Op) (x : Operands). takes (arity o) (length (numbers_of k.lookup.job.now x))) (sym its_kind) (sym its_list) ∙ q.number) in
         let some = leb→le 1 (length ks) (and_l (leb 1 (length ks)) _ count) in
-        let given : Arguments job work n (Listed a) = record { store = store; placed = inside; below = T_true _ (more_below l (first_terms + n) (omega arith) ks b) } in
-        let sorts = all_alike (tree job work n) ks (fits_alike op (map (tree job work n) ks) (fits q store left (kind_of op) (Listed a) its_kind its_list)) in
+        let given : KeptArguments k (Listed a) = record { store = store_of k; placed = inside; below = T_true _ (more_below l (first_terms + k.lookup.rows) (omega arith) ks b) } in
+        let sorts = all_alike (kept_term k) ks (fits_alike op (map (kept_term k) ks) (fits q (store_of k) left (kind_of op) (Listed a) its_kind its_list)) in
         record {
           alike = record {
             inside = inside;
             some = omega arith;
             each = λ i h. record {
-              store = store;
               there = operand_below given i h refl;
-              sort = (sorts i (omega arith)).0 ∙ is_bv (sort_of (tree job work n (argument job a 0))) (sorts i (omega arith)).1;
+              sort = (sorts i (omega arith)).0 ∙ is_bv (sort_of (kept_term k (argument k a 0))) (sorts i (omega arith)).1;
             };
           };
           claimed = right_below s l r _ (ap operands_of e) there;

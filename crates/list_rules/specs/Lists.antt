@@ -1,5 +1,5 @@
 -- What an operation does with its argument list, and what its check may take for granted of the list.
-use mathlib.Core.List.{List, [], ◌∷◌, map, foldl}
+use mathlib.Core.List.{List, [], ◌∷◌, foldl}
 use Rattle.std.specs.Prelude.{ℕ, ◌+◌, ◌<◌, ◌≤◌, get_or}
 use Rattle.theory.specs.Limit.{first_terms}
 use Rattle.theory.specs.Kind as K
@@ -7,10 +7,11 @@ use Rattle.theory.specs.Term.{Term, two}
 use Rattle.theory.specs.Gates.{Gates, term_gates}
 use Rattle.theory.specs.Circuit.{zip_with, ripple_carry_adder, shift_add_multiplier}
 use Rattle.theory.specs.Bits.{get_term_bits, bb, fold_terms, zipped, product, add_bits}
-use Rattle.theory.specs.Record.{Bytes}
 use Rattle.terms.specs.declared.Args.{Args}
-use Rattle.terms.specs.Decoded.{Inside, words_in}
-use Rattle.operand_rules.specs.Rules.{Operand, tree, width_in}
+use Rattle.terms.specs.Decoded.{Inside}
+use Rattle.store.specs.declared.gates.Kept.{Kept}
+use Rattle.store.specs.Kept.{kept_width, words_of}
+use Rattle.operand_rules.specs.Rules.{Operand}
 use Rattle.list_rules.specs.declared.folds.Operation.{Operation}
 use Rattle.list_rules.specs.declared.folds.Operation.TheVariants.{And, Or, Xor, Mult, Add}
 
@@ -48,20 +49,16 @@ least Mult = 2
 least Add = 1
 
 -- the number of argument i
-abbrev pub argument : Bytes → Args → ℕ → ℕ
-argument job list i = get_or (words_in job list) i 0
-
--- the terms of an argument list
-abbrev pub arguments : Bytes → Bytes → ℕ → Args → List Term
-arguments job work n list = map (tree job work n) (words_in job list)
+abbrev pub argument : Kept → Args → ℕ → ℕ
+argument kept list i = get_or (words_of kept list) i 0
 
 -- one argument or more, all of them bit-vectors of width w
-pub record Alike (job work : Bytes) (n : ℕ) (list : Args) (w : ℕ) : Type 0 where
-  pub inside : Inside job list
+pub record Alike (kept : Kept) (list : Args) (w : ℕ) : Type 0 where
+  pub inside : Inside kept.lookup.job.now list
   pub some : 1 ≤ list.count
-  pub each : (i : ℕ) → i < list.count → Operand job work n (argument job list i) w
+  pub each : (i : ℕ) → i < list.count → Operand kept (argument kept list i) w
 
 -- an operation of bit-vectors of one width, and the claim
-pub record Many (job work : Bytes) (n : ℕ) (list : Args) (claim : ℕ) : Type 0 where
-  pub alike : Alike job work n list (width_in job work n (argument job list 0))
-  pub claimed : claim < first_terms + n
+pub record Many (kept : Kept) (list : Args) (claim : ℕ) : Type 0 where
+  pub alike : Alike kept list (kept_width kept (argument kept list 0))
+  pub claimed : claim < first_terms + kept.lookup.rows

@@ -3,8 +3,8 @@ ghost use Rattle.std.specs.Prelude.{◌≡◌, map, ◌≤◌, take};
 ghost use Rattle.theory.specs.Limit.{max_width};
 ghost use Rattle.theory.specs.Verdict.{held};
 ghost use Rattle.theory.specs.Rule.{compare};
-ghost use Rattle.table.specs.Buckets.{Table};
-ghost use Rattle.store.specs.Lent.{gates, kept_number, kept_term, kept_arguments};
+ghost use Rattle.store.specs.Lookup.{gates};
+ghost use Rattle.store.specs.Kept.{kept_number, kept_term, kept_arguments};
 ghost use Rattle.operand_rules.specs.Rules.{verdict_of};
 ghost use Rattle.list_rules.specs.Lists.{Alike, Many, circuit, least, folded_bits, expected};
 
@@ -13,7 +13,7 @@ use circuits::bits::{Bits, ands, ors, xors};
 use circuits::multiplier::shift_add_multiplier;
 use operand_rules::bits::{compare_bits, get_term_bits, width_at};
 use operand_rules::{Verdict, compare};
-use store::gates::FALSE;
+use store::gates::{FALSE, Kept, Lookup};
 use terms::{Args, Term};
 
 // The operations that take an argument list.
@@ -27,34 +27,34 @@ pub enum Operation {
 }
 
 // The circuit of an operation, on two bit-vectors of width w.
-fn combine(job: &[u8], work: &[u8], n: usize, op: Operation, x: Bits, y: Bits, w: usize) -> Bits
-    requires table { Table job.now work.now n }
-    requires width { (1 ≤ w) × (w ≤ max_width) }
-    ensures { take w result ≡ circuit (gates job work n) op (take w x) (take w y) }
+fn combine(lookup: &Lookup, op: Operation, x: Bits, y: Bits, w: usize) -> Bits
+    requires some { 1 ≤ w }
+    requires within { w ≤ max_width }
+    ensures { take w result ≡ circuit (gates lookup.now) op (take w x) (take w y) }
 {
     match op {
-        Operation::And => ands(job, work, n, x, y, w),
-        Operation::Or => ors(job, work, n, x, y, w),
-        Operation::Xor => xors(job, work, n, x, y, w),
-        Operation::Mult => shift_add_multiplier(job, work, n, x, y, w),
+        Operation::And => ands(lookup, x, y, w),
+        Operation::Or => ors(lookup, x, y, w),
+        Operation::Xor => xors(lookup, x, y, w),
+        Operation::Mult => shift_add_multiplier(lookup, x, y, w),
         Operation::Add => {
-            let sum = ripple_carry_adder(job, work, n, x, y, w, FALSE);
+            let sum = ripple_carry_adder(lookup, x, y, w, FALSE);
             sum.bits
         }
     }
 }
 
 // The bits of the operation on all arguments, from the left.
-fn fold_arguments(job: &[u8], work: &[u8], n: usize, op: Operation, list: Args, w: usize) -> Bits
-    requires { Alike job.now work.now n list w }
-    ensures { take w result ≡ map (kept_number job work n) (folded_bits op (kept_arguments job work n list)) }
+fn fold_arguments(kept: &Kept, op: Operation, list: Args, w: usize) -> Bits
+    requires { Alike kept.now list w }
+    ensures { take w result ≡ map (kept_number kept.now) (folded_bits op (kept_arguments kept.now list)) }
 {
     let count = list.count;
-    let mut bits = get_term_bits(job, work, n, Term::argument(job, list, 0), w);
+    let mut bits = get_term_bits(kept, Term::argument(kept.lookup.job, list, 0), w);
     let mut i = 1;
     while i < count {
-        let next = get_term_bits(job, work, n, Term::argument(job, list, i), w);
-        let all = combine(job, work, n, op, bits, next, w);
+        let next = get_term_bits(kept, Term::argument(kept.lookup.job, list, i), w);
+        let all = combine(&kept.lookup, op, bits, next, w);
         bits = all;
         i += 1;
     }
@@ -75,24 +75,17 @@ fn least(op: Operation) -> usize
 }
 
 // The claim is the term that the operation expects of its arguments.
-pub fn folded_check(
-    job: &[u8],
-    work: &[u8],
-    n: usize,
-    op: Operation,
-    list: Args,
-    claim: u32,
-) -> Verdict
-    requires { Many job.now work.now n list claim }
+pub fn folded_check(kept: &Kept, op: Operation, list: Args, claim: u32) -> Verdict
+    requires { Many kept.now list claim }
     ensures { verdict_of result ≡ compare held
-        (expected op (kept_arguments job work n list)) (kept_term job work n claim) }
+        (expected op (kept_arguments kept.now list)) (kept_term kept.now claim) }
 {
     let count = list.count;
-    let first = Term::argument(job, list, 0);
+    let first = Term::argument(kept.lookup.job, list, 0);
     if count < least(op) {
         return compare(first, claim);
     }
-    let w = width_at(job, work, n, first);
-    let bits = fold_arguments(job, work, n, op, list, w);
-    compare_bits(job, work, n, bits, w, claim)
+    let w = width_at(kept, first);
+    let bits = fold_arguments(kept, op, list, w);
+    compare_bits(&kept.lookup, bits, w, claim)
 }

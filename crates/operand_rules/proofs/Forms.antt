@@ -2,7 +2,7 @@
 use mathlib.Core.Path.{◌≡◌, sym, ap, ap₂, subst, ◌∙◌}
 use mathlib.Core.Bool.{Bool, true, false, ◌&&◌, cond}
 use mathlib.Core.List.{List, [], ◌∷◌, map}
-use mathlib.Core.Option.{none, some}
+use Rattle.std.specs.Prelude.{None as none, Some as some}
 use Prim.Native.Nat.{ℕ, ◌+◌, ◌<◌}
 use native.Mathlib.Omega.{arith}
 use lib.Dec.{T, eqb, ltb, ltb→lt}
@@ -33,7 +33,10 @@ use Rattle.terms.proofs.Cases.{kinds, all_other, other_kind}
 use Rattle.terms.specs.contracts.Term as E
 use Rattle.store.specs.Store.{Store, listed}
 use Rattle.store.specs.Terms.{TermAt}
-use Rattle.operand_rules.specs.Rules.{One, Two, Same, tree}
+use Rattle.store.specs.declared.gates.Kept.{Kept}
+use Rattle.store.specs.Kept.{IsTermAt, kept_term}
+use Rattle.store.proofs.Keeping.{store_of}
+use Rattle.operand_rules.specs.Rules.{One, Two, Same}
 use Rattle.operand_rules.proofs.Tests.{same_eqb}
 use Rattle.theory.proofs.Basics.{true_T}
 use Rattle.theory.proofs.Sound.{same_sort_eq}
@@ -43,6 +46,10 @@ pub good_guard : (b : Bool) (s : Sort) → T (good (guard b s)) → T b
 unfolding guard
 good_guard true s h = tt
 good_guard false s h = absurd h
+
+-- the term at a place
+abbrev pub tree : Bytes → Bytes → ℕ → ℕ → Term
+tree job work n x = tree_at (listed job work n) x
 
 -- ---- the else of a pattern, by the pattern's number among the cases
 abbrev without : ℕ → List ℕ → List ℕ
@@ -136,24 +143,6 @@ module _ {job work : Bytes} {n p : ℕ} {t : Decoded} (s : TermAt job work n p t
           same_sort_eq (sort_of a) (sort_of b) (and_l (same_sort (sort_of a) (sort_of b)) _ (and_r (same_sort (sort_of a) (sort_of a)) _ (and_r (is_bv_sort (sort_of a)) _ h))),
         )
 
-    -- what the check of an operation of one bit-vector may take for granted
-    pub one_given : (x claim : ℕ) → op_of t ≡ o → operands_of t ≡ OneArg x → claim < first_terms + n → One job work n x claim
-    one_given x claim e d c = record {
-      only = record { store = store; there = one_below x _ d there; sort = is_bv (sort_of (tree job work n x)) (one_alike (tree job work n x) (fits store there o (OneArg x) e d)) };
-      claimed = c;
-    }
-
-    -- of two
-    pub two_given : (x y claim : ℕ) → op_of t ≡ o → operands_of t ≡ TwoArgs x y → claim < first_terms + n → Two job work n x y claim
-    two_given x y claim e d c =
-        let g = two_alike (tree job work n x) (tree job work n y) (fits store there o (TwoArgs x y) e d) in
-        let b = is_bv (sort_of (tree job work n x)) g.0 in
-        record {
-          left = record { store = store; there = left_below x y _ d there; sort = b };
-          right = record { store = store; there = right_below x y _ d there; sort = sym g.1 ∙ b };
-          claimed = c;
-        }
-
   -- ---- an equation's sides are of one sort
   same_two : (a b : Term) → T (good (sort_of (node Equals (cons a (cons b nil))))) → sort_of a ≡ sort_of b
   unfolding fold
@@ -161,15 +150,6 @@ module _ {job work : Bytes} {n p : ℕ} {t : Decoded} (s : TermAt job work n p t
       let ss = sort_of a ∷ sort_of b ∷ [] in
       let h = good_guard (good (sort_of a) && all_are (sort_of a) ss) bool g in
       same_sort_eq (sort_of a) (sort_of b) (and_l (same_sort (sort_of a) (sort_of b)) _ (and_r (same_sort (sort_of a) (sort_of a)) _ (and_r (good (sort_of a)) _ h)))
-
-  pub same_given : Store job work n → p < first_terms + n → (x y claim : ℕ) → op_of t ≡ Equals → operands_of t ≡ TwoArgs x y → claim < first_terms + n → Same job work n x y claim
-  same_given store there x y claim e d c = record {
-    store = store;
-    left = left_below x y _ d there;
-    right = right_below x y _ d there;
-    same = sym (same_two (tree job work n x) (tree job work n y) (fits store there Equals (TwoArgs x y) e d));
-    claimed = c;
-  }
 
   -- ---- the literal of a rule
   pub no_equation : (rule : Rule) → Among (0 ∷ others 9) (tag_of E.the_type t) → wrong_form ≡ verdict rule (tree job work n p)
@@ -179,3 +159,32 @@ module _ {job work : Bytes} {n p : ℕ} {t : Decoded} (s : TermAt job work n p t
   pub sides : (rule : Rule) {l r : ℕ} → t ≡ D.Equals l r → on_sides rule (tree job work n l) (tree job work n r) ≡ verdict rule (tree job work n p)
   unfolding verdict
   sides rule {l} {r} e = sym (two_form Equals l r (ap op_of e) (ap operands_of e) (on_sides rule))
+
+-- ---- what a rule's check may take for granted
+module _ (k : Kept) {p : ℕ} {t : Decoded} (s : IsTermAt k p t) (there : p < first_terms + k.lookup.rows) where
+  module _ (o : Op) (asks : (ss : List Sort) → fitting o ss ≡ alike ss) where
+    -- what the check of an operation of one bit-vector may take for granted
+    pub one_given : (x claim : ℕ) → op_of t ≡ o → operands_of t ≡ OneArg x → claim < first_terms + k.lookup.rows → One k x claim
+    one_given x claim e d c = record {
+      only = record { there = one_below s x _ d there; sort = is_bv (sort_of (kept_term k x)) (one_alike s (store_of k) there o asks (kept_term k x) (fits s (store_of k) there o (OneArg x) e d)) };
+      claimed = c;
+    }
+
+    -- of two
+    pub two_given : (x y claim : ℕ) → op_of t ≡ o → operands_of t ≡ TwoArgs x y → claim < first_terms + k.lookup.rows → Two k x y claim
+    two_given x y claim e d c =
+        let g = two_alike s (store_of k) there o asks (kept_term k x) (kept_term k y) (fits s (store_of k) there o (TwoArgs x y) e d) in
+        let b = is_bv (sort_of (kept_term k x)) g.0 in
+        record {
+          left = record { there = left_below s x y _ d there; sort = b };
+          right = record { there = right_below s x y _ d there; sort = sym g.1 ∙ b };
+          claimed = c;
+        }
+
+  pub same_given : (x y claim : ℕ) → op_of t ≡ Equals → operands_of t ≡ TwoArgs x y → claim < first_terms + k.lookup.rows → Same k x y claim
+  same_given x y claim e d c = record {
+    left = left_below s x y _ d there;
+    right = right_below s x y _ d there;
+    same = sym (same_two s (kept_term k x) (kept_term k y) (fits s (store_of k) there Equals (TwoArgs x y) e d));
+    claimed = c;
+  }

@@ -31,12 +31,14 @@ use Rattle.terms.specs.declared.Term.TheVariants as D
 use Rattle.terms.specs.Decoded.{op_of, arguments_of, words_in}
 use Rattle.rows.specs.Rows.{kept}
 use Rattle.rows.proofs.RowLaws.{link_holds, link_back}
-use Rattle.store.specs.Numbers.{numbers, bit_number, bb_number, is_false_number, numbers_in}
-use Rattle.store.specs.Store.{Store, listed}
-use Rattle.store.specs.Terms.{TermAt}
+use Rattle.store.specs.Numbers.{numbers, bit_number, bb_number, is_false_number}
+use Rattle.store.specs.declared.gates.Kept.{Kept}
+use Rattle.store.specs.Lookup.{gates}
+use Rattle.store.specs.Kept.{IsTermAt, kept_terms, kept_term, kept_number}
+use Rattle.store.proofs.Keeping.{store_of}
 use Rattle.store.proofs.Lookup.{Few, number_hom, number_exact, bb_hom}
 use Rattle.store.proofs.Claims.{own_numbers, select_numbers, compare_number}
-use Rattle.operand_rules.specs.Rules.{Operand, tree, number_in}
+use Rattle.operand_rules.specs.Rules.{Operand}
 use Rattle.theory.proofs.Basics.{true_T, T_same}
 
 -- the width of a bit-vector is 1 to 64
@@ -71,67 +73,66 @@ bb_width us w e =
     guarded true m k d = ap sort_width d
     guarded false m k d = absurd (let z : ◌≡◌ {A = ℕ} 0 1 = ap (λ (x : Sort). is_bv_number x) d in omega arith)
 
-module _ {job work : Bytes} {n : ℕ} where
-  pub few : Store job work n → Few (number_length job) (listed job work n)
-  few s =
-      let c = s.count in
-      let r = s.table.rows in
-      let f = link_holds (number_length job) _ r.few in
-      record { length_b = link_back r.link_length; count = omega arith }
+pub few : (k : Kept) → Few (number_length k.lookup.job.now) (kept_terms k)
+few k =
+    let c = (store_of k).count in
+    let r = (store_of k).table.rows in
+    let f = link_holds (number_length k.lookup.job.now) _ r.few in
+    record { length_b = link_back r.link_length; count = omega arith }
 
-  pub there : Store job work n → {x : ℕ} → x < first_terms + n → x < length (listed job work n)
-  there s h = let c = s.count in omega arith
+pub there : (k : Kept) → {x : ℕ} → x < first_terms + k.lookup.rows → x < length (kept_terms k)
+there k h = let c = (store_of k).count in omega arith
 
-  pub widths : {x w : ℕ} → Operand job work n x w → (1 ≤ w) × (w ≤ 64)
-  widths {x} {w} o = sized_bv (sort_of (tree job work n x)) w (sorts_sized (tree job work n x)) o.sort
+pub widths : {k : Kept} {x w : ℕ} → Operand k x w → (1 ≤ w) × (w ≤ 64)
+widths {k} {x} {w} o = sized_bv (sort_of (kept_term k x)) w (sorts_sized (kept_term k x)) o.sort
 
-  pub operand_as : {x v w : ℕ} → Operand job work n x w → v ≡ w → Operand job work n x v
-  operand_as {x} o e = subst (λ (u : ℕ). Operand job work n x u) (sym e) o
+pub operand_as : {k : Kept} {x v w : ℕ} → Operand k x w → v ≡ w → Operand k x v
+operand_as {k} {x} o e = subst (λ (u : ℕ). Operand k x u) (sym e) o
 
-  -- looking gates up respects the gates
-  pub store_hom : Store job work n → Hom term_gates (numbers_in job work n) (number_in job work n)
-  store_hom s = subst (λ (rs : List Bytes). Hom term_gates (numbers (number_length job) rs) (number_in job work n)) s.records_are (number_hom (listed job work n) s.well (few s))
+-- looking gates up respects the gates
+pub store_hom : (k : Kept) → Hom term_gates (gates k.lookup) (kept_number k)
+store_hom k = subst (λ (rs : List Bytes). Hom term_gates (numbers (number_length k.lookup.job.now) rs) (kept_number k)) (store_of k).records_are (number_hom (kept_terms k) (store_of k).well (few k))
 
-  -- the divider's test: the term `false` has the number 1
-  pub false_test : Store job work n → (t : Term) → literally_false t ≡ is_false_number (number_in job work n t)
-  false_test s t =
-      let e : tree job work n 1 ≡ node False nil = tree_1 (listed job work n) s.well in
-      let g = number_exact (listed job work n) s.well (few s) 1 (there s (omega arith)) t in
-      T_same (same_term t (node False nil)) (eqb (number_in job work n t) 1)
-      (λ h. subst (λ (k : ℕ). T (eqb k 1)) (sym (g.1 (e ∙ sym (same_eq t (node False nil) h)))) tt)
-      (λ h. eq_same t (node False nil) (sym (g.0 (eqb→eq (number_in job work n t) 1 h)) ∙ e))
+-- the divider's test: the term `false` has the number 1
+pub false_test : (k : Kept) → (t : Term) → literally_false t ≡ is_false_number (kept_number k t)
+false_test k t =
+    let e : kept_term k 1 ≡ node False nil = tree_1 (kept_terms k) (store_of k).well in
+    let g = number_exact (kept_terms k) (store_of k).well (few k) 1 (there k (omega arith)) t in
+    T_same (same_term t (node False nil)) (eqb (kept_number k t) 1)
+    (λ h. subst (λ (k : ℕ). T (eqb k 1)) (sym (g.1 (e ∙ sym (same_eq t (node False nil) h)))) tt)
+    (λ h. eq_same t (node False nil) (sym (g.0 (eqb→eq (kept_number k t) 1 h)) ∙ e))
 
-  -- THE LAST TEST of a rule: e is the number of the expected term
-  pub ends : (ok : Verdict) → Store job work n → {v : Verdict} {claim e : ℕ} → claim < first_terms + n → (t : Term) → e ≡ number_in job work n t
-      → v ≡ cond (eqb e claim) ok terms_differ → v ≡ compare ok t (tree job work n claim)
-  ends ok s {v} {claim} h t d c =
-      c ∙ ap (λ (k : ℕ). cond (eqb k claim) ok terms_differ) d ∙ sym (compare_number (listed job work n) s.well (few s) ok t claim (there s h))
+-- THE LAST TEST of a rule: e is the number of the expected term
+pub ends : (ok : Verdict) → (k : Kept) → {v : Verdict} {claim e : ℕ} → claim < first_terms + k.lookup.rows → (t : Term) → e ≡ kept_number k t
+    → v ≡ cond (eqb e claim) ok terms_differ → v ≡ compare ok t (kept_term k claim)
+ends ok k {v} {claim} h t d c =
+    c ∙ ap (λ (k : ℕ). cond (eqb k claim) ok terms_differ) d ∙ sym (compare_number (kept_terms k) (store_of k).well (few k) ok t claim (there k h))
 
-  -- where a term of bits is expected, and bs are the numbers of these
-  pub bits_end : (ok : Verdict) → Store job work n → {v : Verdict} {claim : ℕ} {bs : List ℕ} → claim < first_terms + n → (ts : List Term) → bs ≡ map (number_in job work n) ts
-      → v ≡ cond (eqb (bb_number (number_length job) (kept job work n) bs) claim) ok terms_differ → v ≡ compare ok (bb ts) (tree job work n claim)
-  bits_end ok s h ts d =
-      ends ok s h (bb ts)
-      (ap₂ (bb_number (number_length job)) (sym s.records_are) d ∙ sym (bb_hom (listed job work n) s.well (few s) ts))
+-- where a term of bits is expected, and bs are the numbers of these
+pub bits_end : (ok : Verdict) → (k : Kept) → {v : Verdict} {claim : ℕ} {bs : List ℕ} → claim < first_terms + k.lookup.rows → (ts : List Term) → bs ≡ map (kept_number k) ts
+    → v ≡ cond (eqb (bb_number (number_length k.lookup.job.now) (kept k.lookup.job.now k.lookup.work.now k.lookup.rows) bs) claim) ok terms_differ → v ≡ compare ok (bb ts) (kept_term k claim)
+bits_end ok k h ts d =
+    ends ok k h (bb ts)
+    (ap₂ (bb_number (number_length k.lookup.job.now)) (sym (store_of k).records_are) d ∙ sym (bb_hom (kept_terms k) (store_of k).well (few k) ts))
 
-  pub selected : {p w : ℕ} {t : Decoded} {xs : List ℕ} → Operand job work n p w → TermAt job work n p t → eqb (kind (op_of t)) (kind BvBbTerm) ≡ false
-      → xs ≡ bits w (λ i. bit_number (number_length job) (kept job work n) i p) → xs ≡ map (number_in job work n) (get_term_bits (tree job work n p))
-  selected {p} {w} {t} o s d e =
-      e
-      ∙ sym (ap (map (number_in job work n)) (other_bits (tree job work n p) (op_of t) _ s.made d ∙ ap (λ (x : Sort). select (tree job work n p) 0 (sort_width x)) o.sort)
-      ∙ select_numbers (listed job work n) o.store.well (few o.store) p w (there o.store o.there) (widths o).1
-      ∙ ap (λ (rs : List Bytes). bits w (λ i. bit_number (number_length job) rs i p)) o.store.records_are)
+pub selected : {k : Kept} {p w : ℕ} {t : Decoded} {xs : List ℕ} → Operand k p w → IsTermAt k p t → eqb (kind (op_of t)) (kind BvBbTerm) ≡ false
+    → xs ≡ bits w (λ i. bit_number (number_length k.lookup.job.now) (kept k.lookup.job.now k.lookup.work.now k.lookup.rows) i p) → xs ≡ map (kept_number k) (get_term_bits (kept_term k p))
+selected {k} {p} {w} {t} o s d e =
+    e
+    ∙ sym (ap (map (kept_number k)) (other_bits (kept_term k p) (op_of t) _ s.made d ∙ ap (λ (x : Sort). select (kept_term k p) 0 (sort_width x)) o.sort)
+    ∙ select_numbers (kept_terms k) (store_of k).well (few k) p w (there k o.there) (widths o).1
+    ∙ ap (λ (rs : List Bytes). bits w (λ i. bit_number (number_length k.lookup.job.now) rs i p)) (store_of k).records_are)
 
-  pub argued : {p w : ℕ} {t : Decoded} {a : Args} (xs : List ℕ) → Operand job work n p w → TermAt job work n p t → t ≡ D.BvBbTerm a
-      → take a.count xs ≡ words_in job a → take w xs ≡ map (number_in job work n) (get_term_bits (tree job work n p))
-  argued {p} {w} {t} {a} xs o s e d =
-      let ks = words_in job a in
-      let us = map (tree_at (listed job work n)) ks in
-      let m : tree job work n p ≡ bb us = s.made ∙ ap (λ (q : Decoded). tree_of (listed job work n) (op_of q) (arguments_of job q)) e in
-      let l : length us ≡ w = bb_width us w (ap sort_of (sym m) ∙ o.sort) in
-      let k : a.count ≡ w = sym (words_length a.bytes a.count (drop a.at job)) ∙ sym (length-map ks (tree_at (listed job work n))) ∙ l in
-      let b : T (all_below p ks) = true_T _ (sym (ap (λ (q : Decoded). all_below p (arguments_of job q)) e) ∙ s.below) in
-      let g = there o.store o.there in
-      ap (λ (j : ℕ). take j xs) (sym k) ∙ d
-      ∙ sym (ap (map (number_in job work n)) (ap get_term_bits m ∙ bb_bits us)
-      ∙ own_numbers (listed job work n) o.store.well (few o.store) ks (more_below p (length (listed job work n)) (omega arith) ks b))
+pub argued : {k : Kept} {p w : ℕ} {t : Decoded} {a : Args} (xs : List ℕ) → Operand k p w → IsTermAt k p t → t ≡ D.BvBbTerm a
+    → take a.count xs ≡ words_in k.lookup.job.now a → take w xs ≡ map (kept_number k) (get_term_bits (kept_term k p))
+argued {k} {p} {w} {t} {a} xs o s e d =
+    let ks = words_in k.lookup.job.now a in
+    let us = map (tree_at (kept_terms k)) ks in
+    let m : kept_term k p ≡ bb us = s.made ∙ ap (λ (q : Decoded). tree_of (kept_terms k) (op_of q) (arguments_of k.lookup.job.now q)) e in
+    let l : length us ≡ w = bb_width us w (ap sort_of (sym m) ∙ o.sort) in
+    let same : a.count ≡ w = sym (words_length a.bytes a.count (drop a.at k.lookup.job.now)) ∙ sym (length-map ks (tree_at (kept_terms k))) ∙ l in
+    let b : T (all_below p ks) = true_T _ (sym (ap (λ (q : Decoded). all_below p (arguments_of k.lookup.job.now q)) e) ∙ s.below) in
+    let g = there k o.there in
+    ap (λ (j : ℕ). take j xs) (sym same) ∙ d
+    ∙ sym (ap (map (kept_number k)) (ap get_term_bits m ∙ bb_bits us)
+    ∙ own_numbers (kept_terms k) (store_of k).well (few k) ks (more_below p (length (kept_terms k)) (omega arith) ks b))

@@ -22,13 +22,16 @@ use Rattle.theory.specs.Sort as Th
 use Rattle.theory.proofs.Shift.{lt_two_pow}
 use Rattle.rows.specs.Rows.{kept}
 use Rattle.store.specs.Numbers.{bit_number, constant_number}
-use Rattle.store.specs.Store.{Store, listed, records}
+use Rattle.store.specs.Store.{records}
+use Rattle.store.specs.declared.gates.Kept.{Kept}
+use Rattle.store.specs.Kept.{kept_terms, kept_term, kept_number}
+use Rattle.store.proofs.Keeping.{store_of}
 use Rattle.store.specs.Sorts.{sort_read}
 use Rattle.store.specs.declared.sorts.Sort.{Sort}
 use Rattle.store.specs.declared.sorts.Sort.TheVariants.{Bad, Bool as IsBool, Bv}
 use Rattle.store.specs.contracts.sorts.Sort as E
 use Rattle.store.proofs.Lookup.{bit_hom, constant_hom}
-use Rattle.operand_rules.specs.Rules.{Operand, tree, number_in, width_bits}
+use Rattle.operand_rules.specs.Rules.{Operand, width_bits}
 use Rattle.operand_rules.proofs.Numbers.{few}
 use Rattle.theory.proofs.Indexed.{bits_same}
 
@@ -50,36 +53,35 @@ const_bits w h k = ap (λ (s : Th.Sort). select (node (Const w w) nil) 0 (sort_w
 pub three : (f : List ℕ → List ℕ → List ℕ → List ℕ) {a b c x y z : List ℕ} → a ≡ x → b ≡ y → c ≡ z → f a b c ≡ f x y z
 three f d e g = rw (d, e, g)
 
-module _ {job work : Bytes} {n : ℕ} where
-  -- the pattern: a bit-vector of width w
-  pub operand_told : {x w : ℕ} {r : Sort} → Store job work n → x < first_terms + n → sort_read r ≡ sort_of (tree job work n x) → r ≡ Bv w → Operand job work n x w
-  operand_told s h e d = record { store = s; there = h; sort = sym e ∙ ap sort_read d }
+-- the pattern: a bit-vector of width w
+pub operand_told : (k : Kept) {x w : ℕ} {r : Sort} → x < first_terms + k.lookup.rows → sort_read r ≡ sort_of (kept_term k x) → r ≡ Bv w → Operand k x w
+operand_told k h e d = record { there = h; sort = sym e ∙ ap sort_read d }
 
-  pub is_bits : {x w : ℕ} {v : Verdict} (u : Verdict) → Operand job work n x w → v ≡ u → v ≡ of_bits (tree job work n x) u
-  is_bits u o e = e ∙ sym (ap (λ (s : Th.Sort). cond (is_bv_sort s) u not_bit_vector) o.sort)
+pub is_bits : {k : Kept} {x w : ℕ} {v : Verdict} (u : Verdict) → Operand k x w → v ≡ u → v ≡ of_bits (kept_term k x) u
+is_bits u o e = e ∙ sym (ap (λ (s : Th.Sort). cond (is_bv_sort s) u not_bit_vector) o.sort)
 
-  -- the bits of any term that is no BvBbTerm, from bit i on
-  pub select_from : (s : Store job work n) (t : Term) (i k : ℕ) → i + k ≤ 64
-      → map (number_in job work n) (select t i k) ≡ bits k (λ j. bit_number (number_length job) (records (listed job work n)) (i + j) (number_in job work n t))
-  unfolding select
-  select_from s t i zero l = refl
-  select_from s t i (suc k) l =
-      ap₂ (λ (y : ℕ) (ys : List ℕ). y ∷ ys)
-      (bit_hom (listed job work n) s.well (few s) i (omega arith) t
-      ∙ ap (λ (m : ℕ). bit_number (number_length job) (records (listed job work n)) m (number_in job work n t)) (sym (add-zero i)))
-      (select_from s t (suc i) k (omega arith)
-      ∙ bits_same k (λ j. bit_number (number_length job) (records (listed job work n)) (suc i + j) (number_in job work n t)) (λ j. bit_number (number_length job) (records (listed job work n)) (i + suc j) (number_in job work n t))
-      (λ j. ap (λ (m : ℕ). bit_number (number_length job) (records (listed job work n)) m (number_in job work n t)) (let z : suc i + j ≡ i + suc j = omega arith in z)))
+-- the bits of any term that is no BvBbTerm, from bit i on
+pub select_from : (k : Kept) (t : Term) (i m : ℕ) → i + m ≤ 64
+    → map (kept_number k) (select t i m) ≡ bits m (λ j. bit_number (number_length k.lookup.job.now) (records (kept_terms k)) (i + j) (kept_number k t))
+unfolding select
+select_from k t i zero l = refl
+select_from k t i (suc m) l =
+    ap₂ (λ (y : ℕ) (ys : List ℕ). y ∷ ys)
+    (bit_hom (kept_terms k) (store_of k).well (few k) i (omega arith) t
+    ∙ ap (λ (q : ℕ). bit_number (number_length k.lookup.job.now) (records (kept_terms k)) q (kept_number k t)) (sym (add-zero i)))
+    (select_from k t (suc i) m (omega arith)
+    ∙ bits_same m (λ j. bit_number (number_length k.lookup.job.now) (records (kept_terms k)) (suc i + j) (kept_number k t)) (λ j. bit_number (number_length k.lookup.job.now) (records (kept_terms k)) (i + suc j) (kept_number k t))
+    (λ j. ap (λ (q : ℕ). bit_number (number_length k.lookup.job.now) (records (kept_terms k)) q (kept_number k t)) (let z : suc i + j ≡ i + suc j = omega arith in z)))
 
-  -- the bits of a width
-  pub width_numbers : {xs : List ℕ} {k : ℕ} → Store job work n → (w : ℕ) → 1 ≤ w → w ≤ 64 → k ≡ constant_number (kept job work n) w w
-      → xs ≡ bits w (λ i. bit_number (number_length job) (kept job work n) i k) → xs ≡ map (number_in job work n) (width_bits w)
-  width_numbers {xs} {k} s w h l d e =
-      let t = node (Const w w) nil in
-      let m : k ≡ number_in job work n t =
-      d ∙ ap (λ (rs : List Bytes). constant_number rs w w) (sym s.records_are) ∙ sym (constant_hom (listed job work n) s.well (few s) w w (omega arith) (omega arith)) in
-      e
-      ∙ ap₂ (λ (rs : List Bytes) (j : ℕ). bits w (λ i. bit_number (number_length job) rs i j)) (sym s.records_are) m
-      ∙ sym (ap (map (number_in job work n)) (const_bits w h l) ∙ select_from s t 0 w (omega arith)
-      ∙ bits_same w (λ j. bit_number (number_length job) (records (listed job work n)) (0 + j) (number_in job work n t)) (λ j. bit_number (number_length job) (records (listed job work n)) j (number_in job work n t))
-      (λ j. ap (λ (i : ℕ). bit_number (number_length job) (records (listed job work n)) i (number_in job work n t)) (zero-add j)))
+-- the bits of a width
+pub width_numbers : (k : Kept) {xs : List ℕ} {g : ℕ} → (w : ℕ) → 1 ≤ w → w ≤ 64 → g ≡ constant_number (kept k.lookup.job.now k.lookup.work.now k.lookup.rows) w w
+    → xs ≡ bits w (λ i. bit_number (number_length k.lookup.job.now) (kept k.lookup.job.now k.lookup.work.now k.lookup.rows) i g) → xs ≡ map (kept_number k) (width_bits w)
+width_numbers k {xs} {g} w h l d e =
+    let t = node (Const w w) nil in
+    let m : g ≡ kept_number k t =
+    d ∙ ap (λ (rs : List Bytes). constant_number rs w w) (sym (store_of k).records_are) ∙ sym (constant_hom (kept_terms k) (store_of k).well (few k) w w (omega arith) (omega arith)) in
+    e
+    ∙ ap₂ (λ (rs : List Bytes) (j : ℕ). bits w (λ i. bit_number (number_length k.lookup.job.now) rs i j)) (sym (store_of k).records_are) m
+    ∙ sym (ap (map (kept_number k)) (const_bits w h l) ∙ select_from k t 0 w (omega arith)
+    ∙ bits_same w (λ j. bit_number (number_length k.lookup.job.now) (records (kept_terms k)) (0 + j) (kept_number k t)) (λ j. bit_number (number_length k.lookup.job.now) (records (kept_terms k)) j (kept_number k t))
+    (λ j. ap (λ (i : ℕ). bit_number (number_length k.lookup.job.now) (records (kept_terms k)) i (kept_number k t)) (zero-add j)))

@@ -1,14 +1,12 @@
--- Verdicts as the code has them, the number of a term, and what a rule's check may take for granted.
+-- Verdicts as the code has them, and what a rule's check may take for granted.
 use Rattle.std.specs.Prelude.{◌≡◌, List, ℕ, ◌+◌, ◌<◌}
 use Rattle.theory.specs.Limit.{first_terms}
 use Rattle.theory.specs.Kind.{Const}
 use Rattle.theory.specs.Term.{Term, node, nil}
-use Rattle.theory.specs.Sort.{bv, sort_of, sort_width}
+use Rattle.theory.specs.Sort.{bv, sort_of}
 use Rattle.theory.specs.Bits.{get_term_bits}
-use Rattle.theory.specs.Record.{Bytes, number_length}
-use Rattle.theory.specs.Places.{place, tree_at}
-use Rattle.store.specs.Numbers.{number}
-use Rattle.store.specs.Store.{Store, listed}
+use Rattle.store.specs.declared.gates.Kept.{Kept}
+use Rattle.store.specs.Kept.{kept_term, kept_width}
 use Rattle.operand_rules.specs.declared.Verdict.{Verdict}
 use Rattle.theory.specs.Verdict as Said
 use Rattle.operand_rules.specs.declared.Verdict.TheVariants as R
@@ -27,42 +25,28 @@ verdict_of R.TermsDiffer = Said.terms_differ
 verdict_of R.IndexNotNext = Said.index_not_next
 verdict_of R.PremiseBroken = Said.premise_broken
 
--- the term at a place of the store
-abbrev pub tree : Bytes → Bytes → ℕ → ℕ → Term
-tree job work n x = tree_at (listed job work n) x
-
--- the number of a term, missing where it is not kept
-abbrev pub number_in : Bytes → Bytes → ℕ → Term → ℕ
-number_in job work n t = number (place (number_length job) (listed job work n) t)
-
--- the width of the term at a place
-abbrev pub width_in : Bytes → Bytes → ℕ → ℕ → ℕ
-width_in job work n x = sort_width (sort_of (tree job work n x))
-
 -- the term at x is kept, and is a bit-vector of width w
-pub record Operand (job work : Bytes) (n x w : ℕ) : Type 0 where
-  pub store : Store job work n
-  pub there : x < first_terms + n
-  pub sort : sort_of (tree job work n x) ≡ bv w
+pub record Operand (k : Kept) (x w : ℕ) : Type 0 where
+  pub there : x < first_terms + k.lookup.rows
+  pub sort : sort_of (kept_term k x) ≡ bv w
 
 -- an operation of one bit-vector, and the claim
-pub record One (job work : Bytes) (n x claim : ℕ) : Type 0 where
-  pub only : Operand job work n x (width_in job work n x)
-  pub claimed : claim < first_terms + n
+pub record One (k : Kept) (x claim : ℕ) : Type 0 where
+  pub only : Operand k x (kept_width k x)
+  pub claimed : claim < first_terms + k.lookup.rows
 
 -- an operation of two bit-vectors of one width, and the claim
-pub record Two (job work : Bytes) (n x y claim : ℕ) : Type 0 where
-  pub left : Operand job work n x (width_in job work n x)
-  pub right : Operand job work n y (width_in job work n x)
-  pub claimed : claim < first_terms + n
+pub record Two (k : Kept) (x y claim : ℕ) : Type 0 where
+  pub left : Operand k x (kept_width k x)
+  pub right : Operand k y (kept_width k x)
+  pub claimed : claim < first_terms + k.lookup.rows
 
 -- an equation of two terms of one sort, and the claim
-pub record Same (job work : Bytes) (n x y claim : ℕ) : Type 0 where
-  pub store : Store job work n
-  pub left : x < first_terms + n
-  pub right : y < first_terms + n
-  pub same : sort_of (tree job work n y) ≡ sort_of (tree job work n x)
-  pub claimed : claim < first_terms + n
+pub record Same (k : Kept) (x y claim : ℕ) : Type 0 where
+  pub left : x < first_terms + k.lookup.rows
+  pub right : y < first_terms + k.lookup.rows
+  pub same : sort_of (kept_term k y) ≡ sort_of (kept_term k x)
+  pub claimed : claim < first_terms + k.lookup.rows
 
 -- the bits of a width, as a constant of that width
 abbrev pub width_bits : ℕ → List Term

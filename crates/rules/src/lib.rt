@@ -2,13 +2,12 @@
 #![tactic(auto)]
 
 ghost use Rattle.std.specs.Prelude.{◌≡◌, true, ◌+◌, ◌<◌};
-ghost use Rattle.std.proofs.Math.Option.{some};
+ghost use Rattle.std.specs.Prelude.{Some as some};
 ghost use Rattle.theory.specs.Limit.{first_terms};
 ghost use Rattle.theory.specs.Optional.{is_some};
 ghost use Rattle.theory.specs.RuleTable.{Rule, rule_at};
 ghost use Rattle.theory.specs.Rule.{verdict as rule_verdict};
-ghost use Rattle.store.specs.Store.{Store};
-ghost use Rattle.store.specs.Lent.{kept_term};
+ghost use Rattle.store.specs.Kept.{kept_term};
 ghost use Rattle.operand_rules.specs.Rules.{verdict_of};
 
 pub use list_rules::{add, and, mult, or, xor};
@@ -23,44 +22,46 @@ pub use slice_rules::constants::value;
 pub use slice_rules::moves::{repeat, rotate_left, rotate_right, zero_extend};
 pub use slice_rules::parts::{concat, extract, sign_extend};
 pub use slice_rules::slicing::bitwise_slicing;
+use store::gates::Kept;
 
 // The verdict of a rule on a literal. There is such a rule, so the last arm is never taken.
-pub fn verdict(job: &[u8], work: &[u8], n: usize, rule: u32, literal: u32) -> Verdict
-    requires { Store job.now work.now n × (literal < first_terms + n) × (is_some (rule_at rule) ≡ true) }
+pub fn verdict(kept: &Kept, rule: u32, literal: u32) -> Verdict
+    requires literal { literal < first_terms + kept.now.lookup.rows }
+    requires rule { is_some (rule_at rule) ≡ true }
     ensures { (by : Rule) → rule_at rule ≡ some by
-        → verdict_of result ≡ rule_verdict by (kept_term job work n literal) }
+        → verdict_of result ≡ rule_verdict by (kept_term kept.now literal) }
 {
     match rule {
-        1 => value(job, work, n, literal),
-        2 => var(job, work, n, literal),
-        3 => and(job, work, n, literal),
-        4 => or(job, work, n, literal),
-        5 => xor(job, work, n, literal),
-        6 => xnor(job, work, n, literal),
-        7 => not(job, work, n, literal),
-        8 => ult(job, work, n, literal),
-        9 => slt(job, work, n, literal),
-        10 => add(job, work, n, literal),
-        11 => mult(job, work, n, literal),
-        12 => neg(job, work, n, literal),
-        13 => equality(job, work, n, literal),
-        14 => comp(job, work, n, literal),
-        15 => extract(job, work, n, literal),
-        16 => concat(job, work, n, literal),
-        17 => sign_extend(job, work, n, literal),
-        18 => shl(job, work, n, literal),
-        19 => lshr(job, work, n, literal),
-        20 => ashr(job, work, n, literal),
-        21 => udiv(job, work, n, literal),
-        22 => urem(job, work, n, literal),
-        23 => bitwise_slicing(job, work, n, literal),
-        24 => udiv_standard(job, work, n, literal),
-        25 => urem_standard(job, work, n, literal),
-        26 => ashr_standard(job, work, n, literal),
-        27 => zero_extend(job, work, n, literal),
-        28 => rotate_left(job, work, n, literal),
-        29 => rotate_right(job, work, n, literal),
-        30 => repeat(job, work, n, literal),
+        1 => value(kept, literal),
+        2 => var(kept, literal),
+        3 => and(kept, literal),
+        4 => or(kept, literal),
+        5 => xor(kept, literal),
+        6 => xnor(kept, literal),
+        7 => not(kept, literal),
+        8 => ult(kept, literal),
+        9 => slt(kept, literal),
+        10 => add(kept, literal),
+        11 => mult(kept, literal),
+        12 => neg(kept, literal),
+        13 => equality(kept, literal),
+        14 => comp(kept, literal),
+        15 => extract(kept, literal),
+        16 => concat(kept, literal),
+        17 => sign_extend(kept, literal),
+        18 => shl(kept, literal),
+        19 => lshr(kept, literal),
+        20 => ashr(kept, literal),
+        21 => udiv(kept, literal),
+        22 => urem(kept, literal),
+        23 => bitwise_slicing(kept, literal),
+        24 => udiv_standard(kept, literal),
+        25 => urem_standard(kept, literal),
+        26 => ashr_standard(kept, literal),
+        27 => zero_extend(kept, literal),
+        28 => rotate_left(kept, literal),
+        29 => rotate_right(kept, literal),
+        30 => repeat(kept, literal),
         _ => Verdict::WrongForm,
     }
 }

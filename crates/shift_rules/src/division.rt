@@ -1,125 +1,113 @@
-// The rules udiv and urem, accepted for their form only; and the two by the standard, which are held.
-ghost use Rattle.std.specs.Prelude.{◌≡◌, cond, ◌+◌, ◌<◌};
-ghost use Rattle.theory.specs.Bits.{divided};
-ghost use Rattle.theory.specs.Verdict.{held, form_only};
+// The rules udiv and urem, accepted for their form only; and the two by the standard, which are
+// held.
+ghost use Rattle.std.specs.Prelude.{◌≡◌, ◌+◌, ◌<◌, refl};
+ghost use Rattle.theory.specs.Kind.{BvUDiv, BvURem};
+ghost use Rattle.theory.specs.Bits.{literally_false};
 ghost use Rattle.theory.specs.Limit.{first_terms};
 ghost use Rattle.theory.specs.Gates.{term_gates};
 ghost use Rattle.theory.specs.Circuit.{udiv, urem};
 ghost use Rattle.theory.specs.RuleTable.{by_udiv, by_urem, by_udiv_standard, by_urem_standard};
-ghost use Rattle.theory.specs.Rule.{compare, verdict};
-ghost use Rattle.store.specs.Store.{Store};
-ghost use Rattle.store.specs.Lent.{kept_term};
-ghost use Rattle.operand_rules.specs.Rules.{Two, verdict_of};
+ghost use Rattle.theory.specs.Rule.{verdict};
+ghost use Rattle.store.specs.Kept.{kept_term};
+ghost use Rattle.operand_rules.specs.Rules.{verdict_of};
 
+use crate::operation::{Operation, rule};
+use circuits::bits::Bits;
 use operand_rules::Verdict;
-use operand_rules::bits::{compare_bits, compare_bits_form, get_term_bits, width_at};
-use store::terms_at::term_at;
+use shift_circuits::divider;
+use store::gates::Kept;
 use terms::Term;
 
-// The claim is the term of the quotient's circuit.
-fn udiv_check(
-    job: &[u8],
-    work: &[u8],
-    n: usize,
-    x: u32,
-    y: u32,
-    claim: u32,
+// The quotient.
+#[derive(Clone, Copy)]
+struct Quotient {
     standard: bool,
-) -> Verdict
-    requires { Two job.now work.now n x y claim }
-    ensures { verdict_of result ≡ compare (cond standard held form_only)
-        (divided (udiv term_gates standard) (kept_term job work n x) (kept_term job work n y))
-        (kept_term job work n claim) }
-{
-    let w = width_at(job, work, n, x);
-    let xs = get_term_bits(job, work, n, x, w);
-    let ys = get_term_bits(job, work, n, y, w);
-    let bits = shift_circuits::divider::udiv(job, work, n, xs, ys, w, standard);
-    if standard {
-        compare_bits(job, work, n, bits, w, claim)
-    } else {
-        compare_bits_form(job, work, n, bits, w, claim)
+}
+
+impl Operation for Quotient {
+    ghost kind = { BvUDiv };
+
+    ghost circuit = { λ a w. udiv term_gates a.standard literally_false };
+
+    ghost holds = { λ a x. a.standard };
+
+    ghost asks = { λ ss. refl };
+
+    fn operands(term: Term) -> Option<(u32, u32)> {
+        let Term::BvUDiv(x, y) = term else {
+            return None;
+        };
+        Some((x, y))
+    }
+
+    fn bits(&self, kept: &Kept, x: Bits, y: Bits, w: usize) -> Bits {
+        divider::udiv(&kept.lookup, x, y, w, self.standard)
+    }
+
+    fn is_held(&self, kept: &Kept, x: Bits, w: usize) -> bool {
+        self.standard
+    }
+}
+
+// The remainder.
+#[derive(Clone, Copy)]
+struct Remainder {
+    standard: bool,
+}
+
+impl Operation for Remainder {
+    ghost kind = { BvURem };
+
+    ghost circuit = { λ a w. urem term_gates a.standard literally_false };
+
+    ghost holds = { λ a x. a.standard };
+
+    ghost asks = { λ ss. refl };
+
+    fn operands(term: Term) -> Option<(u32, u32)> {
+        let Term::BvURem(x, y) = term else {
+            return None;
+        };
+        Some((x, y))
+    }
+
+    fn bits(&self, kept: &Kept, x: Bits, y: Bits, w: usize) -> Bits {
+        divider::urem(&kept.lookup, x, y, w, self.standard)
+    }
+
+    fn is_held(&self, kept: &Kept, x: Bits, w: usize) -> bool {
+        self.standard
     }
 }
 
 // udiv: (= (bvudiv x y) claim).
-pub fn udiv(job: &[u8], work: &[u8], n: usize, literal: u32) -> Verdict
-    requires { Store job.now work.now n × (literal < first_terms + n) }
-    ensures { verdict_of result ≡ verdict by_udiv (kept_term job work n literal) }
+pub fn udiv(kept: &Kept, literal: u32) -> Verdict
+    requires { literal < first_terms + kept.now.lookup.rows }
+    ensures { verdict_of result ≡ verdict by_udiv (kept_term kept.now literal) }
 {
-    let Term::Equals(l, r) = term_at(job, work, n, literal) else {
-        return Verdict::WrongForm;
-    };
-    let Term::BvUDiv(x, y) = term_at(job, work, n, l) else {
-        return Verdict::WrongForm;
-    };
-    udiv_check(job, work, n, x, y, r, false)
+    rule(&Quotient { standard: false }, kept, literal)
 }
 
 // The same by the standard.
-pub fn udiv_standard(job: &[u8], work: &[u8], n: usize, literal: u32) -> Verdict
-    requires { Store job.now work.now n × (literal < first_terms + n) }
-    ensures { verdict_of result ≡ verdict by_udiv_standard (kept_term job work n literal) }
+pub fn udiv_standard(kept: &Kept, literal: u32) -> Verdict
+    requires { literal < first_terms + kept.now.lookup.rows }
+    ensures { verdict_of result ≡ verdict by_udiv_standard (kept_term kept.now literal) }
 {
-    let Term::Equals(l, r) = term_at(job, work, n, literal) else {
-        return Verdict::WrongForm;
-    };
-    let Term::BvUDiv(x, y) = term_at(job, work, n, l) else {
-        return Verdict::WrongForm;
-    };
-    udiv_check(job, work, n, x, y, r, true)
-}
-
-// The claim is the term of the remainder's circuit.
-fn urem_check(
-    job: &[u8],
-    work: &[u8],
-    n: usize,
-    x: u32,
-    y: u32,
-    claim: u32,
-    standard: bool,
-) -> Verdict
-    requires { Two job.now work.now n x y claim }
-    ensures { verdict_of result ≡ compare (cond standard held form_only)
-        (divided (urem term_gates standard) (kept_term job work n x) (kept_term job work n y))
-        (kept_term job work n claim) }
-{
-    let w = width_at(job, work, n, x);
-    let xs = get_term_bits(job, work, n, x, w);
-    let ys = get_term_bits(job, work, n, y, w);
-    let bits = shift_circuits::divider::urem(job, work, n, xs, ys, w, standard);
-    if standard {
-        compare_bits(job, work, n, bits, w, claim)
-    } else {
-        compare_bits_form(job, work, n, bits, w, claim)
-    }
+    rule(&Quotient { standard: true }, kept, literal)
 }
 
 // urem: (= (bvurem x y) claim).
-pub fn urem(job: &[u8], work: &[u8], n: usize, literal: u32) -> Verdict
-    requires { Store job.now work.now n × (literal < first_terms + n) }
-    ensures { verdict_of result ≡ verdict by_urem (kept_term job work n literal) }
+pub fn urem(kept: &Kept, literal: u32) -> Verdict
+    requires { literal < first_terms + kept.now.lookup.rows }
+    ensures { verdict_of result ≡ verdict by_urem (kept_term kept.now literal) }
 {
-    let Term::Equals(l, r) = term_at(job, work, n, literal) else {
-        return Verdict::WrongForm;
-    };
-    let Term::BvURem(x, y) = term_at(job, work, n, l) else {
-        return Verdict::WrongForm;
-    };
-    urem_check(job, work, n, x, y, r, false)
+    rule(&Remainder { standard: false }, kept, literal)
 }
 
 // The same by the standard.
-pub fn urem_standard(job: &[u8], work: &[u8], n: usize, literal: u32) -> Verdict
-    requires { Store job.now work.now n × (literal < first_terms + n) }
-    ensures { verdict_of result ≡ verdict by_urem_standard (kept_term job work n literal) }
+pub fn urem_standard(kept: &Kept, literal: u32) -> Verdict
+    requires { literal < first_terms + kept.now.lookup.rows }
+    ensures { verdict_of result ≡ verdict by_urem_standard (kept_term kept.now literal) }
 {
-    let Term::Equals(l, r) = term_at(job, work, n, literal) else {
-        return Verdict::WrongForm;
-    };
-    let Term::BvURem(x, y) = term_at(job, work, n, l) else {
-        return Verdict::WrongForm;
-    };
-    urem_check(job, work, n, x, y, r, true)
+    rule(&Remainder { standard: true }, kept, literal)
 }

@@ -1,147 +1,150 @@
-// The rules shl, lshr and ashr; ashr is accepted for its form only, unless the shifted term ends in `false`; by the standard it is held.
-ghost use Rattle.std.specs.Prelude.{◌≡◌, true, false, cond, map, ◌≤◌, take, ◌+◌, ◌<◌};
-ghost use Rattle.theory.specs.Bits.{shifted};
-ghost use Rattle.theory.specs.Verdict.{held, form_only};
+// The rules shl, lshr and ashr; ashr is accepted for its form only, unless the shifted term ends in
+// `false`; by the standard it is held.
+ghost use Rattle.std.specs.Prelude.{◌≡◌, true, cond, map, ◌≤◌, take, ◌+◌, ◌<◌, refl};
+ghost use Rattle.theory.specs.Kind.{BvShl, BvLShr, BvAShr};
 ghost use Rattle.theory.specs.Limit.{first_terms, max_width};
 ghost use Rattle.theory.specs.Gates.{term_gates};
 ghost use Rattle.theory.specs.Circuit.{shl, lshr, ashr};
 ghost use Rattle.theory.specs.RuleTable.{by_shl, by_lshr, by_ashr, by_ashr_standard};
-ghost use Rattle.theory.specs.Rule.{compare, ends_in_false, verdict};
-ghost use Rattle.store.specs.Store.{Store};
-ghost use Rattle.store.specs.Lent.{kept_number, kept_term};
-ghost use Rattle.operand_rules.specs.Rules.{Two, width_bits, verdict_of};
+ghost use Rattle.theory.specs.Rule.{ends_in_false, verdict};
+ghost use Rattle.store.specs.Kept.{kept_number, kept_term};
+ghost use Rattle.operand_rules.specs.Rules.{width_bits, verdict_of};
 
+use crate::operation::{Operation, rule};
 use circuits::bits::{Bits, select_bits};
 use operand_rules::Verdict;
-use operand_rules::bits::{compare_bits, compare_bits_form, get_term_bits, width_at};
-use store::gates::{FALSE, constant};
-use store::terms_at::term_at;
+use shift_circuits::shift;
+use store::gates::{FALSE, Kept};
 use terms::Term;
 
 // The bits of the width w, as a constant of that width.
-fn width_bits(job: &[u8], work: &[u8], n: usize, w: usize) -> Bits
-    requires store { Store job.now work.now n }
-    requires width { (1 ≤ w) × (w ≤ max_width) }
-    ensures { take w result ≡ map (kept_number job work n) (width_bits w) }
+fn width_bits(kept: &Kept, w: usize) -> Bits
+    requires some { 1 ≤ w }
+    requires within { w ≤ max_width }
+    ensures { take w result ≡ map (kept_number kept.now) (width_bits w) }
 {
-    let size = constant(job, work, n, w as u32, w as u64);
-    select_bits(job, work, n, size, w)
+    let size = kept.lookup.constant(w as u32, w as u64);
+    select_bits(&kept.lookup, size, w)
 }
 
-// The claim is the term of the circuit of x shifted left.
-fn shl_check(job: &[u8], work: &[u8], n: usize, x: u32, y: u32, claim: u32) -> Verdict
-    requires { Two job.now work.now n x y claim }
-    ensures { verdict_of result ≡ compare held
-        (shifted (shl term_gates) (kept_term job work n x) (kept_term job work n y)) (kept_term job work n claim) }
-{
-    let w = width_at(job, work, n, x);
-    let xs = get_term_bits(job, work, n, x, w);
-    let ys = get_term_bits(job, work, n, y, w);
-    let size = width_bits(job, work, n, w);
-    let bits = shift_circuits::shift::shl(job, work, n, size, xs, ys, w);
-    compare_bits(job, work, n, bits, w, claim)
-}
+#[derive(Clone, Copy)]
+struct Left;
 
-// shl: (= (bvshl x y) claim).
-pub fn shl(job: &[u8], work: &[u8], n: usize, literal: u32) -> Verdict
-    requires { Store job.now work.now n × (literal < first_terms + n) }
-    ensures { verdict_of result ≡ verdict by_shl (kept_term job work n literal) }
-{
-    let Term::Equals(l, r) = term_at(job, work, n, literal) else {
-        return Verdict::WrongForm;
-    };
-    let Term::BvShl(x, y) = term_at(job, work, n, l) else {
-        return Verdict::WrongForm;
-    };
-    shl_check(job, work, n, x, y, r)
-}
+impl Operation for Left {
+    ghost kind = { BvShl };
 
-// The claim is the term of the circuit of x shifted right.
-fn lshr_check(job: &[u8], work: &[u8], n: usize, x: u32, y: u32, claim: u32) -> Verdict
-    requires { Two job.now work.now n x y claim }
-    ensures { verdict_of result ≡ compare held
-        (shifted (lshr term_gates) (kept_term job work n x) (kept_term job work n y)) (kept_term job work n claim) }
-{
-    let w = width_at(job, work, n, x);
-    let xs = get_term_bits(job, work, n, x, w);
-    let ys = get_term_bits(job, work, n, y, w);
-    let size = width_bits(job, work, n, w);
-    let bits = shift_circuits::shift::lshr(job, work, n, size, xs, ys, w);
-    compare_bits(job, work, n, bits, w, claim)
-}
+    ghost circuit = { λ a w. shl term_gates (width_bits w) };
 
-// lshr: (= (bvlshr x y) claim).
-pub fn lshr(job: &[u8], work: &[u8], n: usize, literal: u32) -> Verdict
-    requires { Store job.now work.now n × (literal < first_terms + n) }
-    ensures { verdict_of result ≡ verdict by_lshr (kept_term job work n literal) }
-{
-    let Term::Equals(l, r) = term_at(job, work, n, literal) else {
-        return Verdict::WrongForm;
-    };
-    let Term::BvLShr(x, y) = term_at(job, work, n, l) else {
-        return Verdict::WrongForm;
-    };
-    lshr_check(job, work, n, x, y, r)
-}
+    ghost holds = { λ a x. true };
 
-// The claim is the term of the circuit of x shifted right, the top bit coming in. Only a BvBbTerm has the bit `false`.
-fn ashr_check(job: &[u8], work: &[u8], n: usize, x: u32, y: u32, claim: u32) -> Verdict
-    requires { Two job.now work.now n x y claim }
-    ensures { verdict_of result ≡ compare (cond (ends_in_false (kept_term job work n x)) held form_only)
-        (shifted (ashr term_gates false) (kept_term job work n x) (kept_term job work n y))
-        (kept_term job work n claim) }
-{
-    let w = width_at(job, work, n, x);
-    let xs = get_term_bits(job, work, n, x, w);
-    let ys = get_term_bits(job, work, n, y, w);
-    let size = width_bits(job, work, n, w);
-    let bits = shift_circuits::shift::ashr(job, work, n, size, xs, ys, w, false);
-    if xs[w - 1] == FALSE {
-        compare_bits(job, work, n, bits, w, claim)
-    } else {
-        compare_bits_form(job, work, n, bits, w, claim)
+    ghost asks = { λ ss. refl };
+
+    fn operands(term: Term) -> Option<(u32, u32)> {
+        let Term::BvShl(x, y) = term else {
+            return None;
+        };
+        Some((x, y))
+    }
+
+    fn bits(&self, kept: &Kept, x: Bits, y: Bits, w: usize) -> Bits {
+        let size = width_bits(kept, w);
+        shift::shl(&kept.lookup, size, x, y, w)
+    }
+
+    fn is_held(&self, kept: &Kept, x: Bits, w: usize) -> bool {
+        true
     }
 }
 
-// ashr: (= (bvashr x y) claim).
-pub fn ashr(job: &[u8], work: &[u8], n: usize, literal: u32) -> Verdict
-    requires { Store job.now work.now n × (literal < first_terms + n) }
-    ensures { verdict_of result ≡ verdict by_ashr (kept_term job work n literal) }
-{
-    let Term::Equals(l, r) = term_at(job, work, n, literal) else {
-        return Verdict::WrongForm;
-    };
-    let Term::BvAShr(x, y) = term_at(job, work, n, l) else {
-        return Verdict::WrongForm;
-    };
-    ashr_check(job, work, n, x, y, r)
+#[derive(Clone, Copy)]
+struct Right;
+
+impl Operation for Right {
+    ghost kind = { BvLShr };
+
+    ghost circuit = { λ a w. lshr term_gates (width_bits w) };
+
+    ghost holds = { λ a x. true };
+
+    ghost asks = { λ ss. refl };
+
+    fn operands(term: Term) -> Option<(u32, u32)> {
+        let Term::BvLShr(x, y) = term else {
+            return None;
+        };
+        Some((x, y))
+    }
+
+    fn bits(&self, kept: &Kept, x: Bits, y: Bits, w: usize) -> Bits {
+        let size = width_bits(kept, w);
+        shift::lshr(&kept.lookup, size, x, y, w)
+    }
+
+    fn is_held(&self, kept: &Kept, x: Bits, w: usize) -> bool {
+        true
+    }
 }
 
-// The claim is the term of the circuit of x shifted right, the top bit coming in, also beyond the width.
-fn ashr_standard_check(job: &[u8], work: &[u8], n: usize, x: u32, y: u32, claim: u32) -> Verdict
-    requires { Two job.now work.now n x y claim }
-    ensures { verdict_of result ≡ compare held
-        (shifted (ashr term_gates true) (kept_term job work n x) (kept_term job work n y))
-        (kept_term job work n claim) }
+#[derive(Clone, Copy)]
+struct SignedRight {
+    standard: bool,
+}
+
+impl Operation for SignedRight {
+    ghost kind = { BvAShr };
+
+    ghost circuit = { λ a w. ashr term_gates a.standard (width_bits w) };
+
+    ghost holds = { λ a x. cond a.standard true (ends_in_false x) };
+
+    ghost asks = { λ ss. refl };
+
+    fn operands(term: Term) -> Option<(u32, u32)> {
+        let Term::BvAShr(x, y) = term else {
+            return None;
+        };
+        Some((x, y))
+    }
+
+    fn bits(&self, kept: &Kept, x: Bits, y: Bits, w: usize) -> Bits {
+        let size = width_bits(kept, w);
+        shift::ashr(&kept.lookup, size, x, y, w, self.standard)
+    }
+
+    // Only a BvBbTerm has the bit `false`.
+    fn is_held(&self, kept: &Kept, x: Bits, w: usize) -> bool {
+        self.standard || x[w - 1] == FALSE
+    }
+}
+
+// shl: (= (bvshl x y) claim).
+pub fn shl(kept: &Kept, literal: u32) -> Verdict
+    requires { literal < first_terms + kept.now.lookup.rows }
+    ensures { verdict_of result ≡ verdict by_shl (kept_term kept.now literal) }
 {
-    let w = width_at(job, work, n, x);
-    let xs = get_term_bits(job, work, n, x, w);
-    let ys = get_term_bits(job, work, n, y, w);
-    let size = width_bits(job, work, n, w);
-    let bits = shift_circuits::shift::ashr(job, work, n, size, xs, ys, w, true);
-    compare_bits(job, work, n, bits, w, claim)
+    rule(&Left, kept, literal)
+}
+
+// lshr: (= (bvlshr x y) claim).
+pub fn lshr(kept: &Kept, literal: u32) -> Verdict
+    requires { literal < first_terms + kept.now.lookup.rows }
+    ensures { verdict_of result ≡ verdict by_lshr (kept_term kept.now literal) }
+{
+    rule(&Right, kept, literal)
+}
+
+// ashr: (= (bvashr x y) claim).
+pub fn ashr(kept: &Kept, literal: u32) -> Verdict
+    requires { literal < first_terms + kept.now.lookup.rows }
+    ensures { verdict_of result ≡ verdict by_ashr (kept_term kept.now literal) }
+{
+    rule(&SignedRight { standard: false }, kept, literal)
 }
 
 // ashr by the standard: (= (bvashr x y) claim).
-pub fn ashr_standard(job: &[u8], work: &[u8], n: usize, literal: u32) -> Verdict
-    requires { Store job.now work.now n × (literal < first_terms + n) }
-    ensures { verdict_of result ≡ verdict by_ashr_standard (kept_term job work n literal) }
+pub fn ashr_standard(kept: &Kept, literal: u32) -> Verdict
+    requires { literal < first_terms + kept.now.lookup.rows }
+    ensures { verdict_of result ≡ verdict by_ashr_standard (kept_term kept.now literal) }
 {
-    let Term::Equals(l, r) = term_at(job, work, n, literal) else {
-        return Verdict::WrongForm;
-    };
-    let Term::BvAShr(x, y) = term_at(job, work, n, l) else {
-        return Verdict::WrongForm;
-    };
-    ashr_standard_check(job, work, n, x, y, r)
+    rule(&SignedRight { standard: true }, kept, literal)
 }

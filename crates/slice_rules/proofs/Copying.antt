@@ -21,7 +21,9 @@ use Rattle.terms.specs.declared.Operands.TheVariants.{List as Listed}
 use Rattle.terms.specs.Decoded.{words_in}
 use Rattle.terms.proofs.Parts.{drop_take}
 use Rattle.store.proofs.Arguments.{count_length, operand_below}
-use Rattle.operand_rules.specs.Rules.{Operand, tree, number_in, width_in}
+use Rattle.store.specs.declared.gates.Kept.{Kept}
+use Rattle.store.specs.Kept.{kept_term, kept_number, kept_width, words_of}
+use Rattle.operand_rules.specs.Rules.{Operand}
 use Rattle.slice_rules.specs.Given.{Concat, sorts_in}
 use Rattle.circuits.proofs.FillLaws.{top_bit}
 
@@ -97,55 +99,55 @@ pub one_back : (ks : List ℕ) {i x : ℕ} → 0 < i → i ≤ length ks → x �
 one_back ks {i} h l e = let z : suc (i - 1) ≡ i = omega arith in drop-cons ks (i - 1) 0 (omega arith) ∙ ap₂ (λ (k j : ℕ). k ∷ drop j ks) (sym e) z
 
 -- ---- concat: the arguments from the last on
-pub record Joining (job work : Bytes) (n : ℕ) (ks out : List ℕ) (w i : ℕ) : Type 0 where
+pub record Joining (k : Kept) (ks out : List ℕ) (w i : ℕ) : Type 0 where
   pub passed : i ≤ length ks
   pub room : length out ≡ 64
-  pub width : w ≡ sum_widths (sorts_in job work n (drop i ks))
-  pub sofar : take w out ≡ map (number_in job work n) (concat_bits (map (tree job work n) (drop i ks)))
+  pub width : w ≡ sum_widths (sorts_in k (drop i ks))
+  pub sofar : take w out ≡ map (kept_number k) (concat_bits (map (kept_term k) (drop i ks)))
 
-module _ (job work : Bytes) (n : ℕ) where
+module _ (k : Kept) where
   -- the widths of some are no more than those of all
-  fewer : (ks : List ℕ) (i : ℕ) → sum_widths (sorts_in job work n (drop i ks)) ≤ sum_widths (sorts_in job work n ks)
+  fewer : (ks : List ℕ) (i : ℕ) → sum_widths (sorts_in k (drop i ks)) ≤ sum_widths (sorts_in k ks)
   fewer ks zero = omega arith
   fewer [] (suc i) = omega arith
-  fewer (k ∷ ks) (suc i) = omega (arith, fewer ks i)
+  fewer (x ∷ ks) (suc i) = omega (arith, fewer ks i)
 
   -- argument i of bit-vectors is one
-  bit_vector_at : (ks : List ℕ) (i : ℕ) → T (all_bv (sorts_in job work n ks)) → i < length ks → T (is_bv_sort (sort_of (tree job work n (get_or ks i 0))))
+  bit_vector_at : (ks : List ℕ) (i : ℕ) → T (all_bv (sorts_in k ks)) → i < length ks → T (is_bv_sort (sort_of (kept_term k (get_or ks i 0))))
   bit_vector_at [] i h l = absurd (omega arith)
-  bit_vector_at (k ∷ ks) zero h l = and_l (is_bv_sort (sort_of (tree job work n k))) _ h
-  bit_vector_at (k ∷ ks) (suc i) h l = bit_vector_at ks i (and_r (is_bv_sort (sort_of (tree job work n k))) _ h) (omega arith)
+  bit_vector_at (x ∷ ks) zero h l = and_l (is_bv_sort (sort_of (kept_term k x))) _ h
+  bit_vector_at (x ∷ ks) (suc i) h l = bit_vector_at ks i (and_r (is_bv_sort (sort_of (kept_term k x))) _ h) (omega arith)
 
-module _ {job work : Bytes} {n : ℕ} where
-  pub argument_operand : {a : Args} {claim : ℕ} → Concat job work n a claim → (i : ℕ) → i < a.count → {x : ℕ} → x ≡ get_or (words_in job a) i 0
-      → Operand job work n x (width_in job work n x)
+module _ {k : Kept} where
+  pub argument_operand : {a : Args} {claim : ℕ} → Concat k a claim → (i : ℕ) → i < a.count → {x : ℕ} → x ≡ get_or (words_of k a) i 0
+      → Operand k x (kept_width k x)
   argument_operand {a} c i h {x} e =
-      let l = count_length job (Listed a) in
-      let b = subst (λ (k : ℕ). T (is_bv_sort (sort_of (tree job work n k)))) (sym e) (bit_vector_at job work n (words_in job a) i c.bit_vectors (omega arith)) in
-      record { store = c.arguments.store; there = operand_below c.arguments i h e; sort = is_bv (sort_of (tree job work n x)) b }
+      let l = count_length k.lookup.job.now (Listed a) in
+      let b = subst (λ (y : ℕ). T (is_bv_sort (sort_of (kept_term k y)))) (sym e) (bit_vector_at k (words_of k a) i c.bit_vectors (omega arith)) in
+      record { there = operand_below c.arguments i h e; sort = is_bv (sort_of (kept_term k x)) b }
 
   module _ {ks : List ℕ} where
-    pub join_start : {out : List ℕ} → length out ≡ 64 → Joining job work n ks out 0 (length ks)
+    pub join_start : {out : List ℕ} → length out ≡ 64 → Joining k ks out 0 (length ks)
     unfolding concat_bits
     join_start e = record { passed = omega arith; room = e; width = rw (drop-length ks); sofar = rw (drop-length ks) }
 
     -- argument i - 1 comes next
-    module _ {out : List ℕ} {w i : ℕ} (inv : Joining job work n ks out w i) (h : 0 < i) {x size : ℕ} (e : x ≡ get_or ks (i - 1) 0) (f : size ≡ width_in job work n x) where
+    module _ {out : List ℕ} {w i : ℕ} (inv : Joining k ks out w i) (h : 0 < i) {x size : ℕ} (e : x ≡ get_or ks (i - 1) 0) (f : size ≡ kept_width k x) where
       next : drop (i - 1) ks ≡ x ∷ drop i ks
       next = one_back ks h inv.passed e
 
-      wider : w + size ≡ sum_widths (sorts_in job work n (drop (i - 1) ks))
+      wider : w + size ≡ sum_widths (sorts_in k (drop (i - 1) ks))
       wider =
           let p = inv.width in
-          let q : sum_widths (sorts_in job work n (drop (i - 1) ks)) ≡ width_in job work n x + sum_widths (sorts_in job work n (drop i ks))
-          = ap (λ (js : List ℕ). sum_widths (sorts_in job work n js)) next in
+          let q : sum_widths (sorts_in k (drop (i - 1) ks)) ≡ kept_width k x + sum_widths (sorts_in k (drop i ks))
+          = ap (λ (js : List ℕ). sum_widths (sorts_in k js)) next in
           omega arith
 
-      pub join_fits : sum_widths (sorts_in job work n ks) ≤ 64 → w + size ≤ 64
-      join_fits g = omega (arith, wider, fewer job work n ks (i - 1))
+      pub join_fits : sum_widths (sorts_in k ks) ≤ 64 → w + size ≤ 64
+      join_fits g = omega (arith, wider, fewer k ks (i - 1))
 
-      pub join_turn : (xs : List ℕ) → take size xs ≡ map (number_in job work n) (get_term_bits (tree job work n x)) → length xs ≡ 64 → w + size ≤ 64
-          → {more : List ℕ} → more ≡ paste out w xs size → Joining job work n ks more (w + size) (i - 1)
+      pub join_turn : (xs : List ℕ) → take size xs ≡ map (kept_number k) (get_term_bits (kept_term k x)) → length xs ≡ 64 → w + size ≤ 64
+          → {more : List ℕ} → more ≡ paste out w xs size → Joining k ks more (w + size) (i - 1)
       unfolding concat_bits
       join_turn xs b l g {more} d =
           let p = inv.passed in
@@ -155,12 +157,12 @@ module _ {job work : Bytes} {n : ℕ} where
             room = ap length d ∙ length-paste out w xs size (omega arith) (omega arith) ∙ r;
             width = wider;
             sofar = ap (take (w + size)) d ∙ take-paste out w xs size (omega arith) (omega arith) ∙ ap₂ (λ (us vs : List ℕ). us ++ vs) inv.sofar b
-                ∙ sym (ap (λ (js : List ℕ). map (number_in job work n) (concat_bits (map (tree job work n) js))) next
-                ∙ map_append (number_in job work n) (concat_bits (map (tree job work n) (drop i ks))) (get_term_bits (tree job work n x)));
+                ∙ sym (ap (λ (js : List ℕ). map (kept_number k) (concat_bits (map (kept_term k) js))) next
+                ∙ map_append (kept_number k) (concat_bits (map (kept_term k) (drop i ks))) (get_term_bits (kept_term k x)));
           }
 
-    pub join_end : {out : List ℕ} {w i : ℕ} → Joining job work n ks out w i → i ≤ 0 → take w out ≡ map (number_in job work n) (concat_bits (map (tree job work n) ks))
-    join_end {i} inv h = let z : i ≡ 0 = omega arith in inv.sofar ∙ ap (λ (j : ℕ). map (number_in job work n) (concat_bits (map (tree job work n) (drop j ks)))) z
+    pub join_end : {out : List ℕ} {w i : ℕ} → Joining k ks out w i → i ≤ 0 → take w out ≡ map (kept_number k) (concat_bits (map (kept_term k) ks))
+    join_end {i} inv h = let z : i ≡ 0 = omega arith in inv.sofar ∙ ap (λ (j : ℕ). map (kept_number k) (concat_bits (map (kept_term k) (drop j ks)))) z
 
-    pub join_small : {out : List ℕ} {w i : ℕ} → Joining job work n ks out w i → sum_widths (sorts_in job work n ks) ≤ 64 → w ≤ 64
-    join_small {i} inv g = omega (arith, inv.width, fewer job work n ks i)
+    pub join_small : {out : List ℕ} {w i : ℕ} → Joining k ks out w i → sum_widths (sorts_in k ks) ≤ 64 → w ≤ 64
+    join_small {i} inv g = omega (arith, inv.width, fewer k ks i)

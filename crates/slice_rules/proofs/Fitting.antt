@@ -2,7 +2,7 @@
 use mathlib.Core.Path.{◌≡◌, sym, ap, subst, ◌∙◌}
 use mathlib.Core.Bool.{Bool, ◌&&◌, cond}
 use mathlib.Core.List.{List, ◌∷◌, map}
-use mathlib.Core.Option.{none, some}
+use Rattle.std.specs.Prelude.{None as none, Some as some}
 use Prim.Native.Nat.{ℕ, ◌+◌, ◌*◌, ◌<◌}
 use native.Mathlib.Omega.{arith}
 use lib.Dec.{T, eqb, eqb→eq, eqb_refl, leb, leb→le, ltb→lt}
@@ -28,14 +28,16 @@ use Rattle.terms.specs.declared.Args.{Args}
 use Rattle.terms.specs.Decoded.{op_of, operands_of, numbers_of, arguments_of, words_in}
 use Rattle.terms.proofs.Cases.{kinds, kind_tag, all_other}
 use Rattle.terms.specs.contracts.Term as E
-use Rattle.store.specs.Store.{Store, listed}
+use Rattle.store.specs.Store.{listed}
+use Rattle.store.specs.declared.gates.Kept.{Kept}
+use Rattle.store.specs.Kept.{KeptArguments, IsTermAt, kept_terms, kept_term, kept_number, kept_width, words_of}
+use Rattle.store.proofs.Keeping.{store_of}
 use Rattle.store.specs.Terms.{TermAt}
-use Rattle.store.specs.Sorts.{Arguments}
 use Rattle.store.proofs.Claims.{own_number}
-use Rattle.operand_rules.specs.Rules.{One, tree, number_in, width_in}
+use Rattle.operand_rules.specs.Rules.{One}
 use Rattle.operand_rules.proofs.Tests.{same_eqb, eqb_yes}
 use Rattle.operand_rules.proofs.Numbers.{few, there}
-use Rattle.operand_rules.proofs.Forms.{good_guard, others, not_kind, made_of, one_form, one_below, below_of, list_inside, fits}
+use Rattle.operand_rules.proofs.Forms.{tree, good_guard, others, not_kind, made_of, one_form, one_below, below_of, list_inside, fits}
 use Rattle.slice_rules.specs.Given.{Extract, Extend, Concat, sorts_in, Copies}
 use Rattle.theory.proofs.Basics.{T_true, T_same}
 
@@ -48,15 +50,15 @@ fitted o us g =
     (and_r (takes (arity o) (length ss)) _ (good_guard (takes (arity o) (length ss) && fitting o ss) (result_sort o ss) g))
 
 -- a kept term has its place as number
-pub own : {job work : Bytes} {n x : ℕ} → Store job work n → x < first_terms + n → x ≡ number_in job work n (tree job work n x)
-own {job} {work} {n} {x} store h = sym (own_number (listed job work n) store.well (few store) x (there store h))
+pub own : (k : Kept) {x : ℕ} → x < first_terms + k.lookup.rows → x ≡ kept_number k (kept_term k x)
+own k {x} h = sym (own_number (kept_terms k) (store_of k).well (few k) x (there k h))
 
 -- so two kept terms are one exactly where their places are
-pub same_place : {job work : Bytes} {n : ℕ} → Store job work n → (a b : ℕ) → a < first_terms + n → b < first_terms + n → same_term (tree job work n a) (tree job work n b) ≡ eqb a b
-same_place {job} {work} {n} store a b h l =
-    T_same (same_term (tree job work n a) (tree job work n b)) (eqb a b)
-    (λ t. subst (λ (k : ℕ). T (eqb a k)) (own store h ∙ ap (number_in job work n) (same_eq (tree job work n a) (tree job work n b) t) ∙ sym (own store l)) (eqb_refl a))
-    (λ t. eq_same (tree job work n a) (tree job work n b) (ap (tree job work n) (eqb→eq a b t)))
+pub same_place : (k : Kept) (a b : ℕ) → a < first_terms + k.lookup.rows → b < first_terms + k.lookup.rows → same_term (kept_term k a) (kept_term k b) ≡ eqb a b
+same_place k a b h l =
+    T_same (same_term (kept_term k a) (kept_term k b)) (eqb a b)
+    (λ t. subst (λ (i : ℕ). T (eqb a i)) (own k h ∙ ap (kept_number k) (same_eq (kept_term k a) (kept_term k b) t) ∙ sym (own k l)) (eqb_refl a))
+    (λ t. eq_same (kept_term k a) (kept_term k b) (ap (kept_term k) (eqb→eq a b t)))
 
 module _ {job work : Bytes} {n p : ℕ} {t : Decoded} (s : TermAt job work n p t) where
   -- ---- forms
@@ -93,74 +95,74 @@ module _ {job work : Bytes} {n p : ℕ} {t : Decoded} (s : TermAt job work n p t
       ∙ ap (λ (b : Bool). form (cond b (some (to_list (from_list (map (tree_at (listed job work n)) (arguments_of job t))))) none) (λ ts. v))
       (eqb_yes (kind_tag t ∙ ap (λ (j : ℕ). get_or kinds j 0) e))
 
-  -- ---- sorts
-  module _ (store : Store job work n) (kept : p < first_terms + n) where
-    -- what its kind asks of the arguments' sorts
-    pub asked : (o : Op) (ops : Operands) → op_of t ≡ o → operands_of t ≡ ops → T (fitting o (sorts_in job work n (numbers_of job ops)))
-    asked o ops e d = fitted o (map (tree job work n) (numbers_of job ops)) (fits s store kept o ops e d)
+-- ---- sorts
+module _ (k : Kept) {p : ℕ} {t : Decoded} (s : IsTermAt k p t) (kept : p < first_terms + k.lookup.rows) where
+  -- what its kind asks of the arguments' sorts
+  pub asked : (o : Op) (ops : Operands) → op_of t ≡ o → operands_of t ≡ ops → T (fitting o (sorts_in k (numbers_of k.lookup.job.now ops)))
+  asked o ops e d = fitted o (map (kept_term k) (numbers_of k.lookup.job.now ops)) (fits s (store_of k) kept o ops e d)
 
-    -- one bit-vector, and the claim
-    one_asked : (x claim : ℕ) → operands_of t ≡ OneArg x → T (is_bv_sort (sort_of (tree job work n x))) → claim < first_terms + n → One job work n x claim
-    one_asked x claim d b c = record {
-      only = record { store = store; there = one_below s x _ d kept; sort = is_bv (sort_of (tree job work n x)) b };
-      claimed = c;
-    }
+  -- one bit-vector, and the claim
+  one_asked : (x claim : ℕ) → operands_of t ≡ OneArg x → T (is_bv_sort (sort_of (kept_term k x))) → claim < first_terms + k.lookup.rows → One k x claim
+  one_asked x claim d b c = record {
+    only = record { there = one_below s x _ d kept; sort = is_bv (sort_of (kept_term k x)) b };
+    claimed = c;
+  }
 
-    -- what the check of extract may take for granted
-    pub extract_given : (i j x claim : ℕ) → op_of t ≡ BvExtract i j → operands_of t ≡ OneArg x → claim < first_terms + n → Extract job work n i j x claim
-    extract_given i j x claim e d c =
-        let w = width_in job work n x in
-        let h = asked (BvExtract i j) (OneArg x) e d in
-        let k = and_r (is_bv_sort (sort_of (tree job work n x))) _ h in
-        record {
-          one = one_asked x claim d (and_l (is_bv_sort (sort_of (tree job work n x))) _ h) c;
-          order = leb→le j i (and_l (leb j i) _ k);
-          inside = ltb→lt i w (and_r (leb j i) _ k);
-        }
+  -- what the check of extract may take for granted
+  pub extract_given : (i j x claim : ℕ) → op_of t ≡ BvExtract i j → operands_of t ≡ OneArg x → claim < first_terms + k.lookup.rows → Extract k i j x claim
+  extract_given i j x claim e d c =
+      let w = kept_width k x in
+      let h = asked (BvExtract i j) (OneArg x) e d in
+      let q = and_r (is_bv_sort (sort_of (kept_term k x))) _ h in
+      record {
+        one = one_asked x claim d (and_l (is_bv_sort (sort_of (kept_term k x))) _ h) c;
+        order = leb→le j i (and_l (leb j i) _ q);
+        inside = ltb→lt i w (and_r (leb j i) _ q);
+      }
 
-    -- of sign_extend
-    pub extend_given : (k x claim : ℕ) → op_of t ≡ SignExtend k → operands_of t ≡ OneArg x → claim < first_terms + n → Extend job work n k x claim
-    extend_given k x claim e d c =
-        let h = asked (SignExtend k) (OneArg x) e d in
-        record {
-          one = one_asked x claim d (and_l (is_bv_sort (sort_of (tree job work n x))) _ h) c;
-          fits = leb→le (width_in job work n x + k) max_width (and_r (is_bv_sort (sort_of (tree job work n x))) _ h);
-        }
+  -- of sign_extend
+  pub extend_given : (m x claim : ℕ) → op_of t ≡ SignExtend m → operands_of t ≡ OneArg x → claim < first_terms + k.lookup.rows → Extend k m x claim
+  extend_given m x claim e d c =
+      let h = asked (SignExtend m) (OneArg x) e d in
+      record {
+        one = one_asked x claim d (and_l (is_bv_sort (sort_of (kept_term k x))) _ h) c;
+        fits = leb→le (kept_width k x + m) max_width (and_r (is_bv_sort (sort_of (kept_term k x))) _ h);
+      }
 
-    -- of zero_extend
-    pub zeros_given : (k x claim : ℕ) → op_of t ≡ ZeroExtend k → operands_of t ≡ OneArg x → claim < first_terms + n → Extend job work n k x claim
-    zeros_given k x claim e d c =
-        let h = asked (ZeroExtend k) (OneArg x) e d in
-        record {
-          one = one_asked x claim d (and_l (is_bv_sort (sort_of (tree job work n x))) _ h) c;
-          fits = leb→le (width_in job work n x + k) max_width (and_r (is_bv_sort (sort_of (tree job work n x))) _ h);
-        }
+  -- of zero_extend
+  pub zeros_given : (m x claim : ℕ) → op_of t ≡ ZeroExtend m → operands_of t ≡ OneArg x → claim < first_terms + k.lookup.rows → Extend k m x claim
+  zeros_given m x claim e d c =
+      let h = asked (ZeroExtend m) (OneArg x) e d in
+      record {
+        one = one_asked x claim d (and_l (is_bv_sort (sort_of (kept_term k x))) _ h) c;
+        fits = leb→le (kept_width k x + m) max_width (and_r (is_bv_sort (sort_of (kept_term k x))) _ h);
+      }
 
-    -- of repeat
-    pub copies_given : (k x claim : ℕ) → op_of t ≡ Repeat k → operands_of t ≡ OneArg x → claim < first_terms + n → Copies job work n k x claim
-    copies_given k x claim e d c =
-        let h = asked (Repeat k) (OneArg x) e d in
-        record {
-          one = one_asked x claim d (and_l (is_bv_sort (sort_of (tree job work n x))) _ h) c;
-          fits = leb→le (k * width_in job work n x) max_width (and_r (leb 1 (k * width_in job work n x)) _ (and_r (is_bv_sort (sort_of (tree job work n x))) _ h));
-        }
+  -- of repeat
+  pub copies_given : (m x claim : ℕ) → op_of t ≡ Repeat m → operands_of t ≡ OneArg x → claim < first_terms + k.lookup.rows → Copies k m x claim
+  copies_given m x claim e d c =
+      let h = asked (Repeat m) (OneArg x) e d in
+      record {
+        one = one_asked x claim d (and_l (is_bv_sort (sort_of (kept_term k x))) _ h) c;
+        fits = leb→le (m * kept_width k x) max_width (and_r (leb 1 (m * kept_width k x)) _ (and_r (is_bv_sort (sort_of (kept_term k x))) _ h));
+      }
 
-    -- a list of arguments
-    pub list_given : (a : Args) → operands_of t ≡ Listed a → Arguments job work n (Listed a)
-    list_given a d = record {
-      store = store;
-      placed = list_inside s a d;
-      below = T_true _ (more_below p (first_terms + n) (omega arith) (words_in job a) (below_of s (Listed a) d));
-    }
+  -- a list of arguments
+  pub list_given : (a : Args) → operands_of t ≡ Listed a → KeptArguments k (Listed a)
+  list_given a d = record {
+    store = store_of k;
+    placed = list_inside s a d;
+    below = T_true _ (more_below p (first_terms + k.lookup.rows) (omega arith) (words_of k a) (below_of s (Listed a) d));
+  }
 
-    -- what the check of concat may take for granted
-    pub concat_given : (a : Args) (claim : ℕ) → op_of t ≡ BvConcat → operands_of t ≡ Listed a → claim < first_terms + n → Concat job work n a claim
-    concat_given a claim e d c =
-        let ss = sorts_in job work n (words_in job a) in
-        let h = asked BvConcat (Listed a) e d in
-        record {
-          arguments = list_given a d;
-          bit_vectors = and_l (all_bv ss) _ h;
-          fits = leb→le (sum_widths ss) max_width (and_r (leb 1 (sum_widths ss)) _ (and_r (all_bv ss) _ h));
-          claimed = c;
-        }
+  -- what the check of concat may take for granted
+  pub concat_given : (a : Args) (claim : ℕ) → op_of t ≡ BvConcat → operands_of t ≡ Listed a → claim < first_terms + k.lookup.rows → Concat k a claim
+  concat_given a claim e d c =
+      let ss = sorts_in k (words_of k a) in
+      let h = asked BvConcat (Listed a) e d in
+      record {
+        arguments = list_given a d;
+        bit_vectors = and_l (all_bv ss) _ h;
+        fits = leb→le (sum_widths ss) max_width (and_r (leb 1 (sum_widths ss)) _ (and_r (all_bv ss) _ h));
+        claimed = c;
+      }

@@ -2,7 +2,7 @@
 use mathlib.Core.Path.{◌≡◌, refl, sym, ap, ap₂, ◌∙◌}
 use mathlib.Core.Bool.{Bool, true, false, cond}
 use mathlib.Core.List.{List, [], ◌∷◌, map}
-use mathlib.Core.Option.{Option, none, some}
+use Rattle.std.specs.Prelude.{Option, None as none, Some as some}
 use Prim.Native.Nat.{ℕ, zero, suc, ◌+◌, ◌-◌, ◌*◌, ◌^◌, ◌<◌, ◌≤◌}
 use native.Mathlib.Omega.{arith}
 use borrow.Enum.Refused.{Among}
@@ -27,13 +27,12 @@ use Rattle.theory.proofs.Sound.{to_number_lt}
 use Rattle.terms.specs.declared.Term.{Term as Decoded}
 use Rattle.terms.specs.declared.Operands.TheVariants.{None, List as Listed}
 use Rattle.terms.specs.declared.Args.{Args}
-use Rattle.terms.specs.Decoded.{op_of, operands_of, words_in}
+use Rattle.terms.specs.Decoded.{op_of, operands_of}
 use Rattle.terms.specs.contracts.Term as E
-use Rattle.store.specs.Store.{Store, listed}
+use Rattle.store.specs.declared.gates.Kept.{Kept}
+use Rattle.store.specs.Kept.{KeptArguments, kept_terms, kept_term, words_of}
 use Rattle.store.specs.Terms.{TermAt}
-use Rattle.store.specs.Sorts.{Arguments}
-use Rattle.operand_rules.specs.Rules.{tree}
-use Rattle.operand_rules.proofs.Forms.{others}
+use Rattle.operand_rules.proofs.Forms.{tree, others}
 use Rattle.operand_rules.proofs.Tests.{on_same, on_other}
 use Rattle.slice_rules.specs.Given.{literal_number}
 use Rattle.slice_rules.proofs.Copying.{one_back}
@@ -50,22 +49,22 @@ module _ {job work : Bytes} {n p : ℕ} {t : Decoded} (s : TermAt job work n p t
   no_constant e v = sym (ap (λ (q : Option (List Term)). constant q v) (args_not s 4 e tt))
 
 -- ---- a literal bit, by its number
-module _ {job work : Bytes} {n : ℕ} (store : Store job work n) where
-  one_literal : (k : ℕ) → k < first_terms + n → literal_bit (tree job work n k) ≡ literal_number k
-  one_literal k h =
+module _ (k : Kept) where
+  one_literal : (i : ℕ) → i < first_terms + k.lookup.rows → literal_bit (kept_term k i) ≡ literal_number i
+  one_literal i h =
       ap₂ (λ (a b : Bool). cond a (some true) (cond b (some false) none))
-      (ap (same_term (tree job work n k)) (sym (tree_0 (listed job work n) store.well)) ∙ same_place store k 0 h (omega arith))
-      (ap (same_term (tree job work n k)) (sym (tree_1 (listed job work n) store.well)) ∙ same_place store k 1 h (omega arith))
+      (ap (same_term (kept_term k i)) (sym (tree_0 (kept_terms k) k.shelf.well)) ∙ same_place k i 0 h (omega arith))
+      (ap (same_term (kept_term k i)) (sym (tree_1 (kept_terms k) k.shelf.well)) ∙ same_place k i 1 h (omega arith))
 
-  each_literal : (ks : List ℕ) → T (all_below (first_terms + n) ks) → map literal_bit (map (tree job work n) ks) ≡ map literal_number ks
+  each_literal : (ks : List ℕ) → T (all_below (first_terms + k.lookup.rows) ks) → map literal_bit (map (kept_term k) ks) ≡ map literal_number ks
   each_literal [] b = refl
-  each_literal (k ∷ ks) b =
-      ap₂ (λ (p : Option Bool) (ps : List (Option Bool)). p ∷ ps) (one_literal k (ltb→lt k (first_terms + n) (and_l (ltb k (first_terms + n)) _ b)))
-      (each_literal ks (and_r (ltb k (first_terms + n)) _ b))
+  each_literal (i ∷ ks) b =
+      ap₂ (λ (p : Option Bool) (ps : List (Option Bool)). p ∷ ps) (one_literal i (ltb→lt i (first_terms + k.lookup.rows) (and_l (ltb i (first_terms + k.lookup.rows)) _ b)))
+      (each_literal ks (and_r (ltb i (first_terms + k.lookup.rows)) _ b))
 
-pub numbers_literal : {job work : Bytes} {n : ℕ} {a : Args} → Arguments job work n (Listed a) → collect (map literal_number (words_in job a)) ≡ literal_bits (map (tree job work n) (words_in job a))
+pub numbers_literal : (k : Kept) {a : Args} → KeptArguments k (Listed a) → collect (map literal_number (words_of k a)) ≡ literal_bits (map (kept_term k) (words_of k a))
 unfolding literal_bits
-numbers_literal {a} g = ap collect (sym (each_literal g.store (words_in _ a) (true_T _ g.below)))
+numbers_literal k {a} g = ap collect (sym (each_literal k (words_of k a) (true_T _ g.below)))
 
 -- a number that is literal, and one that is none
 literal : (x : ℕ) → x ≤ 1 → (b : Bool) × (literal_number x ≡ some b) × (bit b ≡ 1 - x)

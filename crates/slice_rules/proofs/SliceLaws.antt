@@ -2,7 +2,7 @@
 use mathlib.Core.Path.{◌≡◌, refl, sym, ap, ap₂, subst, ◌∙◌}
 use mathlib.Core.Bool.{Bool, ◌&&◌, not, cond}
 use mathlib.Core.List.{List, [], ◌∷◌, map}
-use mathlib.Core.Option.{Option, none, some}
+use Rattle.std.specs.Prelude.{Option, None as none, Some as some}
 use Prim.Native.Nat.{ℕ, suc, ◌+◌, ◌<◌, ◌≤◌}
 use native.Mathlib.Numerals.{add-one}
 use native.Mathlib.Omega.{arith}
@@ -15,19 +15,18 @@ use Rattle.theory.specs.Limit.{first_terms}
 use Rattle.theory.specs.Kind.{BvAnd, BvExtract, kind}
 use Rattle.theory.specs.Term.{Term, same_term}
 use Rattle.theory.specs.Optional.{either}
-use Rattle.theory.specs.Record.{Bytes}
 use Rattle.theory.specs.Verdict.{Verdict, held, wrong_form, terms_differ, index_not_next}
 use Rattle.theory.specs.Rule.{args_of, two_of, index_of, form, unary, binary, extract_kind, slice_verdict, slices_verdict, parts_verdict}
 use Rattle.terms.specs.declared.Term.{Term as Decoded}
 use Rattle.terms.specs.declared.Operands.TheVariants.{One as OneArg, List as Listed}
 use Rattle.terms.specs.declared.Args.{Args}
-use Rattle.terms.specs.Decoded.{op_of, operands_of, words_in}
+use Rattle.terms.specs.Decoded.{op_of, operands_of}
 use Rattle.terms.specs.contracts.Term as E
-use Rattle.store.specs.Store.{Store}
-use Rattle.store.specs.Terms.{TermAt}
+use Rattle.store.specs.declared.gates.Kept.{Kept}
+use Rattle.store.specs.Kept.{IsTermAt, kept_term, kept_width, words_of}
 use Rattle.store.proofs.Arguments.{count_length, operand_below}
 use Rattle.operand_rules.specs.declared.Verdict as R
-use Rattle.operand_rules.specs.Rules.{tree, width_in, verdict_of}
+use Rattle.operand_rules.specs.Rules.{verdict_of}
 use Rattle.operand_rules.proofs.Forms.{others}
 use Rattle.slice_rules.specs.declared.slicing.Pair.{Pair}
 use Rattle.slice_rules.specs.declared.slicing.Pair.TheVariants.{Two, Other}
@@ -45,23 +44,23 @@ binary_two k t f = go (args_of k t)
     go none = refl
     go (some ts) = refl
 
-module _ {job work : Bytes} {n p : ℕ} {r : Pair} (s : Conjunction job work n p r) where
+module _ {k : Kept} {p : ℕ} {r : Pair} (s : Conjunction k p r) where
   -- what it makes of a form
-  of_pair : (q : Pair) → r ≡ q → (f : Term → Term → Verdict) → form (pair_of job work n q) (λ u. f u.0 u.1) ≡ binary (kind BvAnd) (tree job work n p) f
+  of_pair : (q : Pair) → r ≡ q → (f : Term → Term → Verdict) → form (pair_of k q) (λ u. f u.0 u.1) ≡ binary (kind BvAnd) (kept_term k p) f
   of_pair q e f =
-      ap (λ (o : Option (Term × Term)). form o (λ u. f u.0 u.1)) (sym (ap (pair_of job work n) e) ∙ s.arguments) ∙ binary_two (kind BvAnd) (tree job work n p) f
+      ap (λ (o : Option (Term × Term)). form o (λ u. f u.0 u.1)) (sym (ap (pair_of k) e) ∙ s.arguments) ∙ binary_two (kind BvAnd) (kept_term k p) f
 
   -- it is one, of x and y
-  pub pair_form : {x y : ℕ} → r ≡ Two x y → (f : Term → Term → Verdict) → f (tree job work n x) (tree job work n y) ≡ binary (kind BvAnd) (tree job work n p) f
+  pub pair_form : {x y : ℕ} → r ≡ Two x y → (f : Term → Term → Verdict) → f (kept_term k x) (kept_term k y) ≡ binary (kind BvAnd) (kept_term k p) f
   pair_form {x} {y} e f = of_pair (Two x y) e f
 
   -- it is none
-  pub no_pair : r ≡ Other → (f : Term → Term → Verdict) → wrong_form ≡ binary (kind BvAnd) (tree job work n p) f
+  pub no_pair : r ≡ Other → (f : Term → Term → Verdict) → wrong_form ≡ binary (kind BvAnd) (kept_term k p) f
   no_pair e f = of_pair Other e f
 
   -- and these are kept
-  pub pair_kept : {x y : ℕ} → r ≡ Two x y → (x < first_terms + n) × (y < first_terms + n)
-  pair_kept e = subst (PairKept n) e s.kept
+  pub pair_kept : {x y : ℕ} → r ≡ Two x y → (x < first_terms + k.lookup.rows) × (y < first_terms + k.lookup.rows)
+  pair_kept e = subst (PairKept k) e s.kept
 
 -- what a decoded term says of it: another kind, another number of arguments, or just two
 two_of_not : (us : List Term) → (length us ≡ 2 → ⊥) → two_of us ≡ none
@@ -76,81 +75,81 @@ two_of_is f (x ∷ []) h = absurd (omega arith)
 two_of_is f (x ∷ y ∷ []) h = refl
 two_of_is f (x ∷ y ∷ z ∷ ks) h = absurd (omega arith)
 
-module _ {job work : Bytes} {n p : ℕ} {t : Decoded} (s : TermAt job work n p t) where
-  pub not_and : Among (0 ∷ others 15) (tag_of E.the_type t) → Conjunction job work n p Other
+module _ (k : Kept) {p : ℕ} {t : Decoded} (s : IsTermAt k p t) where
+  pub not_and : Among (0 ∷ others 15) (tag_of E.the_type t) → Conjunction k p Other
   not_and e = record { arguments = sym (ap (either none two_of) (args_not s 15 e tt)); kept = tt }
 
   module _ {a : Args} where
-    pub not_two : op_of t ≡ BvAnd → operands_of t ≡ Listed a → (a.count ≡ 2 → ⊥) → Conjunction job work n p Other
+    pub not_two : op_of t ≡ BvAnd → operands_of t ≡ Listed a → (a.count ≡ 2 → ⊥) → Conjunction k p Other
     not_two e d h = record {
       arguments = sym (ap (either none two_of) (args_are s BvAnd (Listed a) e d)
-          ∙ two_of_not (map (tree job work n) (words_in job a)) (λ z. h (sym (length-map (words_in job a) (tree job work n) ∙ count_length job (Listed a)) ∙ z)));
+          ∙ two_of_not (map (kept_term k) (words_of k a)) (λ z. h (sym (length-map (words_of k a) (kept_term k) ∙ count_length k.lookup.job.now (Listed a)) ∙ z)));
       kept = tt;
     }
 
-    pub and_two : Store job work n → p < first_terms + n → op_of t ≡ BvAnd → operands_of t ≡ Listed a → a.count ≡ 2
-        → {x y : ℕ} → x ≡ get_or (words_in job a) 0 0 → y ≡ get_or (words_in job a) 1 0 → Conjunction job work n p (Two x y)
-    and_two store there e d l {x} {y} f g =
-        let given = list_given s store there a d in
+    pub and_two : p < first_terms + k.lookup.rows → op_of t ≡ BvAnd → operands_of t ≡ Listed a → a.count ≡ 2
+        → {x y : ℕ} → x ≡ get_or (words_of k a) 0 0 → y ≡ get_or (words_of k a) 1 0 → Conjunction k p (Two x y)
+    and_two there e d l {x} {y} f g =
+        let given = list_given k s there a d in
         record {
-          arguments = ap₂ (λ (u v : Term). some (u, v)) (ap (tree job work n) f) (ap (tree job work n) g)
-              ∙ sym (ap (either none two_of) (args_are s BvAnd (Listed a) e d) ∙ two_of_is (tree job work n) (words_in job a) (count_length job (Listed a) ∙ l));
+          arguments = ap₂ (λ (u v : Term). some (u, v)) (ap (kept_term k) f) (ap (kept_term k) g)
+              ∙ sym (ap (either none two_of) (args_are s BvAnd (Listed a) e d) ∙ two_of_is (kept_term k) (words_of k a) (count_length k.lookup.job.now (Listed a) ∙ l));
           kept = (operand_below given 0 (omega arith) f, operand_below given 1 (omega arith) g);
         }
 
 -- ---- the tests on a slice
 -- where these are bits j to i of x and bits m to k of y, the tests are on numbers
-module _ {job work : Bytes} {n p q : ℕ} {t u : Decoded} (s : TermAt job work n p t) (r : TermAt job work n q u) where
-  pub pair_tested : (a c done i j x k m y : ℕ) (next : ℕ → Verdict) → Store job work n → op_of t ≡ BvExtract i j → operands_of t ≡ OneArg x → op_of u ≡ BvExtract k m
-      → operands_of u ≡ OneArg y → a < first_terms + n → c < first_terms + n → x < first_terms + n → y < first_terms + n
-      → number_tests a c done i j x k m y next ≡ parts_verdict done (tree job work n a) (tree job work n c) next (tree job work n p) (tree job work n q)
-  pair_tested a c done i j x k m y next store e d f g ha hc hx hy =
-      let A = tree job work n a in
-      let C = tree job work n c in
+module _ (kept : Kept) {p q : ℕ} {t u : Decoded} (s : IsTermAt kept p t) (r : IsTermAt kept q u) where
+  pub pair_tested : (a c done i j x k m y : ℕ) (next : ℕ → Verdict) → op_of t ≡ BvExtract i j → operands_of t ≡ OneArg x → op_of u ≡ BvExtract k m
+      → operands_of u ≡ OneArg y → a < first_terms + kept.lookup.rows → c < first_terms + kept.lookup.rows → x < first_terms + kept.lookup.rows → y < first_terms + kept.lookup.rows
+      → number_tests a c done i j x k m y next ≡ parts_verdict done (kept_term kept a) (kept_term kept c) next (kept_term kept p) (kept_term kept q)
+  pair_tested a c done i j x k m y next e d f g ha hc hx hy =
+      let A = kept_term kept a in
+      let C = kept_term kept c in
       ap (λ (z : ℕ). cond (not (eqb i k && eqb j m)) wrong_form (cond (not (eqb z done)) index_not_next (cond (not (eqb a x && eqb c y)) terms_differ (next j)))) (add-one i)
       ∙ ap₂ (λ (v w : Bool). cond (not (eqb i k && eqb j m)) wrong_form (cond (not (eqb (suc i) done)) index_not_next (cond (not (v && w)) terms_differ (next j))))
-      (sym (same_place store a x ha hx)) (sym (same_place store c y hc hy))
+      (sym (same_place kept a x ha hx)) (sym (same_place kept c y hc hy))
       ∙ indexed_form r (BvExtract k m) y f g
-      (λ h z. cond (not (eqb i (h 0) && eqb j (h 1))) wrong_form (cond (not (eqb (suc i) done)) index_not_next (cond (not (same_term A (tree job work n x) && same_term C z)) terms_differ (next j))))
+      (λ h z. cond (not (eqb i (h 0) && eqb j (h 1))) wrong_form (cond (not (eqb (suc i) done)) index_not_next (cond (not (same_term A (kept_term kept x) && same_term C z)) terms_differ (next j))))
       ∙ indexed_form s (BvExtract i j) x e d
-      (λ h w. unary extract_kind (tree job work n q) (λ z.
-      cond (not (eqb (h 0) (index_of 0 (tree job work n q)) && eqb (h 1) (index_of 1 (tree job work n q)))) wrong_form
+      (λ h w. unary extract_kind (kept_term kept q) (λ z.
+      cond (not (eqb (h 0) (index_of 0 (kept_term kept q)) && eqb (h 1) (index_of 1 (kept_term kept q)))) wrong_form
       (cond (not (eqb (suc (h 0)) done)) index_not_next (cond (not (same_term A w && same_term C z)) terms_differ (next (h 1))))))
 
 -- ---- the slices at these places, `done` being the lowest index before them
-abbrev pub slices_in : Bytes → Bytes → (n a c done : ℕ) → List ℕ → Verdict
-slices_in job work n a c done ks = slices_verdict (tree job work n a) (tree job work n c) done (map (tree job work n) ks)
+abbrev pub slices_in : Kept → (a c done : ℕ) → List ℕ → Verdict
+slices_in k a c done ks = slices_verdict (kept_term k a) (kept_term k c) done (map (kept_term k) ks)
 
 -- what is left from i on
-pub record Slicing (job work : Bytes) (n a c : ℕ) (ks : List ℕ) (done i : ℕ) : Type 0 where
+pub record Slicing (k : Kept) (a c : ℕ) (ks : List ℕ) (done i : ℕ) : Type 0 where
   pub passed : i ≤ length ks
-  pub rest : slices_in job work n a c (width_in job work n c) ks ≡ slices_in job work n a c done (drop i ks)
+  pub rest : slices_in k a c (kept_width k c) ks ≡ slices_in k a c done (drop i ks)
 
-module _ {job work : Bytes} {n a c : ℕ} {ks : List ℕ} where
-  pub slices_start : {done : ℕ} → done ≡ width_in job work n c → Slicing job work n a c ks done 0
-  slices_start e = record { passed = omega arith; rest = ap (λ (d : ℕ). slices_in job work n a c d ks) (sym e) }
+module _ {k : Kept} {a c : ℕ} {ks : List ℕ} where
+  pub slices_start : {done : ℕ} → done ≡ kept_width k c → Slicing k a c ks done 0
+  slices_start e = record { passed = omega arith; rest = ap (λ (d : ℕ). slices_in k a c d ks) (sym e) }
 
-  module _ {done i : ℕ} (inv : Slicing job work n a c ks done i) where
-    module _ (h : i < length ks) {x : ℕ} (e : x ≡ get_or ks i 0) (r : Slice) (f : Answers r (slice_verdict done (tree job work n a) (tree job work n c) (tree job work n x))) where
+  module _ {done i : ℕ} (inv : Slicing k a c ks done i) where
+    module _ (h : i < length ks) {x : ℕ} (e : x ≡ get_or ks i 0) (r : Slice) (f : Answers r (slice_verdict done (kept_term k a) (kept_term k c) (kept_term k x))) where
       -- the next slice
-      next : after r (λ j. slices_in job work n a c j (drop (suc i) ks)) ≡ slices_in job work n a c (width_in job work n c) ks
+      next : after r (λ j. slices_in k a c j (drop (suc i) ks)) ≡ slices_in k a c (kept_width k c) ks
       unfolding slices_verdict
       next =
-          f (λ j. slices_in job work n a c j (drop (suc i) ks))
-          ∙ sym (inv.rest ∙ ap (slices_in job work n a c done) (drop-cons ks i 0 h ∙ ap (λ (k : ℕ). k ∷ drop (suc i) ks) (sym e)))
+          f (λ j. slices_in k a c j (drop (suc i) ks))
+          ∙ sym (inv.rest ∙ ap (slices_in k a c done) (drop-cons ks i 0 h ∙ ap (λ (y : ℕ). y ∷ drop (suc i) ks) (sym e)))
 
       -- it is as it should be
-      pub slices_turn : {j : ℕ} → r ≡ Next j → Slicing job work n a c ks j (i + 1)
+      pub slices_turn : {j : ℕ} → r ≡ Next j → Slicing k a c ks j (i + 1)
       slices_turn {j} d = record {
         passed = omega arith;
-        rest = sym next ∙ ap (λ (q : Slice). after q (λ k. slices_in job work n a c k (drop (suc i) ks))) d ∙ ap (λ (k : ℕ). slices_in job work n a c j (drop k ks)) (sym (add-one i));
+        rest = sym next ∙ ap (λ (q : Slice). after q (λ m. slices_in k a c m (drop (suc i) ks))) d ∙ ap (λ (m : ℕ). slices_in k a c j (drop m ks)) (sym (add-one i));
       }
 
       -- it is refused
-      pub slices_refused : {v : R.Verdict} → r ≡ Refused v → verdict_of v ≡ slices_in job work n a c (width_in job work n c) ks
-      slices_refused d = sym (ap (λ (q : Slice). after q (λ k. slices_in job work n a c k (drop (suc i) ks))) d) ∙ next
+      pub slices_refused : {v : R.Verdict} → r ≡ Refused v → verdict_of v ≡ slices_in k a c (kept_width k c) ks
+      slices_refused d = sym (ap (λ (q : Slice). after q (λ m. slices_in k a c m (drop (suc i) ks))) d) ∙ next
 
     -- none is left
-    pub slices_end : length ks ≤ i → held ≡ slices_in job work n a c (width_in job work n c) ks
+    pub slices_end : length ks ≤ i → held ≡ slices_in k a c (kept_width k c) ks
     unfolding slices_verdict
-    slices_end h = sym (inv.rest ∙ ap (slices_in job work n a c done) (drop_of_length-le ks h))
+    slices_end h = sym (inv.rest ∙ ap (slices_in k a c done) (drop_of_length-le ks h))

@@ -1,14 +1,15 @@
 -- What the code says of conjunctions and slices.
 use Rattle.std.specs.Prelude.{◌≡◌, ◌&&◌, not, cond, ℕ, ◌+◌, ◌<◌, eqb}
-use Rattle.std.proofs.Math.Option.{Option, none, some}
+use Rattle.std.specs.Prelude.{Option, None as none, Some as some}
 use Rattle.theory.specs.Limit.{first_terms}
 use Rattle.theory.specs.Kind.{BvAnd, kind}
 use Rattle.theory.specs.Term.{Term}
 use Rattle.theory.specs.Optional.{either}
 use Rattle.theory.specs.Verdict.{Verdict, wrong_form, terms_differ, index_not_next}
-use Rattle.theory.specs.Record.{Bytes}
 use Rattle.theory.specs.Rule.{args_of, two_of}
-use Rattle.operand_rules.specs.Rules.{tree, verdict_of}
+use Rattle.store.specs.declared.gates.Kept.{Kept}
+use Rattle.store.specs.Kept.{kept_term}
+use Rattle.operand_rules.specs.Rules.{verdict_of}
 use Rattle.slice_rules.specs.declared.slicing.Pair.{Pair}
 use Rattle.slice_rules.specs.declared.slicing.Pair.TheVariants.{Two, Other}
 use Rattle.slice_rules.specs.declared.slicing.Slice.{Slice}
@@ -19,19 +20,19 @@ abbrev pub two_args : ℕ → Term → Option (Term × Term)
 two_args k t = either none two_of (args_of k t)
 
 -- the terms of a pair
-abbrev pub pair_of : Bytes → Bytes → ℕ → Pair → Option (Term × Term)
-pair_of job work n (Two x y) = some (tree job work n x, tree job work n y)
-pair_of job work n Other = none
+abbrev pub pair_of : Kept → Pair → Option (Term × Term)
+pair_of kept (Two x y) = some (kept_term kept x, kept_term kept y)
+pair_of kept Other = none
 
 -- they are kept
-abbrev pub PairKept : ℕ → Pair → Type 0
-PairKept n (Two x y) = (x < first_terms + n) × (y < first_terms + n)
-PairKept n Other = Unit {0}
+abbrev pub PairKept : Kept → Pair → Type 0
+PairKept kept (Two x y) = (x < first_terms + kept.lookup.rows) × (y < first_terms + kept.lookup.rows)
+PairKept kept Other = Unit {0}
 
 -- the pair is the arguments of the conjunction at a place
-pub record Conjunction (job work : Bytes) (n place : ℕ) (r : Pair) : Type 0 where
-  pub arguments : pair_of job work n r ≡ two_args (kind BvAnd) (tree job work n place)
-  pub kept : PairKept n r
+pub record Conjunction (k : Kept) (place : ℕ) (r : Pair) : Type 0 where
+  pub arguments : pair_of k r ≡ two_args (kind BvAnd) (kept_term k place)
+  pub kept : PairKept k r
 
 -- the verdict after a slice: what the next ones make of its lower index, or its own
 abbrev pub after : Slice → (ℕ → Verdict) → Verdict

@@ -4,21 +4,19 @@ ghost use Rattle.theory.specs.Limit.{first_terms};
 ghost use Rattle.theory.specs.Optional.{collect};
 ghost use Rattle.theory.specs.RuleTable.{by_value};
 ghost use Rattle.theory.specs.Rule.{value_bits, verdict};
-ghost use Rattle.terms.specs.Decoded.{Inside};
-ghost use Rattle.store.specs.Store.{Store};
-ghost use Rattle.store.specs.Lent.{kept_term, words_of};
+ghost use Rattle.terms.specs.Decoded.{Inside, words_in};
+ghost use Rattle.store.specs.Kept.{kept_term};
 ghost use Rattle.operand_rules.specs.Rules.{verdict_of};
 ghost use Rattle.slice_rules.specs.Given.{literal_number};
 
 use operand_rules::Verdict;
-use store::gates::FALSE;
-use store::terms_at::term_at;
+use store::gates::{FALSE, Kept};
 use terms::{Args, Term};
 
 // Each bit is literally `true` or `false`, and they have this value.
 fn value_check(job: &[u8], list: Args, value: u64) -> Verdict
     requires { Inside job.now list }
-    ensures { verdict_of result ≡ value_bits value (collect (map literal_number (words_of job list))) }
+    ensures { verdict_of result ≡ value_bits value (collect (map literal_number (words_in job.now list))) }
 {
     let mut sum: u64 = 0;
     let mut i = list.count;
@@ -39,18 +37,18 @@ fn value_check(job: &[u8], list: Args, value: u64) -> Verdict
 }
 
 // value: (= c (bbterm ..)), c a constant.
-pub fn value(job: &[u8], work: &[u8], n: usize, literal: u32) -> Verdict
-    requires { Store job.now work.now n × (literal < first_terms + n) }
-    ensures { verdict_of result ≡ verdict by_value (kept_term job work n literal) }
+pub fn value(kept: &Kept, literal: u32) -> Verdict
+    requires { literal < first_terms + kept.now.lookup.rows }
+    ensures { verdict_of result ≡ verdict by_value (kept_term kept.now literal) }
 {
-    let Term::Equals(l, r) = term_at(job, work, n, literal) else {
+    let Term::Equals(l, r) = kept.term_at(literal) else {
         return Verdict::WrongForm;
     };
-    let Term::BvBbTerm(bits) = term_at(job, work, n, r) else {
+    let Term::BvBbTerm(bits) = kept.term_at(r) else {
         return Verdict::WrongForm;
     };
-    let Term::Const(_, number) = term_at(job, work, n, l) else {
+    let Term::Const(_, number) = kept.term_at(l) else {
         return Verdict::NotConstant;
     };
-    value_check(job, bits, number)
+    value_check(kept.lookup.job, bits, number)
 }

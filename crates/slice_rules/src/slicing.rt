@@ -4,15 +4,13 @@ ghost use Rattle.theory.specs.Limit.{first_terms};
 ghost use Rattle.theory.specs.RuleTable.{by_bitwise_slicing};
 ghost use Rattle.theory.specs.Rule.{slice_verdict, slices_verdict, verdict};
 ghost use Rattle.terms.specs.declared.Operands.TheVariants.{List as Listed};
-ghost use Rattle.store.specs.Store.{Store};
-ghost use Rattle.store.specs.Sorts.{Arguments};
-ghost use Rattle.store.specs.Lent.{kept_term, kept_width, kept_arguments};
+ghost use Rattle.store.specs.Kept.{KeptArguments, kept_term, kept_width, kept_arguments};
 ghost use Rattle.operand_rules.specs.Rules.{verdict_of};
 ghost use Rattle.slice_rules.specs.Slices.{Conjunction, number_tests, Answers};
 
 use operand_rules::Verdict;
-use store::sorts::{sort_at, width_of};
-use store::terms_at::term_at;
+use store::gates::Kept;
+use store::sorts::width_of;
 use terms::{Args, Term};
 
 // The arguments of a conjunction of just two, or none.
@@ -30,18 +28,18 @@ pub enum Slice {
 }
 
 // The two arguments of a BvAnd.
-fn and_pair(job: &[u8], work: &[u8], n: usize, place: u32) -> Pair
-    requires { Store job.now work.now n × (place < first_terms + n) }
-    ensures { Conjunction job.now work.now n place result }
+fn and_pair(kept: &Kept, place: u32) -> Pair
+    requires { place < first_terms + kept.now.lookup.rows }
+    ensures { Conjunction kept.now place result }
 {
-    let Term::BvAnd(list) = term_at(job, work, n, place) else {
+    let Term::BvAnd(list) = kept.term_at(place) else {
         return Pair::Other;
     };
     if list.count != 2 {
         return Pair::Other;
     }
-    let x = Term::argument(job, list, 0);
-    let y = Term::argument(job, list, 1);
+    let x = Term::argument(kept.lookup.job, list, 0);
+    let y = Term::argument(kept.lookup.job, list, 1);
     Pair::Two(x, y)
 }
 
@@ -68,37 +66,39 @@ fn slice_check(a: u32, c: u32, done: usize, i: u32, j: u32, x: u32, k: u32, m: u
 }
 
 // One slice of a and c.
-fn next_slice(job: &[u8], work: &[u8], n: usize, a: u32, c: u32, done: usize, slice: u32) -> Slice
-    requires store { Store job.now work.now n × (slice < first_terms + n) }
-    requires sides { (a < first_terms + n) × (c < first_terms + n) }
+fn next_slice(kept: &Kept, a: u32, c: u32, done: usize, slice: u32) -> Slice
+    requires slice { slice < first_terms + kept.now.lookup.rows }
+    requires left { a < first_terms + kept.now.lookup.rows }
+    requires right { c < first_terms + kept.now.lookup.rows }
     ensures { Answers result
-        (slice_verdict done (kept_term job work n a) (kept_term job work n c) (kept_term job work n slice)) }
+        (slice_verdict done (kept_term kept.now a) (kept_term kept.now c) (kept_term kept.now slice)) }
 {
-    let Pair::Two(p, q) = and_pair(job, work, n, slice) else {
+    let Pair::Two(p, q) = and_pair(kept, slice) else {
         return Slice::Refused(Verdict::WrongForm);
     };
-    let Term::BvExtract(i, j, x) = term_at(job, work, n, p) else {
+    let Term::BvExtract(i, j, x) = kept.term_at(p) else {
         return Slice::Refused(Verdict::WrongForm);
     };
-    let Term::BvExtract(k, m, y) = term_at(job, work, n, q) else {
+    let Term::BvExtract(k, m, y) = kept.term_at(q) else {
         return Slice::Refused(Verdict::WrongForm);
     };
     slice_check(a, c, done, i, j, x, k, m, y)
 }
 
 // The slices are those of a and c, from the top of c down.
-fn slices_check(job: &[u8], work: &[u8], n: usize, a: u32, c: u32, list: Args) -> Verdict
-    requires arguments { Arguments job.now work.now n (Listed list) }
-    requires sides { (a < first_terms + n) × (c < first_terms + n) }
-    ensures { verdict_of result ≡ slices_verdict (kept_term job work n a) (kept_term job work n c)
-        (kept_width job work n c) (kept_arguments job work n list) }
+fn slices_check(kept: &Kept, a: u32, c: u32, list: Args) -> Verdict
+    requires arguments { KeptArguments kept.now (Listed list) }
+    requires left { a < first_terms + kept.now.lookup.rows }
+    requires right { c < first_terms + kept.now.lookup.rows }
+    ensures { verdict_of result ≡ slices_verdict (kept_term kept.now a) (kept_term kept.now c)
+        (kept_width kept.now c) (kept_arguments kept.now list) }
 {
-    let mut done = width_of(sort_at(job, work, n, c)) as usize;
+    let mut done = width_of(kept.sort_at(c)) as usize;
     let count = list.count;
     let mut i = 0;
     while i < count {
-        let x = Term::argument(job, list, i);
-        let slice = next_slice(job, work, n, a, c, done, x);
+        let x = Term::argument(kept.lookup.job, list, i);
+        let slice = next_slice(kept, a, c, done, x);
         match slice {
             Slice::Next(low) => {
                 done = low as usize;
@@ -113,18 +113,18 @@ fn slices_check(job: &[u8], work: &[u8], n: usize, a: u32, c: u32, list: Args) -
 }
 
 // bitwise_slicing: (= (bvand a c) (concat (bvand ((_ extract i j) a) ((_ extract i j) c)) ..)).
-pub fn bitwise_slicing(job: &[u8], work: &[u8], n: usize, literal: u32) -> Verdict
-    requires { Store job.now work.now n × (literal < first_terms + n) }
-    ensures { verdict_of result ≡ verdict by_bitwise_slicing (kept_term job work n literal) }
+pub fn bitwise_slicing(kept: &Kept, literal: u32) -> Verdict
+    requires { literal < first_terms + kept.now.lookup.rows }
+    ensures { verdict_of result ≡ verdict by_bitwise_slicing (kept_term kept.now literal) }
 {
-    let Term::Equals(l, r) = term_at(job, work, n, literal) else {
+    let Term::Equals(l, r) = kept.term_at(literal) else {
         return Verdict::WrongForm;
     };
-    let Pair::Two(a, c) = and_pair(job, work, n, l) else {
+    let Pair::Two(a, c) = and_pair(kept, l) else {
         return Verdict::WrongForm;
     };
-    let Term::BvConcat(list) = term_at(job, work, n, r) else {
+    let Term::BvConcat(list) = kept.term_at(r) else {
         return Verdict::WrongForm;
     };
-    slices_check(job, work, n, a, c, list)
+    slices_check(kept, a, c, list)
 }

@@ -2,11 +2,11 @@
 use mathlib.Core.Path.{◌≡◌, refl, sym, ap, ◌∙◌}
 use mathlib.Core.Bool.{Bool, true, false, cond}
 use mathlib.Core.List.{List, [], ◌∷◌, map}
-use mathlib.Core.Option.{none, some}
+use Rattle.std.specs.Prelude.{None as none, Some as some}
 use Prim.Native.Nat.{ℕ}
 use native.Mathlib.Omega.{arith}
 use lib.Dec.{eqb}
-use lib.ListN.{get_elem?}
+use Rattle.std.specs.Prelude.{slice_get as get_elem?}
 use borrow.Enum.Refused.{Among}
 use denote.Enum.Declared.{tag_of}
 use Rattle.theory.specs.Kind.{Equals, kind}
@@ -26,8 +26,7 @@ use Rattle.terms.specs.Decoded.{op_of, operands_of, arguments_of}
 use Rattle.terms.specs.contracts.Term as E
 use Rattle.store.specs.Store.{listed}
 use Rattle.store.specs.Terms.{TermAt}
-use Rattle.operand_rules.specs.Rules.{tree}
-use Rattle.operand_rules.proofs.Forms.{others, not_kind, made_of}
+use Rattle.operand_rules.proofs.Forms.{tree, others, not_kind, made_of}
 use Rattle.steps.specs.Answering.{equation_depth}
 
 module _ {job work : Bytes} {n p : ℕ} {t : Decoded} (s : TermAt job work n p t) where

@@ -11,8 +11,9 @@ use Rattle.theory.specs.Codes.{all_below}
 use Rattle.theory.specs.Answer.{Answer, answer_kind}
 use Rattle.rows.specs.Layout.{number_at, offset_bytes}
 use Rattle.terms.specs.declared.Args.{Args}
-use Rattle.terms.specs.Decoded.{Inside, words_in}
-use Rattle.store.specs.Store.{Store}
+use Rattle.terms.specs.Decoded.{Inside}
+use Rattle.store.specs.declared.gates.Kept.{Kept}
+use Rattle.store.specs.Kept.{words_of}
 use Rattle.steps.specs.declared.answers.Reply.{Reply}
 
 -- the depth of the right side of an equation, 0 of any other term
@@ -64,10 +65,9 @@ sealed b (suc n) memory =
     encode_head b ++ (take (answer_bytes b - head_bytes) (drop head_bytes memory) ++ sealed b n (drop (answer_bytes b) memory))
 
 -- the literals of a clause lie in the job, and each is kept
-pub record Literals (job work : Bytes) (n : ℕ) (literals : Args) : Type 0 where
-  pub store : Store job work n
-  pub inside : Inside job literals
-  pub below : all_below (first_terms + n) (words_in job literals) ≡ true
+pub record Literals (kept : Kept) (literals : Args) : Type 0 where
+  pub inside : Inside kept.lookup.job.now literals
+  pub below : all_below (first_terms + kept.lookup.rows) (words_of kept literals) ≡ true
 
 -- the reply has the verdict's code; and the right side's depth where it accepts
 pub record Judged (v : Verdict) (literal : Term) (r : Reply) : Type 0 where

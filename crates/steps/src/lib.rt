@@ -4,21 +4,19 @@
 pub mod answers;
 
 ghost use Rattle.std.specs.Prelude.{◌≡◌, true, ◌+◌, ◌<◌};
-ghost use Rattle.std.proofs.Math.Option.{some};
+ghost use Rattle.std.specs.Prelude.{Some as some};
 ghost use Rattle.theory.specs.Limit.{first_terms};
 ghost use Rattle.theory.specs.Verdict.{code_of};
 ghost use Rattle.theory.specs.Optional.{is_some};
 ghost use Rattle.theory.specs.RuleTable.{Rule, rule_at};
 ghost use Rattle.theory.specs.Job.{answer_to};
-ghost use Rattle.store.specs.Store.{Store};
-ghost use Rattle.store.specs.Lent.{kept_term, kept_arguments};
+ghost use Rattle.store.specs.Kept.{kept_term, kept_arguments};
 ghost use Rattle.operand_rules.specs.Rules.{verdict_of};
 ghost use Rattle.steps.specs.Answering.{given, equation_depth, Literals, Judged};
 
 use crate::answers::Reply;
 use rules::{Verdict, verdict};
-use store::sorts::depth_at;
-use store::terms_at::term_at;
+use store::gates::Kept;
 use terms::{Args, Term};
 
 // The code of a clause that is not of one literal, the least of those that refuse.
@@ -44,20 +42,20 @@ fn code(v: Verdict) -> u32
 }
 
 // The depth of the right side of a literal that is an equation, and 0 of any other.
-fn right_depth(job: &[u8], work: &[u8], n: usize, literal: u32) -> usize
-    requires { Store job.now work.now n × (literal < first_terms + n) }
-    ensures { result ≡ equation_depth (kept_term job work n literal) }
+fn right_depth(kept: &Kept, literal: u32) -> usize
+    requires { literal < first_terms + kept.now.lookup.rows }
+    ensures { result ≡ equation_depth (kept_term kept.now literal) }
 {
-    let Term::Equals(_, r) = term_at(job, work, n, literal) else {
+    let Term::Equals(_, r) = kept.term_at(literal) else {
         return 0;
     };
-    depth_at(job, work, n, r)
+    kept.depth_at(r)
 }
 
 // The answer with that verdict on a literal.
-pub fn judge(job: &[u8], work: &[u8], n: usize, literal: u32, v: Verdict) -> Reply
-    requires { Store job.now work.now n × (literal < first_terms + n) }
-    ensures { Judged (verdict_of v) (kept_term job work n literal) result }
+pub fn judge(kept: &Kept, literal: u32, v: Verdict) -> Reply
+    requires { literal < first_terms + kept.now.lookup.rows }
+    ensures { Judged (verdict_of v) (kept_term kept.now literal) result }
 {
     let code = code(v);
     if NOT_ONE_LITERAL <= code {
@@ -68,15 +66,16 @@ pub fn judge(job: &[u8], work: &[u8], n: usize, literal: u32, v: Verdict) -> Rep
     }
     Reply {
         code: code,
-        depth: right_depth(job, work, n, literal),
+        depth: right_depth(kept, literal),
     }
 }
 
 // The answer of a rule to a clause; there is such a rule.
-pub fn answer(job: &[u8], work: &[u8], n: usize, rule: u32, literals: Args) -> Reply
-    requires { Literals job.now work.now n literals × (is_some (rule_at rule) ≡ true) }
+pub fn answer(kept: &Kept, rule: u32, literals: Args) -> Reply
+    requires literals { Literals kept.now literals }
+    requires rule { is_some (rule_at rule) ≡ true }
     ensures { (by : Rule) → rule_at rule ≡ some by
-        → given rule result ≡ answer_to rule by (kept_arguments job work n literals) }
+        → given rule result ≡ answer_to rule by (kept_arguments kept.now literals) }
 {
     let count = literals.count;
     if count != 1 {
@@ -85,7 +84,7 @@ pub fn answer(job: &[u8], work: &[u8], n: usize, rule: u32, literals: Args) -> R
             depth: 0,
         };
     }
-    let literal = Term::argument(job, literals, 0);
-    let v = verdict(job, work, n, rule, literal);
-    judge(job, work, n, literal, v)
+    let literal = Term::argument(kept.lookup.job, literals, 0);
+    let v = verdict(kept, rule, literal);
+    judge(kept, literal, v)
 }

@@ -10,13 +10,13 @@ pub returns-in_default : goal.returns-in_default
 returns-in_default c = no_equation c.term_at.ensures by_and c.in_default.in_default-own.keys2
 
 pub term_at-requires-2 : goal.term_at-requires-2
-term_at-requires-2 c = (c.requires.0, left_below c.term_at.ensures _ _ _ (ap operands_of c.in-Equals.is) c.requires.1)
+term_at-requires-2 c = left_below c.term_at.ensures _ _ _ (ap operands_of c.in-Equals.is) c.requires
 
 pub returns-in_default-term_at : goal.returns-in_default-term_at
-returns-in_default-term_at c = refused And c.term_at.ensures c.in-Equals.is c.term_at-2.ensures (not_kind 15 c.term_at-2.result c.in_default-term_at.in_default-term_at-own.keys2 tt)
+returns-in_default-term_at c = refused And c.args.kept.now c.term_at.ensures c.in-Equals.is c.term_at-2.ensures (not_kind 15 c.term_at-2.result c.in_default-term_at.in_default-term_at-own.keys2 tt)
 
 pub folded_check-requires : goal.folded_check-requires
-folded_check-requires c = many_given And c.term_at.ensures c.in-Equals.is c.term_at-2.ensures _ c.in-BvAnd.is c.requires.0 c.requires.1
+folded_check-requires c = many_given And c.args.kept.now c.term_at.ensures c.in-Equals.is c.term_at-2.ensures _ c.in-BvAnd.is c.requires
 
 pub returns : goal.returns
-returns c = answered And c.term_at.ensures c.in-Equals.is c.term_at-2.ensures _ c.in-BvAnd.is c.folded_check.ensures
+returns c = answered And c.args.kept.now c.term_at.ensures c.in-Equals.is c.term_at-2.ensures _ c.in-BvAnd.is c.folded_check.ensures

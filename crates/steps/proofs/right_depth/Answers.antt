@@ -9,7 +9,7 @@ pub returns-in_default : goal.returns-in_default
 returns-in_default c = no_depth c.term_at.ensures c.in_default.in_default-own.keys2
 
 pub depth_at-requires : goal.depth_at-requires
-depth_at-requires c = (c.requires.0, right_below c.term_at.ensures _ _ _ (ap operands_of c.in-Equals.is) c.requires.1)
+depth_at-requires c = right_below c.term_at.ensures _ _ _ (ap operands_of c.in-Equals.is) c.requires
 
 pub returns : goal.returns
 returns c = c.depth_at.ensures.value ∙ right_of c.term_at.ensures c.in-Equals.is

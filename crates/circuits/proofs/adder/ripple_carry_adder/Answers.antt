@@ -1,10 +1,6 @@
 use borrow.Author.Rules.{rules}
-use mathlib.Core.Path.{refl}
-use Rattle.circuits.proofs.AddLaws.{adder_start, adder_turn, adder_end}
+use Rattle.circuits.proofs.AddLaws.{adder_turn, adder_end}
 use Rattle.circuits.proofs.adder.ripple_carry_adder.Goals as goal
-
-pub loop-i-init : goal.loop-i-init
-loop-i-init c = adder_start refl
 
 pub loop-i-preserved : goal.loop-i-preserved
 loop-i-preserved c = let a = c.full_adder-sum.ensures in adder_turn c.loop-i.invariant a.bit_value a.carry_value (search rules) (search rules)

@@ -1,10 +1,6 @@
-use Prim.Native.Nat.{◌-◌}
-use Rattle.store.specs.Numbers.{numbers_in}
+use Rattle.store.specs.Lookup.{gates}
 use Rattle.circuits.proofs.FillLaws.{Zipping}
 use Rattle.circuits.proofs.bits.ites.Given as goal
 
 abbrev pub invariant-loop-i : goal.invariant-loop-i
-invariant-loop-i l = Zipping ((numbers_in l.job l.work l.n).ite_gate l.c) l.x l.y l.w l.out l.i
-
-abbrev pub decreases-loop-i : goal.decreases-loop-i
-decreases-loop-i l = l.w - l.i
+invariant-loop-i l = Zipping ((gates l.lookup).ite_gate l.c) l.x l.y l.w l.out l.i

@@ -1,10 +1,6 @@
 use borrow.Author.Rules.{rules}
-use mathlib.Core.Path.{refl}
-use Rattle.circuits.proofs.FillLaws.{map_start, map_turn, map_end}
+use Rattle.circuits.proofs.FillLaws.{map_turn, map_end}
 use Rattle.circuits.proofs.bits.nots.Goals as goal
-
-pub loop-i-init : goal.loop-i-init
-loop-i-init c = map_start refl
 
 pub loop-i-preserved : goal.loop-i-preserved
 loop-i-preserved c = map_turn c.loop-i.invariant c.not1.ensures (search rules) (search rules)

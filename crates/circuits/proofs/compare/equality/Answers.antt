@@ -11,7 +11,7 @@ slice_bounds-all_of-end c = sym (length-take-le _ _ (search rules))
 
 pub all_of-requires : goal.all_of-requires
 all_of-requires c = let a = c.args in
-    (search rules, take_short c.eqs-bits.result a.w (search rules) (search rules))
+    take_short c.eqs-bits.result a.w (search rules) (search rules)
 
 pub returns-then-w-gt1 : goal.returns-then-w-gt1
 returns-then-w-gt1 c = let a = c.args in

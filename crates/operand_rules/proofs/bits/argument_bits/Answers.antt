@@ -1,11 +1,7 @@
 use borrow.Author.Rules.{rules}
-use mathlib.Core.Path.{refl}
 use Rattle.theory.proofs.Bytes.{words_length}
-use Rattle.circuits.proofs.FillLaws.{fill_start, fill_turn, reached}
+use Rattle.circuits.proofs.FillLaws.{fill_turn, reached}
 use Rattle.operand_rules.proofs.bits.argument_bits.Goals as goal
-
-pub loop-i-init : goal.loop-i-init
-loop-i-init c = fill_start refl
 
 pub loop-i-preserved : goal.loop-i-preserved
 loop-i-preserved c = fill_turn c.loop-i.invariant c.argument.ensures (search rules) (search rules)

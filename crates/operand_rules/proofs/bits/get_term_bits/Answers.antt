@@ -1,4 +1,3 @@
-use borrow.Author.Rules.{rules}
 use mathlib.Core.Path.{ap}
 use Rattle.terms.specs.Decoded.{operands_of}
 use Rattle.operand_rules.proofs.Forms.{not_kind, list_inside}
@@ -6,7 +5,7 @@ use Rattle.operand_rules.proofs.Numbers.{widths, selected, argued}
 use Rattle.operand_rules.proofs.bits.get_term_bits.Goals as goal
 
 pub select_bits-requires : goal.select_bits-requires
-select_bits-requires c = record { table = search rules; width = (widths c.requires).1 }
+select_bits-requires c = (widths c.requires).1
 
 pub returns-in_default : goal.returns-in_default
 returns-in_default c = selected c.requires c.term_at.ensures (not_kind 12 c.term_at.result c.in_default.in_default-own.keys2 tt) c.select_bits.ensures

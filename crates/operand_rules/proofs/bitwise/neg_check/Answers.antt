@@ -4,7 +4,7 @@ use Rattle.theory.specs.Bits.{get_term_bits}
 use Rattle.theory.specs.Circuit.{negate}
 use Rattle.theory.proofs.Natural.{negate_hom}
 use Rattle.theory.specs.Verdict.{held}
-use Rattle.operand_rules.specs.Rules.{tree}
+use Rattle.store.specs.Kept.{kept_term}
 use Rattle.operand_rules.proofs.Numbers.{operand_as, store_hom, bits_end}
 use Rattle.operand_rules.proofs.bitwise.neg_check.Goals as goal
 
@@ -13,8 +13,8 @@ get_term_bits-xs-requires c = operand_as c.requires.only c.width_at-w.ensures.va
 
 pub returns : goal.returns
 returns c = let a = c.args in
-    let st = c.requires.only.store in
-    let xs = get_term_bits (tree a.job.now a.work.now a.n a.x) in
-    bits_end held st c.requires.claimed (negate term_gates xs)
-    (c.negate-bits.ensures ∙ ap (negate _) c.get_term_bits-xs.ensures ∙ sym (negate_hom (store_hom st) xs))
+    let k = a.kept.now in
+    let xs = get_term_bits (kept_term a.kept.now a.x) in
+    bits_end held k c.requires.claimed (negate term_gates xs)
+    (c.negate-bits.ensures ∙ ap (negate _) c.get_term_bits-xs.ensures ∙ sym (negate_hom (store_hom k) xs))
     c.compare_bits.ensures

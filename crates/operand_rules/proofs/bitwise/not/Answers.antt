@@ -10,7 +10,7 @@ pub returns-in_default : goal.returns-in_default
 returns-in_default c = no_equation c.term_at.ensures by_not c.in_default.in_default-own.keys2
 
 pub term_at-requires-2 : goal.term_at-requires-2
-term_at-requires-2 c = (c.requires.0, left_below c.term_at.ensures _ _ _ (ap operands_of c.in-Equals.is) c.requires.1)
+term_at-requires-2 c = left_below c.term_at.ensures _ _ _ (ap operands_of c.in-Equals.is) c.requires
 
 pub returns-in_default-term_at : goal.returns-in_default-term_at
 unfolding on_sides
@@ -18,8 +18,8 @@ returns-in_default-term_at c = no_case c.term_at-2.ensures 13 c.in_default-term_
 
 pub not_check-requires : goal.not_check-requires
 not_check-requires c = let d = ap operands_of c.in-Equals.is in
-    one_given c.term_at-2.ensures c.requires.0 (left_below c.term_at.ensures _ _ _ d c.requires.1) BvNot (λ ss. refl) _ _
-    (ap op_of c.in-BvNot.is) (ap operands_of c.in-BvNot.is) (right_below c.term_at.ensures _ _ _ d c.requires.1)
+    one_given c.args.kept.now c.term_at-2.ensures (left_below c.term_at.ensures _ _ _ d c.requires) BvNot (λ ss. refl) _ _
+    (ap op_of c.in-BvNot.is) (ap operands_of c.in-BvNot.is) (right_below c.term_at.ensures _ _ _ d c.requires)
 
 pub returns : goal.returns
 unfolding on_sides

@@ -4,7 +4,7 @@ use Rattle.theory.specs.Bits.{get_term_bits}
 use mathlib.Core.List.{map}
 use Rattle.theory.proofs.Natural.{map_not_hom}
 use Rattle.theory.specs.Verdict.{held}
-use Rattle.operand_rules.specs.Rules.{tree}
+use Rattle.store.specs.Kept.{kept_term}
 use Rattle.operand_rules.proofs.Numbers.{operand_as, store_hom, bits_end}
 use Rattle.operand_rules.proofs.bitwise.not_check.Goals as goal
 
@@ -13,8 +13,8 @@ get_term_bits-xs-requires c = operand_as c.requires.only c.width_at-w.ensures.va
 
 pub returns : goal.returns
 returns c = let a = c.args in
-    let st = c.requires.only.store in
-    let xs = get_term_bits (tree a.job.now a.work.now a.n a.x) in
-    bits_end held st c.requires.claimed (map term_gates.not_gate xs)
-    (c.nots-bits.ensures ∙ ap (map _) c.get_term_bits-xs.ensures ∙ sym (map_not_hom (store_hom st) xs))
+    let k = a.kept.now in
+    let xs = get_term_bits (kept_term a.kept.now a.x) in
+    bits_end held k c.requires.claimed (map term_gates.not_gate xs)
+    (c.nots-bits.ensures ∙ ap (map _) c.get_term_bits-xs.ensures ∙ sym (map_not_hom (store_hom k) xs))
     c.compare_bits.ensures

@@ -10,7 +10,7 @@ pub returns-in_default : goal.returns-in_default
 returns-in_default c = no_equation c.term_at.ensures by_slt c.in_default.in_default-own.keys2
 
 pub term_at-requires-2 : goal.term_at-requires-2
-term_at-requires-2 c = (c.requires.0, left_below c.term_at.ensures _ _ _ (ap operands_of c.in-Equals.is) c.requires.1)
+term_at-requires-2 c = left_below c.term_at.ensures _ _ _ (ap operands_of c.in-Equals.is) c.requires
 
 pub returns-in_default-term_at : goal.returns-in_default-term_at
 unfolding on_sides
@@ -18,8 +18,8 @@ returns-in_default-term_at c = no_case c.term_at-2.ensures 23 c.in_default-term_
 
 pub slt_check-requires : goal.slt_check-requires
 slt_check-requires c = let d = ap operands_of c.in-Equals.is in
-    two_given c.term_at-2.ensures c.requires.0 (left_below c.term_at.ensures _ _ _ d c.requires.1) BvSLt (λ ss. refl) _ _ _
-    (ap op_of c.in-BvSLt.is) (ap operands_of c.in-BvSLt.is) (right_below c.term_at.ensures _ _ _ d c.requires.1)
+    two_given c.args.kept.now c.term_at-2.ensures (left_below c.term_at.ensures _ _ _ d c.requires) BvSLt (λ ss. refl) _ _ _
+    (ap op_of c.in-BvSLt.is) (ap operands_of c.in-BvSLt.is) (right_below c.term_at.ensures _ _ _ d c.requires)
 
 pub returns : goal.returns
 unfolding on_sides

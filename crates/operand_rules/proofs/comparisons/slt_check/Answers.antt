@@ -13,6 +13,6 @@ get_term_bits-ys-requires c = operand_as c.requires.right c.width_at-w.ensures.v
 
 pub returns : goal.returns
 returns c = let s = c.requires in
-    ends held s.left.store s.claimed _
-    (c.slt.ensures ∙ ap₂ (slt _) c.get_term_bits-xs.ensures c.get_term_bits-ys.ensures ∙ sym (slt_hom (store_hom s.left.store) _ _))
+    ends held c.args.kept.now s.claimed _
+    (c.slt.ensures ∙ ap₂ (slt _) c.get_term_bits-xs.ensures c.get_term_bits-ys.ensures ∙ sym (slt_hom (store_hom c.args.kept.now) _ _))
     c.compare.ensures

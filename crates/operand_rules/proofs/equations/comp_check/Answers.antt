@@ -6,7 +6,7 @@ use Prim.Native.Nat.{ℕ}
 use Rattle.theory.specs.Circuit.{equality}
 use Rattle.theory.proofs.Natural.{equality_hom}
 use Rattle.theory.specs.Verdict.{held}
-use Rattle.operand_rules.specs.Rules.{tree}
+use Rattle.store.specs.Kept.{kept_term}
 use Rattle.operand_rules.proofs.Numbers.{operand_as, store_hom, bits_end}
 use Rattle.operand_rules.proofs.equations.comp_check.Goals as goal
 
@@ -18,10 +18,10 @@ get_term_bits-ys-requires c = operand_as c.requires.right c.width_at-w.ensures.v
 
 pub returns : goal.returns
 returns c = let a = c.args in
-    let st = c.requires.left.store in
-    let h = store_hom st in
-    let xs = get_term_bits (tree a.job.now a.work.now a.n a.x) in
-    let ys = get_term_bits (tree a.job.now a.work.now a.n a.y) in
-    bits_end held st c.requires.claimed (equality term_gates xs ys ∷ [])
+    let k = a.kept.now in
+    let h = store_hom k in
+    let xs = get_term_bits (kept_term a.kept.now a.x) in
+    let ys = get_term_bits (kept_term a.kept.now a.y) in
+    bits_end held k c.requires.claimed (equality term_gates xs ys ∷ [])
     (ap (λ (k : ℕ). k ∷ []) (c.equality-bits.ensures ∙ ap₂ (equality _) c.get_term_bits-xs.ensures c.get_term_bits-ys.ensures ∙ sym (equality_hom h xs ys)))
     c.compare_bits.ensures

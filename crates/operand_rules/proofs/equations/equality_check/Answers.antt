@@ -1,4 +1,3 @@
-use borrow.Author.Rules.{rules}
 use mathlib.Core.Path.{sym, ap₂, ◌∙◌}
 use Rattle.theory.specs.Circuit.{equality}
 use Rattle.theory.specs.Verdict.{held}
@@ -12,19 +11,20 @@ returns-in_default c = not_bits _ _ c.sort_at.result c.in_default.in_default-own
 
 pub get_term_bits-xs-requires : goal.get_term_bits-xs-requires
 get_term_bits-xs-requires c = let p = c.requires in
-    operand_told p.store p.left c.sort_at.ensures c.in-Bv.is
+    operand_told c.args.kept.now p.left c.sort_at.ensures c.in-Bv.is
 
 pub get_term_bits-ys-requires : goal.get_term_bits-ys-requires
 get_term_bits-ys-requires c = let p = c.requires in
-    operand_told p.store p.right (c.sort_at.ensures ∙ sym p.same) c.in-Bv.is
+    operand_told c.args.kept.now p.right (c.sort_at.ensures ∙ sym p.same) c.in-Bv.is
 
 pub equality-requires : goal.equality-requires
 equality-requires c = let p = c.requires in
-    record { table = search rules; width = widths (operand_told p.store p.left c.sort_at.ensures c.in-Bv.is) }
+    let w = widths (operand_told c.args.kept.now p.left c.sort_at.ensures c.in-Bv.is) in
+    record { some = w.0; within = w.1 }
 
 pub returns : goal.returns
 returns c = let p = c.requires in
-    is_bits _ (operand_told p.store p.left c.sort_at.ensures c.in-Bv.is)
-    (ends held p.store p.claimed _
-    (c.equality.ensures ∙ ap₂ (equality _) c.get_term_bits-xs.ensures c.get_term_bits-ys.ensures ∙ sym (equality_hom (store_hom p.store) _ _))
+    is_bits _ (operand_told c.args.kept.now p.left c.sort_at.ensures c.in-Bv.is)
+    (ends held c.args.kept.now p.claimed _
+    (c.equality.ensures ∙ ap₂ (equality _) c.get_term_bits-xs.ensures c.get_term_bits-ys.ensures ∙ sym (equality_hom (store_hom c.args.kept.now) _ _))
     c.compare.ensures)

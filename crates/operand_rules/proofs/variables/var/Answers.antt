@@ -10,7 +10,7 @@ returns-in_default c = no_equation c.term_at.ensures by_var c.in_default.in_defa
 
 pub var_check-requires : goal.var_check-requires
 var_check-requires c = let d = ap operands_of c.in-Equals.is in
-    record { store = (c.requires.0, left_below c.term_at.ensures _ _ _ d c.requires.1); claim = right_below c.term_at.ensures _ _ _ d c.requires.1 }
+    record { place = left_below c.term_at.ensures _ _ _ d c.requires; claim = right_below c.term_at.ensures _ _ _ d c.requires }
 
 pub returns : goal.returns
 unfolding on_sides

@@ -4,4 +4,4 @@ use Rattle.shift_circuits.proofs.ShiftLaws.{lshr_whole}
 use Rattle.shift_circuits.proofs.shift.lshr.Goals as goal
 
 pub returns : goal.returns
-returns c = lshr_whole _ _ _ _ _ c.shr_stages-shifted.ensures c.bounded.ensures (length-take-le _ _ (search rules))
+returns c = lshr_whole _ _ _ _ _ c.stages-shifted.ensures c.bounded.ensures (length-take-le _ _ (search rules))

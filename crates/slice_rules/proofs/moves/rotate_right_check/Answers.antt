@@ -5,8 +5,8 @@ use Rattle.theory.specs.Move.{right_rotation}
 use Rattle.theory.specs.Bits.{get_term_bits, bb, moved_bits}
 use Rattle.theory.specs.Verdict.{held}
 use Rattle.theory.specs.Rule.{compare}
-use Rattle.operand_rules.specs.Rules.{tree}
 use Rattle.operand_rules.proofs.Numbers.{operand_as}
+use Rattle.store.specs.Kept.{kept_term}
 use Rattle.slice_rules.proofs.moves.rotate_right_check.Goals as goal
 
 pub moved_check-requires : goal.moved_check-requires
@@ -17,5 +17,5 @@ moved_check-requires c = let p = c.requires in let e = c.width_at-w.ensures.valu
 
 pub returns : goal.returns
 returns c = let a = c.args in
-    let t = tree a.job.now a.work.now a.n in
+    let t = kept_term a.kept.now in
     c.moved_check.ensures ∙ ap (λ (v : ℕ). compare held (bb (moved_bits (right_rotation a.k v) (get_term_bits (t a.x)))) (t a.claim)) c.width_at-w.ensures.value

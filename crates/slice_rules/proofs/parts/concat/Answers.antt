@@ -12,14 +12,14 @@ pub returns-in_default : goal.returns-in_default
 returns-in_default c = no_equation c.term_at.ensures by_concat c.in_default.in_default-own.keys2
 
 pub term_at-requires-2 : goal.term_at-requires-2
-term_at-requires-2 c = (c.requires.0, left_below c.term_at.ensures _ _ _ (ap operands_of c.in-Equals.is) c.requires.1)
+term_at-requires-2 c = left_below c.term_at.ensures _ _ _ (ap operands_of c.in-Equals.is) c.requires
 
 pub returns-in_default-term_at : goal.returns-in_default-term_at
 unfolding on_sides
 returns-in_default-term_at c = no_case c.term_at-2.ensures 29 c.in_default-term_at.in_default-term_at-own.keys2 tt _ ∙ sides c.term_at.ensures by_concat c.in-Equals.is
 
 pub term_at-requires-3 : goal.term_at-requires-3
-term_at-requires-3 c = (c.requires.0, right_below c.term_at.ensures _ _ _ (ap operands_of c.in-Equals.is) c.requires.1)
+term_at-requires-3 c = right_below c.term_at.ensures _ _ _ (ap operands_of c.in-Equals.is) c.requires
 
 pub returns-in_default-term_at-2 : goal.returns-in_default-term_at-2
 unfolding on_sides
@@ -29,8 +29,8 @@ returns-in_default-term_at-2 c = no_case c.term_at-3.ensures 12 c.in_default-ter
 
 pub concat_check-requires : goal.concat_check-requires
 concat_check-requires c = let d = ap operands_of c.in-Equals.is in
-    concat_given c.term_at-2.ensures c.requires.0 (left_below c.term_at.ensures _ _ _ d c.requires.1) _ _
-    (ap op_of c.in-BvConcat.is) (ap operands_of c.in-BvConcat.is) (right_below c.term_at.ensures _ _ _ d c.requires.1)
+    concat_given c.args.kept.now c.term_at-2.ensures (left_below c.term_at.ensures _ _ _ d c.requires) _ _
+    (ap op_of c.in-BvConcat.is) (ap operands_of c.in-BvConcat.is) (right_below c.term_at.ensures _ _ _ d c.requires)
 
 pub returns : goal.returns
 unfolding on_sides

@@ -16,22 +16,22 @@ loop-k-init c = (omega arith, refl, sealed_start _ _)
 pub overflow_mul-head : goal.overflow_mul-head
 overflow_mul-head c = let r = (let room_here : answer_bytes c.args.bytes * suc c.loop-k.k ≤ length c.args.d.now = let less : answer_bytes c.args.bytes * suc c.loop-k.k ≤ answer_bytes c.args.bytes * c.args.n
     = mul-le-mul_left (answer_bytes c.args.bytes) c.loop-k-test.true in
-    omega (arith, c.requires.1) in room_here) in search rules
+    omega (arith, c.requires) in room_here) in search rules
 
 pub put_number-requires : goal.put_number-requires
 put_number-requires c = let r = (let room_here : answer_bytes c.args.bytes * suc c.loop-k.k ≤ length c.args.d.now = let less : answer_bytes c.args.bytes * suc c.loop-k.k ≤ answer_bytes c.args.bytes * c.args.n
     = mul-le-mul_left (answer_bytes c.args.bytes) c.loop-k-test.true in
-    omega (arith, c.requires.1) in room_here) in search rules
+    omega (arith, c.requires) in room_here) in search rules
 
 pub overflow_add-head : goal.overflow_add-head
 overflow_add-head c = let r = (let room_here : answer_bytes c.args.bytes * suc c.loop-k.k ≤ length c.args.d.now = let less : answer_bytes c.args.bytes * suc c.loop-k.k ≤ answer_bytes c.args.bytes * c.args.n
     = mul-le-mul_left (answer_bytes c.args.bytes) c.loop-k-test.true in
-    omega (arith, c.requires.1) in room_here) in search rules
+    omega (arith, c.requires) in room_here) in search rules
 
 pub put_number-requires-in-loop-k : goal.put_number-requires-in-loop-k
 put_number-requires-in-loop-k c = let r = (let room_here : answer_bytes c.args.bytes * suc c.loop-k.k ≤ length c.args.d.now = let less : answer_bytes c.args.bytes * suc c.loop-k.k ≤ answer_bytes c.args.bytes * c.args.n
     = mul-le-mul_left (answer_bytes c.args.bytes) c.loop-k-test.true in
-    omega (arith, c.requires.1) in room_here) in search rules
+    omega (arith, c.requires) in room_here) in search rules
 
 pub loop-k-preserved : goal.loop-k-preserved
 loop-k-preserved c = let i = c.loop-k.invariant in
@@ -40,7 +40,7 @@ loop-k-preserved c = let i = c.loop-k.invariant in
       search rules,
       sealed_more c.args.bytes c.args.d.now _ _ _ _ (let room_here : answer_bytes c.args.bytes * suc c.loop-k.k ≤ length c.args.d.now = let less : answer_bytes c.args.bytes * suc c.loop-k.k ≤ answer_bytes c.args.bytes * c.args.n
           = mul-le-mul_left (answer_bytes c.args.bytes) c.loop-k-test.true in
-          omega (arith, c.requires.1) in room_here) i.2 c.put_number.ensures c.put_number-in-loop-k.ensures,
+          omega (arith, c.requires) in room_here) i.2 c.put_number.ensures c.put_number-in-loop-k.ensures,
     )
 
 pub returns : goal.returns

@@ -1,0 +1,10 @@
+use mathlib.Core.Path.{sym, ◌∙◌}
+use Rattle.theory.specs.Circuit.{shl}
+use Rattle.theory.proofs.Shift.{shl_hom}
+use Rattle.operand_rules.specs.Rules.{width_bits}
+use Rattle.operand_rules.proofs.Numbers.{store_hom}
+use Rattle.operand_rules.proofs.Sorts.{three}
+use Rattle.shift_rules.proofs.shifts.LeftOperation.bits.Goals as goal
+
+pub returns : goal.returns
+returns c = λ xs ys e d. c.shl.ensures ∙ three (shl _) c.width_bits-size.ensures e d ∙ sym (shl_hom (store_hom c.args.kept.now) (width_bits c.args.w) xs ys)
