@@ -1,7 +1,7 @@
 -- A term at a place: its arguments may be evaluated, and what they come to is its value.
 use mathlib.Core.Path.{◌≡◌, refl, sym, ap, subst, ◌∙◌}
 use mathlib.Core.List.{List, [], ◌∷◌, map}
-use Prim.Native.Nat.{ℕ, ◌+◌}
+use Prim.Native.Nat.{ℕ, ◌+◌, ◌<◌}
 use native.Mathlib.Omega.{arith}
 use lib.Dec.{T}
 use Rattle.theory.specs.Limit.{first_terms}
@@ -22,6 +22,9 @@ use Rattle.store.specs.Shelf.{args_at}
 use Rattle.sweeps.specs.Variables.{is_variable}
 use Rattle.sweeps.specs.Sweep.{as_number}
 use Rattle.evaluation.specs.Cells.{AllRight, sorts_on, Given, Comes, Evaluated, Decodable}
+use Rattle.store.specs.KeptTerms.{IsTermOn}
+use Rattle.evaluation.specs.Columns.{column}
+use Rattle.evaluation.specs.declared.evaluate.Column.{Column}
 use Rattle.evaluation.proofs.PlaceLaws.{place_good}
 
 -- a fold of the terms at places
@@ -81,3 +84,8 @@ module _ {job work : Bytes} {n : ℕ} {num : ℕ → ℕ} {place : ℕ} {t : Dec
   pub const_at : (m x : ℕ) → t ≡ D.Const m x → Evaluated (number_length job) (listed job work n) num place x
   unfolding meaning
   const_at m x e = done_at (D.Const m x) e (λ ρ a. refl)
+
+-- a term of a column
+pub standing : (c : Column) {place : ℕ} {t : Decoded} → place < first_terms + c.terms.rows → IsTermOn c.terms place t
+    → Decodable c.terms.job.now c.terms.work.now c.terms.rows (column c) place t
+standing c l t = record { able = record { shelf = c.terms.shelf; ranged = c.ranged }; low = l; term = t }

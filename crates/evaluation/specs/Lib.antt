@@ -1,3 +1,3 @@
 -- What the contracts of `evaluation` cite.
 pub mod Cells
-pub mod Lent
+pub mod Columns

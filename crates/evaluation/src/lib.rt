@@ -1,4 +1,5 @@
-// The value of a kept term from the values of its arguments, which stand in a lent buffer: eight bytes for each kept term, `true` and `false` too.
+// The value of a kept term from the values of its arguments, which stand in a lent buffer: eight
+// bytes for each kept term, `true` and `false` too.
 //
 // To read: cells (the buffer), evaluate (one term).
 #![tactic(auto)]

@@ -105,6 +105,13 @@ module _ {b : ℕ} (list : Plain) (w : WellKept b list) where
       subst (λ (z : Term). T (stands (tree_at list j) z)) (sym k.made)
       (stands_in (tree_at list j) k.op _ (element_stands j k.args (subst (λ (ks : List ℕ). T (element j ks)) (args_are q h l) e)))
 
+  -- what stands in a term of the list stands before it, or is it
+  pub stands_before : (q : ℕ) → q < length list → (p : ℕ) → p < length list → T (stands (tree_at list p) (tree_at list q)) → p ≤ q
+  stands_before q l p h s =
+      let a = placed list w (λ j. Unit {0}) (λ i f k z j e. tt) q l tt (tree_at list p) s in
+      let e = trees_distinct list w a.place p (omega (arith, a.low)) h a.is in
+      omega (arith, a.low)
+
   -- ---- what stands in a marked term is at a marked place, where marks are closed
   module _ (job work : Bytes) (closed : (q : ℕ) → first_terms ≤ q → q < length list → T (mark_of job work q) → (j : ℕ) → T (element j (args_at b list q)) → T (mark_of job work j)) where
     pub complete : (q : ℕ) → q < length list → T (mark_of job work q) → (p : ℕ) → p < length list → T (stands (tree_at list p) (tree_at list q)) → T (mark_of job work p)
@@ -123,7 +130,7 @@ pub record Marking (job work : Bytes) (n asked : ℕ) (now : Bytes) (k : ℕ) : 
   pub sound : (p : ℕ) → first_terms ≤ p → p < first_terms + n → T (mark_of job now p) → T (stands (tree_at (listed job work n) p) (tree_at (listed job work n) asked))
   pub closed : (p : ℕ) → k < p → first_terms ≤ p → p < first_terms + n → T (mark_of job now p) → (j : ℕ) → T (element j (args_at (number_length job) (listed job work n) p)) → T (mark_of job now j)
 
-T_none : (b : Bool) → (T b → ⊥) → b ≡ false
+pub T_none : (b : Bool) → (T b → ⊥) → b ≡ false
 T_none true f = absurd (f tt)
 T_none false f = refl
 
@@ -224,8 +231,8 @@ module _ {job work : Bytes} {n asked : ℕ} where
   pub marking_room : {now : Bytes} {k : ℕ} → Marking job work n asked now k → Room job now k
   marking_room {now} {k} m = room_kept m.kept (room_in job work n m.shelf.rows.room k (omega (arith, m.most, m.low)))
 
-  pub marking_shelf : {now : Bytes} {k : ℕ} → Marking job work n asked now k → Shelf job now n × (k < first_terms + n)
-  marking_shelf m = (shelf_kept m.shelf m.kept, omega (arith, m.most, m.low))
+  pub marking_shelf : {now : Bytes} {k : ℕ} → Marking job work n asked now k → record { shelf : Shelf job now n; low : k < first_terms + n }
+  marking_shelf m = record { shelf = shelf_kept m.shelf m.kept; low = omega (arith, m.most, m.low) }
 
 -- only the asked term is marked at first
 pub marking_start : {job work : Bytes} {n asked : ℕ} → Shelf job work n → asked < first_terms + n → {mid now : Bytes} → Cleared job work n mid → Set job mid asked now → Marking job now n asked now asked
@@ -246,13 +253,13 @@ marking_start {job} {work} {n} {asked} s l {mid} {now} c t = record {
 
 -- ---- one term
 module _ {job work : Bytes} {n place : ℕ} {t : Decoded} {ops : Operands} (h : TermOn job work n place t) (e : ops ≡ operands_of t) where
-  pub term_ready : Shelf job work n → place < first_terms + n → OperandsPlaced job ops × Rooms job work (numbers_of job ops)
+  pub term_ready : Shelf job work n → place < first_terms + n → record { placed : OperandsPlaced job ops; rooms : Rooms job work (numbers_of job ops) }
   unfolding link_bytes
-  term_ready s l = (
-    subst (OperandsPlaced job) (sym e) h.term_at.placed,
-    subst (λ (o : Operands). Rooms job work (numbers_of job o)) (sym e)
-        (rooms_in job work n s.rows.room (arguments_of job t) (more_below place (first_terms + n) (omega arith) (arguments_of job t) (true_T _ h.term_at.below))),
-  )
+  term_ready s l = record {
+    placed = subst (OperandsPlaced job) (sym e) h.term_at.placed;
+    rooms = subst (λ (o : Operands). Rooms job work (numbers_of job o)) (sym e)
+        (rooms_in job work n s.rows.room (arguments_of job t) (more_below place (first_terms + n) (omega arith) (arguments_of job t) (true_T _ h.term_at.below)));
+  }
 
   pub term_done : {after : Bytes} → SetAll job work (numbers_of job ops) after → SetTerm job work n place after
   term_done {after} r = subst (λ (ks : List ℕ). SetAll job work ks after) (ap (numbers_of job) e ∙ h.args_are) r

@@ -9,16 +9,19 @@ use lib.ListN.{length}
 use borrow.Author.Tests.{eq-eqb, ne_eqb, eqb-true, eqb-false, ltb-true, ltb-false}
 use Rattle.theory.specs.Limit.{first_terms}
 use Rattle.theory.specs.Record.{Bytes}
+use Rattle.theory.specs.Plain.{Plain}
 use Rattle.theory.specs.Places.{tree_at}
 use Rattle.theory.proofs.Basics.{T_true}
 use Rattle.rows.specs.Layout.{link_at, row_size, link_size}
 use Rattle.rows.specs.Rows.{stored_link}
 use Rattle.rows.proofs.RowLaws.{link_here, link_other}
 use Rattle.store.specs.Store.{listed}
+use Rattle.store.specs.Shelf.{Shelf}
+use Rattle.sweeps.specs.Variables.{stands}
 use Rattle.sweeps.proofs.Standing.{stands_self}
-use Rattle.marks.specs.Marks.{mark_of, Room, Kept, Next, following, Linked, Threadable, Threaded, Reaches, Marks}
+use Rattle.marks.specs.Marks.{mark_of, Room, Kept, Next, following, Linked, Threadable, Threaded, Threads, Reaches, Marks, Marked}
 use Rattle.marks.proofs.MarkLaws.{kept_self, kept_more, kept_linked, mark_low, room_in}
-use Rattle.marks.proofs.Marking.{listed_same, shelf_kept}
+use Rattle.marks.proofs.Marking.{T_none, listed_same, shelf_kept, stands_before}
 
 -- ---- one link
 pub link_row : (job work : Bytes) (place v : ℕ) → first_terms ≤ place → (place - first_terms) * row_size (link_size job) + row_size (link_size job) ≤ length work → v < 256 ^ link_size job → {after : Bytes}
@@ -220,6 +223,29 @@ marks_ready {job} {work} {n} {asked} {mid} l m = record {
     go : (b : Bool) → (b ≡ true → asked < first_terms) → (b ≡ false → first_terms ≤ asked) → T (mark_of job mid asked)
     go true f g = subst T (mark_low job mid asked (f refl)) tt
     go false f g = subst T (sym (m.marks_are asked (g refl) l)) (stands_self (tree_at (listed job work n) asked))
+
+module _ {job work : Bytes} {n asked : ℕ} where
+  -- what a call of `mark_from` leaves
+  pub marks_marked : {after : Bytes} → asked < first_terms + n → Marks job work n asked after → Marked job after n asked
+  marks_marked l m = record {
+    shelf = m.shelf;
+    low = l;
+    marks_are = λ p a b. m.marks_are p a b ∙ ap (λ (list : Plain). stands (tree_at list p) (tree_at list asked)) (sym m.list_is);
+    last = m.last;
+    threads = m.threads;
+  }
+
+  -- the asked term is the last that stands in it
+  pub marked_of : Shelf job work n → asked < first_terms + n
+      → ((p : ℕ) → first_terms ≤ p → p < first_terms + n → mark_of job work p ≡ stands (tree_at (listed job work n) p) (tree_at (listed job work n) asked))
+      → Threads job work asked → Marked job work n asked
+  marked_of s l m t = record {
+    shelf = s;
+    low = l;
+    marks_are = m;
+    last = λ p a h b. m p a b ∙ T_none _ (λ z. let e = stands_before (listed job work n) s.well asked (omega (arith, s.count)) p (omega (arith, s.count)) z in absurd (omega arith));
+    threads = t;
+  }
 
 -- ---- from place to place
 -- a property that holds at j holds at stop, if the places between keep it

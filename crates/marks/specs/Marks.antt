@@ -106,6 +106,15 @@ pub record Marks (job work : Bytes) (n asked : ℕ) (after : Bytes) : Type 0 whe
   pub last : (p : ℕ) → first_terms ≤ p → asked < p → p < first_terms + n → mark_of job after p ≡ false
   pub threads : Threads job after asked
 
+-- the rows can be read, and exactly the terms that stand in the asked one, which is the last of them, are marked and threaded
+pub record Marked (job work : Bytes) (n asked : ℕ) : Type 0 where
+  pub shelf : Shelf job work n
+  pub low : asked < first_terms + n
+  pub marks_are : (p : ℕ) → first_terms ≤ p → p < first_terms + n
+      → mark_of job work p ≡ stands (tree_at (listed job work n) p) (tree_at (listed job work n) asked)
+  pub last : (p : ℕ) → first_terms ≤ p → asked < p → p < first_terms + n → mark_of job work p ≡ false
+  pub threads : Threads job work asked
+
 -- ---- what a call may leave of them
 -- the rows say the list that they said, and the memory is as long as it was; their links are free
 pub record LinksFree (job work : Bytes) (n : ℕ) (after : Bytes) : Type 0 where

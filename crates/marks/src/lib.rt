@@ -9,12 +9,15 @@ ghost use Rattle.terms.specs.Decoded.{OperandsPlaced, Inside, words_in, numbers_
 ghost use Rattle.store.specs.Shelf.{Shelf};
 ghost use Rattle.rows.specs.Layout.{link_at, link_size, row_size};
 ghost use Rattle.rows.specs.Rows.{stored_link};
-ghost use Rattle.marks.specs.Marks.{mark_of, Room, Rooms, Cleared, Set, SetAll, SetTerm, following, Linked, Threadable, Threaded, Reaches, Marks};
+ghost use Rattle.marks.specs.Marks.{mark_of, Room, Rooms, Cleared, Set, SetAll, SetTerm, following, Linked, Threadable, Threaded, Reaches, Marks, Marked};
+ghost use Rattle.std.proofs.Math.Bool.{Bool-set};
+ghost use Rattle.std.proofs.Math.Dec.{T_prop};
+ghost use Rattle.theory.proofs.Facts.{kept_facts};
 
 use rows::bytes::put_number;
 use rows::layout::{LONG_LINK_BYTES, OFFSET_BYTES};
 use rows::{FIRST_PLACE, link_at, link_bytes};
-use store::shelf::term_on;
+use store::shelf::Terms;
 use terms::{Args, Operands, Term};
 
 // Stores a mark of row k.
@@ -59,31 +62,27 @@ fn clear_marks(job: &[u8], work: &mut [u8], n: usize)
     requires { n * row_size (link_size job.now) ≤ length work.old }
     ensures { Cleared job.now work.old n work.new }
 {
-    let mut k: usize = 0;
-    while k < n {
+    for k in 0..n {
         put_mark(job, work, k, 0);
-        k += 1;
     }
 }
 
 // Marks the terms of a list, the last first.
 fn mark_list(job: &[u8], work: &mut [u8], a: Args)
-    requires { Inside job.now a × Rooms job.now work.old (words_in job.now a) }
-    ensures { SetAll job.now work.old (words_in job.now a)
-        work.new }
+    requires inside { Inside job.now a }
+    requires rooms { Rooms job.now work.old (words_in job.now a) }
+    ensures { SetAll job.now work.old (words_in job.now a) work.new }
 {
-    let mut i = a.count;
-    while 0 < i {
-        i -= 1;
+    for i in (0..a.count).rev() {
         set_mark(job, work, Term::argument(job, a, i));
     }
 }
 
 // Marks the terms that these arguments are.
 fn mark_operands(job: &[u8], work: &mut [u8], ops: Operands)
-    requires { OperandsPlaced job.now ops × Rooms job.now work.old (numbers_of job.now ops) }
-    ensures { SetAll job.now work.old (numbers_of job.now ops)
-        work.new }
+    requires placed { OperandsPlaced job.now ops }
+    requires rooms { Rooms job.now work.old (numbers_of job.now ops) }
+    ensures { SetAll job.now work.old (numbers_of job.now ops) work.new }
 {
     match ops {
         Operands::None => {}
@@ -107,32 +106,33 @@ fn mark_operands(job: &[u8], work: &mut [u8], ops: Operands)
 
 // Marks the arguments of the term at a place.
 fn mark_term(job: &[u8], work: &mut [u8], n: usize, place: u32)
-    requires { Shelf job.now work.old n × (place < first_terms + n) }
+    requires shelf { Shelf job.now work.old n }
+    requires low { place < first_terms + n }
     ensures { SetTerm job.now work.old n place work.new }
 {
-    let t = term_on(job, work, n, place);
+    let t = Terms::new(job, work, n).term_on(place);
     mark_operands(job, work, t.operands());
 }
 
 // Marks the terms that stand in the asked one, and no others: downwards, since arguments have smaller numbers.
 fn mark_down(job: &[u8], work: &mut [u8], n: usize, asked: u32)
-    requires { Shelf job.now work.old n × (asked < first_terms + n) }
+    requires shelf { Shelf job.now work.old n }
+    requires low { asked < first_terms + n }
     ensures { Reaches job.now work.old n asked work.new }
 {
     clear_marks(job, work, n);
     set_mark(job, work, asked);
-    let mut k = asked;
-    while 2 <= k {
+    for k in (2..=asked).rev() {
         if is_marked(job, work, k) {
             mark_term(job, work, n, k);
         }
-        k -= 1;
     }
 }
 
 // Stores v, a place, in the link of a place. `true` and `false` have none.
 fn link(job: &[u8], work: &mut [u8], place: u32, v: u32)
-    requires { Room job.now work.old place × (v < 256 ^ link_size job.now) }
+    requires room { Room job.now work.old place }
+    requires small { v < 256 ^ link_size job.now }
     ensures { Linked job.now work.old place v work.new }
 {
     let p = place as usize;
@@ -147,33 +147,34 @@ fn thread(job: &[u8], work: &mut [u8], asked: u32)
     ensures { Threaded job.now work.old asked work.new }
 {
     let mut next = asked + 1;
-    let mut k = asked;
-    while 2 <= k {
+    for k in (2..=asked).rev() {
         if is_marked(job, work, k) {
             link(job, work, k, next);
             next = k;
         }
-        k -= 1;
     }
     link(job, work, asked, next);
 }
 
 // The number in the link of a row's place. A call for each number length: each is then compiled for its length.
 fn linked(job: &[u8], work: &[u8], place: u32) -> u32
-    requires { (first_terms ≤ place) × Room job.now work.now place }
+    requires row { first_terms ≤ place }
+    requires room { Room job.now work.now place }
     ensures { result ≡ link_at (link_size job.now) work.now (place - first_terms) }
 {
     let k = place as usize - FIRST_PLACE;
     if Term::number_length(job) == Term::NUMBER_BYTES {
-        return link_at(work, Term::NUMBER_BYTES, k) as u32;
+        return link_at::<{ Term::NUMBER_BYTES }>(work, k) as u32;
     }
-    link_at(work, LONG_LINK_BYTES, k) as u32
+    link_at::<LONG_LINK_BYTES>(work, k) as u32
 }
 
 // The next marked place after a marked one, up to the asked one.
 pub fn next_marked(job: &[u8], work: &[u8], asked: u32, place: u32) -> u32
-    requires { Room job.now work.now asked × Room job.now work.now place
-        × (suc asked < 256 ^ link_size job.now) × (place ≤ asked) }
+    requires last { Room job.now work.now asked }
+    requires room { Room job.now work.now place }
+    requires small { suc asked < 256 ^ link_size job.now }
+    requires below { place ≤ asked }
     ensures { result ≡ following job.now work.now asked place }
 {
     if place == asked {
@@ -190,9 +191,43 @@ pub fn next_marked(job: &[u8], work: &[u8], asked: u32, place: u32) -> u32
 
 // Marks the terms that stand in the asked one, and no others, and threads them.
 pub fn mark_from(job: &[u8], work: &mut [u8], n: usize, asked: u32)
-    requires { Shelf job.now work.old n × (asked < first_terms + n) }
+    requires shelf { Shelf job.now work.old n }
+    requires low { asked < first_terms + n }
     ensures { Marks job.now work.old n asked work.new }
 {
     mark_down(job, work, n, asked);
     thread(job, work, asked);
+}
+
+// The asked term of a job, by its place, where the terms that stand in it, and no others, are marked and threaded.
+#[derive(Clone, Copy)]
+pub struct Asked<'a> {
+    pub terms: Terms<'a>,
+    pub place: u32,
+    ghost marks: { Marked terms.job.now terms.work.now terms.rows place } by { Prim.hlevel (kept_facts, Bool-set, T_prop) },
+}
+
+impl<'a> Asked<'a> {
+    ghost use Rattle.store.specs.KeptTerms.{Holds};
+    ghost use Rattle.marks.specs.Asked.{next_of};
+
+    pub fn new(job: &'a [u8], work: &'a [u8], rows: usize, place: u32) -> Asked<'a>
+        requires { Marked job.now work.now rows place }
+        ensures terms { Holds result.terms job.now work.now rows }
+        ensures place { result.place ≡ place }
+    {
+        Asked {
+            terms: Terms::new(job, work, rows),
+            place,
+        }
+    }
+
+    // The next marked place after a marked one, up to the asked one.
+    #[inline]
+    pub fn next_marked(&self, place: u32) -> u32
+        requires { place ≤ self.now.place }
+        ensures { result ≡ next_of self.now place }
+    {
+        next_marked(self.terms.job, self.terms.work, self.place, place)
+    }
 }

@@ -24,10 +24,9 @@ use Rattle.sweeps.specs.Variables.{stands, stands_any}
 use Rattle.sweeps.specs.Known.{bit_level, all_bit_level}
 use Rattle.sweeps.proofs.Standing.{stands_self, stands_in, stands_first, stands_rest, stands_cases, any_cases, no_arguments}
 use Rattle.sweeps.proofs.Placing.{placed}
-use Rattle.marks.specs.Marks.{mark_of, Next}
+use Rattle.marks.specs.Marks.{mark_of, Next, Marked}
 use Rattle.marks.proofs.MarkLaws.{mark_low}
 use Rattle.marks.proofs.Threading.{jump}
-use Rattle.digits.specs.Digits.{Marked}
 use Rattle.ternary.specs.Bits.{bit_kind_in, Closed}
 use Rattle.partial.specs.Levels.{BitLevel}
 

@@ -2,7 +2,7 @@
 use mathlib.Core.Path.{◌≡◌, refl, sym, ap, ap₂, subst, ◌∙◌}
 use mathlib.Core.Bool.{Bool, true, false, ◌&&◌, cond}
 use mathlib.Core.List.{List, [], ◌∷◌, map}
-use mathlib.Core.Option.{Option, some}
+use Rattle.std.specs.Prelude.{Option, Some as some}
 use Prim.Native.Nat.{ℕ, zero, suc, ◌+◌, ◌*◌, ◌≤◌, ◌<◌}
 use native.Mathlib.Numerals.{add-one}
 use native.Mathlib.Omega.{arith}
@@ -31,7 +31,10 @@ use Rattle.sweeps.proofs.Standing.{stands_self}
 use Rattle.marks.specs.Marks.{mark_of, Marks}
 use Rattle.marks.proofs.MarkLaws.{mark_low}
 use Rattle.digits.specs.Digits.{Few}
-use Rattle.sweeper.proofs.NumberLaws.{none_at, marked_of}
+use Rattle.marks.proofs.Threading.{marks_marked}
+use Rattle.marks.specs.declared.Asked.{Asked}
+use Rattle.store.specs.KeptTerms.{Holds, kept_terms}
+use Rattle.sweeper.proofs.NumberLaws.{none_at}
 use Rattle.counter.proofs.CountLaws.{holds_written}
 use Rattle.evaluation.specs.Cells.{cell_at}
 use Rattle.ternary.specs.Bits.{Closed, Offset}
@@ -39,7 +42,7 @@ use Rattle.partial.specs.Levels.{BitLevel}
 use Rattle.partial.specs.Inputs.{InputsPlaced}
 use Rattle.partial.specs.Passing.{Ready, Offsets, Passed}
 use Rattle.partial.specs.Output.{Output, byte_of, Wrote}
-use Rattle.partial.specs.Number.{Derivable, Accepted, bits_of, derived_number}
+use Rattle.partial.specs.Number.{Derivable, Accepted, IsDerivable, IsAccepted, bits_of, derived_number}
 use Rattle.partial.proofs.LevelLaws.{closed_of}
 use Rattle.partial.proofs.InputLaws.{offsets}
 use Rattle.partial.proofs.LengthLaws.{length_known}
@@ -247,7 +250,7 @@ module _ {job work after : Bytes} {n asked : ℕ} (m : Marks job work n asked af
       let a = and_r (bit_level t) (eqb (length inputs) (total_bits (variables list t)) && (all_below 3 inputs && leb (bits_in t) (length outputs))) (true_T _ (sym d.is ∙ e)) in
       let b = and_r (eqb (length inputs) (total_bits (variables list t))) (all_below 3 inputs && leb (bits_in t) (length outputs)) a in
       record {
-        marked = marked_of l m;
+        marked = marks_marked l m;
         level = d.level e;
         inputs_are = eqb→eq (length inputs) (total_bits (variables list t)) (and_l (eqb (length inputs) (total_bits (variables list t))) (all_below 3 inputs && leb (bits_in t) (length outputs)) a);
         room = omega (arith, m.shelf.count);
@@ -256,6 +259,17 @@ module _ {job work after : Bytes} {n asked : ℕ} (m : Marks job work n asked af
 
   pub bits_moved : (inputs : Bytes) → bits_of (listed job after n) asked inputs ≡ bits_of (listed job work n) asked inputs
   bits_moved inputs = ap (λ (list : Plain). bits_of list asked inputs) m.list_is
+
+-- by the asked term, which holds the rows
+module _ (k : Asked) {job work : Bytes} {n place : ℕ} (h : Holds k.terms job work n) (p : k.place ≡ place) where
+  pub derivable_here : {inputs : Bytes} {room : ℕ} {b : Bool} → IsDerivable k inputs room b → Derivable (listed job work n) job work n place inputs room b
+  derivable_here d = rw (h.job_is, h.work_is, h.rows_are, p) at d
+
+  pub accepted_here : {values inputs outputs : Bytes} → Accepted job work n values place inputs outputs → IsAccepted k values inputs outputs
+  accepted_here a = rw (h.job_is, h.work_is, h.rows_are, p) a
+
+  pub bits_here : (inputs : Bytes) → bits_of (kept_terms k.terms) k.place inputs ≡ bits_of (listed job work n) place inputs
+  bits_here inputs = rw (h.job_is, h.work_is, h.rows_are, p) refl
 
 -- what is promised of the result and two memories, and of the work memory
 pub with_work : {A B C D : Type 0} → A × (B × C) → D → record { code : A; outputs : B; values : C; work : D }

@@ -9,10 +9,11 @@ use Rattle.theory.specs.Term.{Term}
 use Rattle.theory.specs.Record.{Bytes}
 use Rattle.theory.specs.Places.{tree_at}
 use Rattle.store.specs.Store.{listed}
+use Rattle.sweeps.specs.Variables.{bits_in}
 use Rattle.sweeps.specs.Known.{Known, unknown, known, known_byte, of_byte}
 use Rattle.counter.specs.Counting.{Holds}
 use Rattle.counter.proofs.CountLaws.{holds_more}
-use Rattle.ternary.specs.Bits.{Sound, BitAsked, BitOn}
+use Rattle.ternary.specs.Bits.{Sound, BitOn}
 use Rattle.partial.specs.Output.{Output, byte_of, Wrote}
 use Rattle.ternary.proofs.GateLaws.{byte_back}
 
@@ -27,8 +28,8 @@ module _ {job work : Bytes} {n : ℕ} {values inputs : Bytes} {asked bits : ℕ}
   writing_start s = record { able = s; most = omega arith; length_is = refl; holds = λ input sound. record { length_is = refl; rest_is = refl; first_are = λ x l. absurd (omega arith) } }
 
   module _ {now : Bytes} {i : ℕ} (s : Writing job work n values inputs asked bits outputs now i) (l : i < bits) where
-    pub writing_asked : BitAsked job work n asked i
-    writing_asked = record { closed = s.able.closed; low = s.able.low; marked = s.able.marked; bit_low = subst (λ (z : ℕ). i < z) s.able.bits_are l }
+    pub writing_bit : i < bits_in (tree_at (listed job work n) asked)
+    writing_bit = subst (λ (z : ℕ). i < z) s.able.bits_are l
 
     pub writing_low : i < length now
     writing_low = omega (arith, s.length_is, s.able.room)

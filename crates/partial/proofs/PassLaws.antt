@@ -21,7 +21,7 @@ use Rattle.marks.specs.Marks.{mark_of, Next}
 use Rattle.marks.proofs.Threading.{jump}
 use Rattle.evaluation.specs.Cells.{cell_at, stored_cell}
 use Rattle.passes.proofs.CellLaws.{length_cell, cell_here, cell_other}
-use Rattle.ternary.specs.Bits.{Offset, Tells, Sound, KnownAsked, KnownOn}
+use Rattle.ternary.specs.Bits.{Offset, Tells, Sound, KnownOn}
 use Rattle.partial.specs.Passing.{Ready, Offsets, Passed}
 
 -- what a cell tells, by its number
@@ -56,9 +56,6 @@ module _ {job work : Bytes} {n : ℕ} {inputs : Bytes} {asked : ℕ} {values : B
 
     pub know_cell : k * cell_bytes + cell_bytes ≤ length now
     know_cell = omega (arith, s.ready.room, s.length_is, list_low)
-
-    pub know_asked : T (mark_of job work k) → {w : ℕ} → w ≡ sort_width (sort_of (tree_at (listed job work n) k)) → w ≡ 0 → KnownAsked job work n k
-    know_asked m e z = record { closed = s.ready.closed; low = know_low; marked = m; bool_there = sym e ∙ z }
 
     lower : (p : ℕ) → p < k + 1 → (p ≡ k → ⊥) → p < k
     lower p h f = omega arith

@@ -8,8 +8,10 @@ use Rattle.store.specs.Store.{listed}
 use Rattle.sweeps.specs.Variables.{variables, total_bits, bits_in}
 use Rattle.sweeps.specs.Known.{known_byte, known, input_of}
 use Rattle.sweeps.specs.Calls.{cell_bytes, derivable, Derived, derived, known_tests}
-use Rattle.digits.specs.Digits.{Marked}
+use Rattle.marks.specs.Marks.{Marked}
 use Rattle.partial.specs.Levels.{BitLevel}
+use Rattle.store.specs.KeptTerms.{kept_terms}
+use Rattle.marks.specs.declared.Asked.{Asked}
 
 -- r says whether the bits of the asked term are given
 pub record Derivable (list : Plain) (job work : Bytes) (n asked : ℕ) (inputs : Bytes) (output : ℕ) (r : Bool) : Type 0 where
@@ -32,3 +34,9 @@ bits_of list asked inputs = map known_byte (known (input_of (variables list (tre
 unfoldable pub derived_number : Plain → ℕ → ℕ → Bytes → ℕ → Derived
 derived_number list number values inputs output =
     derived list (at_place list number) inputs (first_fault (known_tests list (at_place list number) values inputs output))
+
+abbrev pub IsDerivable : Asked → Bytes → ℕ → Bool → Type 0
+IsDerivable k = Derivable (kept_terms k.terms) k.terms.job.now k.terms.work.now k.terms.rows k.place
+
+abbrev pub IsAccepted : Asked → Bytes → Bytes → Bytes → Type 0
+IsAccepted k values = Accepted k.terms.job.now k.terms.work.now k.terms.rows values k.place

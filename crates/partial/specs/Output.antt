@@ -11,6 +11,8 @@ use Rattle.sweeps.specs.Known.{Known, unknown, known_byte, known}
 use Rattle.marks.specs.Marks.{mark_of}
 use Rattle.counter.specs.Counting.{Holds}
 use Rattle.ternary.specs.Bits.{Closed, Sound}
+use Rattle.store.specs.KeptTerms.{kept_terms}
+use Rattle.ternary.specs.declared.bits.KnownBits.{KnownBits}
 
 -- the asked term has so many bits, and the memory has room for them
 pub record Output (job work : Bytes) (n asked bits : ℕ) (outputs : Bytes) : Type 0 where
@@ -29,3 +31,9 @@ pub record Wrote (list : Plain) (job work inputs values : Bytes) (asked bits : �
   pub length_is : length after ≡ length outputs
   pub holds : (input : Term → List Known) → Sound input list job work inputs values (suc asked)
       → Holds (byte_of input (tree_at list asked)) bits outputs after
+
+abbrev pub MayWrite : KnownBits → ℕ → ℕ → Bytes → Type 0
+MayWrite k = Output k.terms.job.now k.terms.work.now k.terms.rows
+
+abbrev pub HasWritten : KnownBits → ℕ → ℕ → Bytes → Bytes → Type 0
+HasWritten k = Wrote (kept_terms k.terms) k.terms.job.now k.terms.work.now k.inputs.now k.values.now

@@ -8,9 +8,10 @@ use Rattle.store.specs.Store.{listed}
 use Rattle.sweeps.specs.Variables.{is_variable}
 use Rattle.sweeps.specs.Known.{Known}
 use Rattle.sweeps.specs.Calls.{cell_bytes}
-use Rattle.marks.specs.Marks.{mark_of}
-use Rattle.digits.specs.Digits.{Marked}
+use Rattle.marks.specs.Marks.{mark_of, Marked}
 use Rattle.ternary.specs.Bits.{Closed, Offset, Sound}
+use Rattle.store.specs.KeptTerms.{kept_terms}
+use Rattle.marks.specs.declared.Asked.{Asked}
 
 -- the marks are those of the asked term, whose kinds are not refused, and the cells have room
 pub record Ready (job work : Bytes) (n : ℕ) (values : Bytes) (asked : ℕ) : Type 0 where
@@ -27,3 +28,9 @@ Offsets input list job work inputs values =
 pub record Passed (list : Plain) (job work inputs : Bytes) (asked : ℕ) (values after : Bytes) : Type 0 where
   pub length_is : length after ≡ length values
   pub sound : (input : Term → List Known) → Offsets input list job work inputs values → Sound input list job work inputs after (suc asked)
+
+abbrev pub ReadyIn : Asked → Bytes → Type 0
+ReadyIn k values = Ready k.terms.job.now k.terms.work.now k.terms.rows values k.place
+
+abbrev pub PassedIn : Asked → Bytes → Bytes → Bytes → Type 0
+PassedIn k inputs = Passed (kept_terms k.terms) k.terms.job.now k.terms.work.now inputs k.place

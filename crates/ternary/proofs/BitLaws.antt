@@ -4,6 +4,7 @@ use mathlib.Core.Bool.{Bool, true, false, ◌||◌, cond}
 use mathlib.Core.List.{List, [], ◌∷◌, map}
 use Prim.Native.Nat.{ℕ, zero, suc, ◌+◌, ◌-◌, ◌≤◌, ◌<◌}
 use native.Mathlib.Omega.{arith}
+use mir.Val.{bool_byte}
 use lib.Dec.{T, leb, eqb, leb→le}
 use lib.Ieee.Fits.{and_l, and_r}
 use lib.ListN.{length, take, drop, get_or, length-drop}
@@ -33,14 +34,33 @@ use Rattle.store.specs.Store.{listed}
 use Rattle.store.specs.Shelf.{TermOn, args_at}
 use Rattle.sweeps.specs.Variables.{is_variable, sort_bits, bits_in}
 use Rattle.sweeps.specs.Known.{Known, unknown, known_byte, of_byte, of_bool, lead, known, known_op, number_bits}
+use Rattle.store.specs.KeptTerms.{kept_term}
 use Rattle.marks.specs.Marks.{mark_of}
 use Rattle.marks.proofs.MarkLaws.{count_is}
 use Rattle.evaluation.specs.Cells.{cell_at}
 use Rattle.ternary.specs.Gates.{row_known}
-use Rattle.ternary.specs.Bits.{cell_bit, bit_kind_in, Closed, Offset, Sound, BitAsked, BitOn}
+use Rattle.ternary.specs.Bits.{cell_bit, bit_kind_in, Closed, Offset, Sound, BitOn}
+use Rattle.ternary.specs.KnownBits.{is_marked}
+use Rattle.ternary.specs.declared.bits.KnownBits.{KnownBits}
 use Rattle.ternary.proofs.GateLaws.{byte_back, join_row, row_start}
 
+-- bit i may be asked of the term at place x
+pub record BitAsked (job work : Bytes) (n x i : ℕ) : Type 0 where
+  pub closed : Closed job work n
+  pub low : x < first_terms + n
+  pub marked : T (mark_of job work x)
+  pub bit_low : i < bits_in (tree_at (listed job work n) x)
+
+pub bit_asked : (k : KnownBits) {x i : ℕ} → x < first_terms + k.terms.rows → T (is_marked k x) → i < bits_in (kept_term k.terms x)
+    → BitAsked k.terms.job.now k.terms.work.now k.terms.rows x i
+bit_asked k l m b = record { closed = k.closed; low = l; marked = m; bit_low = b }
+
 -- ---- bytes
+-- a bit that is known
+pub flag_bit : (b : Bool) → bool_byte b ≡ known_byte (of_bool b)
+flag_bit true = refl
+flag_bit false = refl
+
 pub past : (l : List ℕ) (k d : ℕ) → length l ≤ k → get_or l k d ≡ d
 past [] k d h = refl
 past (x ∷ l) zero d h = absurd (omega arith)

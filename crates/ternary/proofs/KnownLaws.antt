@@ -2,11 +2,12 @@
 use mathlib.Core.Path.{◌≡◌, refl, sym, ap, ap₂, subst, ◌∙◌}
 use mathlib.Core.Bool.{Bool, true, false, ◌&&◌, ◌||◌}
 use mathlib.Core.List.{List, [], ◌∷◌, map}
-use Prim.Native.Nat.{ℕ, suc, ◌<◌}
+use Prim.Native.Nat.{ℕ, suc, ◌+◌, ◌<◌}
 use native.Mathlib.Omega.{arith}
 use lib.Dec.{T, ltb, ltb→lt}
 use lib.Ieee.Fits.{and_l, and_r}
 use lib.ListN.{length, drop, get_or}
+use Rattle.theory.specs.Limit.{first_terms}
 use Rattle.theory.specs.Term.{Term, fold}
 use Rattle.theory.specs.Sort.{Sort, bool, bv, guard, good, sort_op, sort_of, sort_width, all_are, same_sort, is_bv_sort, fitting}
 use Rattle.theory.specs.Record.{Bytes}
@@ -24,11 +25,26 @@ use Rattle.store.specs.Store.{listed}
 use Rattle.store.specs.Shelf.{TermOn}
 use Rattle.sweeps.specs.Variables.{is_variable, sort_bits, bits_in}
 use Rattle.sweeps.specs.Known.{Known, known_byte, of_byte, lead, known, known_op, not_known, xor_known, equal_known, ite_known, and_known, or_known}
+use Rattle.store.specs.KeptTerms.{kept_width}
+use Rattle.marks.specs.Marks.{mark_of}
 use Rattle.evaluation.specs.Cells.{cell_at}
 use Rattle.ternary.specs.Gates.{row_known}
-use Rattle.ternary.specs.Bits.{cell_bit, bit_kind_in, Offset, Sound, BitAsked, BitOn, KnownAsked, KnownOn}
+use Rattle.ternary.specs.Bits.{cell_bit, bit_kind_in, Offset, Closed, Sound, BitOn, KnownOn}
+use Rattle.ternary.specs.KnownBits.{is_marked}
+use Rattle.ternary.specs.declared.bits.KnownBits.{KnownBits}
 use Rattle.ternary.proofs.GateLaws.{byte_back}
-use Rattle.ternary.proofs.BitLaws.{sort_made, good_made, known_made, kind_made, arg_marked, arg_low, arg_bit, only_bool, good_bv, bv_bool, first_bit, offset_bit}
+use Rattle.ternary.proofs.BitLaws.{BitAsked, sort_made, good_made, known_made, kind_made, arg_marked, arg_low, arg_bit, only_bool, good_bv, bv_bool, first_bit, offset_bit}
+
+-- the bit may be asked of the Bool at a place
+pub record KnownAsked (job work : Bytes) (n place : ℕ) : Type 0 where
+  pub closed : Closed job work n
+  pub low : place < first_terms + n
+  pub marked : T (mark_of job work place)
+  pub bool_there : sort_width (sort_of (tree_at (listed job work n) place)) ≡ 0
+
+pub known_asked : (k : KnownBits) {place : ℕ} → place < first_terms + k.terms.rows → T (is_marked k place) → kept_width k.terms place ≡ 0
+    → KnownAsked k.terms.job.now k.terms.work.now k.terms.rows place
+known_asked k l m b = record { closed = k.closed; low = l; marked = m; bool_there = b }
 
 row_same : (f g : ℕ → Known) (ks : List ℕ) → ((i : ℕ) → i < length ks → f (get_or ks i 0) ≡ g (get_or ks i 0)) → map f ks ≡ map g ks
 row_same f g [] h = refl
@@ -171,5 +187,27 @@ module _ {job work : Bytes} {n place : ℕ} (s : KnownAsked job work n place) {t
     known_bit b = known_out (D.BvBitOf i x) e (λ input sound own. b input (λ j l m. sound j (omega (arith, below)) m))
 
   -- a kind that is not bit-level
-  pub known_never : (u : Decoded) (e : t ≡ u) → T (bit_kind_in (tree_of list (op_of u) (arguments_of job u)))
+  known_never : (u : Decoded) (e : t ≡ u) → T (bit_kind_in (tree_of list (op_of u) (arguments_of job u)))
   known_never u e = kind_made s.closed s.low s.marked h u e
+
+  -- no other kind is that of a Bool that is bit-level
+  none_of : (u : Decoded) → t ≡ u → (u ≡ D.True → ⊥) → (u ≡ D.False → ⊥) → ((v : ℕ) → u ≡ D.BoolVar v → ⊥) → ((x : ℕ) → u ≡ D.Not x → ⊥) → ((a : Args) → u ≡ D.And a → ⊥) → ((a : Args) → u ≡ D.Or a → ⊥)
+      → ((x y : ℕ) → u ≡ D.Xor x y → ⊥) → ((x y : ℕ) → u ≡ D.Equals x y → ⊥) → ((z x y : ℕ) → u ≡ D.Ite z x y → ⊥) → ((i x : ℕ) → u ≡ D.BvBitOf i x → ⊥) → ⊥
+  none_of D.True e n0 n1 n2 n3 n4 n5 n6 n7 n8 n9 = n0 refl
+  none_of D.False e n0 n1 n2 n3 n4 n5 n6 n7 n8 n9 = n1 refl
+  none_of (D.BoolVar v) e n0 n1 n2 n3 n4 n5 n6 n7 n8 n9 = n2 v refl
+  none_of (D.Not x) e n0 n1 n2 n3 n4 n5 n6 n7 n8 n9 = n3 x refl
+  none_of (D.And a) e n0 n1 n2 n3 n4 n5 n6 n7 n8 n9 = n4 a refl
+  none_of (D.Or a) e n0 n1 n2 n3 n4 n5 n6 n7 n8 n9 = n5 a refl
+  none_of (D.Xor x y) e n0 n1 n2 n3 n4 n5 n6 n7 n8 n9 = n6 x y refl
+  none_of (D.Equals x y) e n0 n1 n2 n3 n4 n5 n6 n7 n8 n9 = n7 x y refl
+  none_of (D.Ite z x y) e n0 n1 n2 n3 n4 n5 n6 n7 n8 n9 = n8 z x y refl
+  none_of (D.BvBitOf i x) e n0 n1 n2 n3 n4 n5 n6 n7 n8 n9 = n9 i x refl
+  none_of (D.BvVar m v) e n0 n1 n2 n3 n4 n5 n6 n7 n8 n9 = not_wide (D.BvVar m v) e _ _ refl
+  none_of (D.Const m v) e n0 n1 n2 n3 n4 n5 n6 n7 n8 n9 = not_wide (D.Const m v) e _ _ refl
+  none_of (D.BvBbTerm a) e n0 n1 n2 n3 n4 n5 n6 n7 n8 n9 = not_wide (D.BvBbTerm a) e _ _ refl
+  none_of u e n0 n1 n2 n3 n4 n5 n6 n7 n8 n9 = known_never u e
+
+  pub known_none : (t ≡ D.True → ⊥) → (t ≡ D.False → ⊥) → ((v : ℕ) → t ≡ D.BoolVar v → ⊥) → ((x : ℕ) → t ≡ D.Not x → ⊥) → ((a : Args) → t ≡ D.And a → ⊥) → ((a : Args) → t ≡ D.Or a → ⊥)
+      → ((x y : ℕ) → t ≡ D.Xor x y → ⊥) → ((x y : ℕ) → t ≡ D.Equals x y → ⊥) → ((z x y : ℕ) → t ≡ D.Ite z x y → ⊥) → ((i x : ℕ) → t ≡ D.BvBitOf i x → ⊥) → ⊥
+  known_none = none_of t refl

@@ -43,25 +43,11 @@ pub record Tells (input : Term → List Known) (list : Plain) (inputs values : B
 abbrev pub Sound : (Term → List Known) → Plain → Bytes → Bytes → Bytes → Bytes → ℕ → Type 0
 Sound input list job work inputs values x = (j : ℕ) → j < x → T (mark_of job work j) → Tells input list inputs values j
 
--- bit i may be asked of the term at place x
-pub record BitAsked (job work : Bytes) (n x i : ℕ) : Type 0 where
-  pub closed : Closed job work n
-  pub low : x < first_terms + n
-  pub marked : T (mark_of job work x)
-  pub bit_low : i < bits_in (tree_at (listed job work n) x)
-
 -- r is bit i of the term at place x, where its cell and those below are sound
 abbrev pub BitOn : Plain → Bytes → Bytes → Bytes → Bytes → ℕ → ℕ → ℕ → Type 0
 BitOn list job work inputs values x i r =
     (input : Term → List Known) → Sound input list job work inputs values (suc x)
     → r ≡ known_byte (get_or (known input (tree_at list x)) i unknown)
-
--- the bit may be asked of the Bool at a place
-pub record KnownAsked (job work : Bytes) (n place : ℕ) : Type 0 where
-  pub closed : Closed job work n
-  pub low : place < first_terms + n
-  pub marked : T (mark_of job work place)
-  pub bool_there : sort_width (sort_of (tree_at (listed job work n) place)) ≡ 0
 
 -- r is the bit of the Bool at a place, where the cells below are sound, and that of a variable says where its bit stands
 abbrev pub KnownOn : Plain → Bytes → Bytes → Bytes → Bytes → ℕ → ℕ → Type 0

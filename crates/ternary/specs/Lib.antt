@@ -1,3 +1,4 @@
 -- Bits of which some are not known.
 pub mod Gates
 pub mod Bits
+pub mod KnownBits

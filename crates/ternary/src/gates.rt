@@ -8,30 +8,25 @@ ghost use Rattle.ternary.specs.Gates.{row_known};
 pub fn not_bit(x: u64) -> u64
     ensures { result ≡ known_byte (not_known (of_byte x)) }
 {
-    if x == 0 {
-        return 1;
+    match x {
+        0 => 1,
+        1 => 0,
+        _ => 2,
     }
-    if x == 1 {
-        return 0;
-    }
-    2
 }
 
 // The bit itself.
 pub fn plain_bit(x: u64) -> u64
     ensures { result ≡ known_byte (of_byte x) }
 {
-    if 1 < x {
-        return 2;
-    }
-    x
+    x.min(2)
 }
 
 // The bit that decides a row: 1 for Or, 0 for And.
 pub fn strong_bit(or: bool) -> u64
     ensures { result ≡ cond or 1 0 }
 {
-    if or { 1 } else { 0 }
+    u64::from(or)
 }
 
 // And (or Or) of one bit and what the others come to.
@@ -55,13 +50,11 @@ pub fn join(or: bool, x: u64, y: u64) -> u64
 pub fn xor_bit(x: u64, y: u64) -> u64
     ensures { result ≡ known_byte (xor_known (of_byte x) (of_byte y)) }
 {
-    if x == 0 {
-        return plain_bit(y);
+    match x {
+        0 => plain_bit(y),
+        1 => not_bit(y),
+        _ => 2,
     }
-    if x == 1 {
-        return not_bit(y);
-    }
-    2
 }
 
 // Equals.
@@ -75,14 +68,10 @@ pub fn equal_bit(x: u64, y: u64) -> u64
 pub fn ite_bit(c: u64, x: u64, y: u64) -> u64
     ensures { result ≡ known_byte (ite_known (of_byte c) (of_byte x) (of_byte y)) }
 {
-    if c == 0 {
-        return plain_bit(y);
+    match c {
+        0 => plain_bit(y),
+        1 => plain_bit(x),
+        _ if x == y => plain_bit(x),
+        _ => 2,
     }
-    if c == 1 {
-        return plain_bit(x);
-    }
-    if x == y {
-        return plain_bit(x);
-    }
-    2
 }

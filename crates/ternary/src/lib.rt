@@ -5,4 +5,3 @@
 pub mod bits;
 pub mod gates;
 pub mod kinds;
-pub mod known;

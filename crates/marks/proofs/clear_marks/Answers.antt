@@ -1,4 +1,3 @@
-use native.Mathlib.Omega.{arith}
 use Rattle.marks.proofs.MarkLaws.{clearing_start, clearing_room, clearing_turn, clearing_done}
 use Rattle.marks.proofs.clear_marks.Goals as goal
 
@@ -7,12 +6,6 @@ loop-k-init c = (clearing_start _ _ _, c.requires)
 
 pub put_mark-requires : goal.put_mark-requires
 put_mark-requires c = clearing_room c.loop-k.invariant.0 c.loop-k.invariant.1 c.loop-k-test.true
-
-pub overflow_add-k : goal.overflow_add-k
-overflow_add-k c = omega (arith, c.loop-k-test.true)
-
-pub loop-k-smaller : goal.loop-k-smaller
-loop-k-smaller c = omega (arith, c.loop-k-test.true)
 
 pub loop-k-preserved : goal.loop-k-preserved
 loop-k-preserved c = (clearing_turn c.loop-k.invariant.0 c.loop-k.invariant.1 c.loop-k-test.true c.put_mark.ensures, c.loop-k.invariant.1)

@@ -1,4 +1,4 @@
-use Prim.Native.Nat.{◌*◌, ◌-◌, ◌≤◌}
+use Prim.Native.Nat.{◌*◌, ◌≤◌}
 use lib.ListN.{length}
 use Rattle.rows.specs.Layout.{row_size, link_size}
 use Rattle.marks.proofs.MarkLaws.{Clearing}
@@ -6,6 +6,3 @@ use Rattle.marks.proofs.clear_marks.Given as goal
 
 abbrev pub invariant-loop-k : goal.invariant-loop-k
 invariant-loop-k l = Clearing l.job l.initial.work l.n l.work l.k × (l.n * row_size (link_size l.job) ≤ length l.initial.work)
-
-abbrev pub decreases-loop-k : goal.decreases-loop-k
-decreases-loop-k l = l.n - l.k

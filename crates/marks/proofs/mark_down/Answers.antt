@@ -7,13 +7,13 @@ use Rattle.marks.proofs.mark_down.Goals as goal
 use Rattle.marks.proofs.mark_down.Goals.{then-is_marked, else-is_marked}
 
 pub clear_marks-requires : goal.clear_marks-requires
-clear_marks-requires c = c.requires.0.rows.room
+clear_marks-requires c = c.requires.shelf.rows.room
 
 pub set_mark-requires : goal.set_mark-requires
-set_mark-requires c = room_kept c.clear_marks.ensures.kept (room_in _ _ _ c.requires.0.rows.room c.args.asked c.requires.1)
+set_mark-requires c = room_kept c.clear_marks.ensures.kept (room_in _ _ _ c.requires.shelf.rows.room c.args.asked c.requires.low)
 
 pub loop-k-init : goal.loop-k-init
-loop-k-init c = marking_start c.requires.0 c.requires.1 c.clear_marks.ensures c.set_mark.ensures
+loop-k-init c = marking_start c.requires.shelf c.requires.low c.clear_marks.ensures c.set_mark.ensures
 
 pub is_marked-requires : goal.is_marked-requires
 is_marked-requires c = marking_room c.loop-k.invariant
@@ -21,11 +21,8 @@ is_marked-requires c = marking_room c.loop-k.invariant
 pub mark_term-requires : goal.mark_term-requires
 mark_term-requires c = marking_shelf c.loop-k.invariant
 
-pub overflow_sub-k : goal.overflow_sub-k
-overflow_sub-k c = omega (arith, c.loop-k-test.true)
-
-pub loop-k-smaller : goal.loop-k-smaller
-loop-k-smaller c = omega (arith, c.loop-k-test.true)
+pub overflow_step-k : goal.overflow_step-k
+overflow_step-k c = omega (arith, c.loop-k-test.true)
 
 pub loop-k-preserved : goal.loop-k-preserved
 loop-k-preserved c =

@@ -3,6 +3,3 @@ use Rattle.marks.proofs.mark_down.Given as goal
 
 abbrev pub invariant-loop-k : goal.invariant-loop-k
 invariant-loop-k l = Marking l.job l.initial.work l.n l.asked l.work l.k
-
-abbrev pub decreases-loop-k : goal.decreases-loop-k
-decreases-loop-k l = l.k

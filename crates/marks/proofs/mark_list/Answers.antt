@@ -5,17 +5,11 @@ use Rattle.marks.proofs.mark_list.Goals as goal
 pub loop-i-init : goal.loop-i-init
 loop-i-init c = listing_start _ _ _ _ (count_is c.args.job.now c.args.a)
 
-pub overflow_sub-i : goal.overflow_sub-i
-overflow_sub-i c = omega (arith, c.loop-i-test.true)
-
 pub argument-requires : goal.argument-requires
-argument-requires c = (c.requires.0, omega (arith, c.loop-i-test.true, c.loop-i.invariant.most, count_is c.args.job.now c.args.a))
+argument-requires c = (c.requires.inside, omega (arith, c.loop-i-test.true, c.loop-i.invariant.most, count_is c.args.job.now c.args.a))
 
 pub set_mark-requires : goal.set_mark-requires
-set_mark-requires c = listing_room c.loop-i-test.true c.loop-i.invariant c.requires.1 c.argument.ensures
-
-pub loop-i-smaller : goal.loop-i-smaller
-loop-i-smaller c = omega (arith, c.loop-i-test.true)
+set_mark-requires c = listing_room c.loop-i-test.true c.loop-i.invariant c.requires.rooms c.argument.ensures
 
 pub loop-i-preserved : goal.loop-i-preserved
 loop-i-preserved c = listing_turn c.loop-i-test.true c.loop-i.invariant c.argument.ensures c.set_mark.ensures

@@ -4,6 +4,3 @@ use Rattle.marks.proofs.mark_list.Given as goal
 
 abbrev pub invariant-loop-i : goal.invariant-loop-i
 invariant-loop-i l = Listing l.job l.initial.work (words_in l.job l.a) l.work l.i
-
-abbrev pub decreases-loop-i : goal.decreases-loop-i
-decreases-loop-i l = l.i

@@ -5,7 +5,7 @@ use Rattle.marks.proofs.Threading.{following_last, following_true, following_fal
 use Rattle.marks.proofs.next_marked.Goals as goal
 
 pub overflow_add-result : goal.overflow_add-result
-overflow_add-result c = let most = place_small _ _ (link_whole (length_of c.args.job.now)).few_bytes c.requires.2 in
+overflow_add-result c = let most = place_small _ _ (link_whole (length_of c.args.job.now)).few_bytes c.requires.small in
     record { fits = omega arith }
 
 pub returns-then-place-asked : goal.returns-then-place-asked

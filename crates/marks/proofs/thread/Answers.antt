@@ -18,13 +18,10 @@ pub is_marked-requires : goal.is_marked-requires
 is_marked-requires c = let i = c.loop-k.invariant in threading_room i.1 i.0.room _ i.1.most
 
 pub link-requires : goal.link-requires
-link-requires c = let i = c.loop-k.invariant in (threading_room i.1 i.0.room _ i.1.most, omega (arith, i.1.next_is.most, i.0.low))
+link-requires c = let i = c.loop-k.invariant in record { room = threading_room i.1 i.0.room _ i.1.most; small = omega (arith, i.1.next_is.most, i.0.low) }
 
-pub overflow_sub-k : goal.overflow_sub-k
-overflow_sub-k c = omega (arith, c.loop-k-test.true)
-
-pub loop-k-smaller : goal.loop-k-smaller
-loop-k-smaller c = omega (arith, c.loop-k-test.true)
+pub overflow_step-k : goal.overflow_step-k
+overflow_step-k c = omega (arith, c.loop-k-test.true)
 
 pub loop-k-preserved : goal.loop-k-preserved
 loop-k-preserved c = let i = c.loop-k.invariant in
@@ -39,7 +36,7 @@ loop-k-preserved c = let i = c.loop-k.invariant in
     )
 
 pub link-requires-2 : goal.link-requires-2
-link-requires-2 c = let i = c.loop-k.invariant in (threading_room i.1 i.0.room _ (omega arith), omega (arith, i.1.next_is.most, i.0.low))
+link-requires-2 c = let i = c.loop-k.invariant in record { room = threading_room i.1 i.0.room _ (omega arith); small = omega (arith, i.1.next_is.most, i.0.low) }
 
 pub shape_of-work : goal.shape_of-work
 shape_of-work c = c.link-2.ensures.kept.length_is ∙ c.loop-k.invariant.1.kept.length_is

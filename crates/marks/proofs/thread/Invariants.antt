@@ -4,6 +4,3 @@ use Rattle.marks.proofs.thread.Given as goal
 
 abbrev pub invariant-loop-k : goal.invariant-loop-k
 invariant-loop-k l = Threadable l.job l.initial.work l.asked × Threading l.job l.initial.work l.asked l.work l.next l.k
-
-abbrev pub decreases-loop-k : goal.decreases-loop-k
-decreases-loop-k l = l.k

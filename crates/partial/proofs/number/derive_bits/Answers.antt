@@ -2,13 +2,16 @@ use Rattle.partial.proofs.NumberLaws.{derive_ready, derive_output, derive_bytes,
 use Rattle.partial.proofs.number.derive_bits.Goals as goal
 
 pub place_inputs-requires : goal.place_inputs-requires
-place_inputs-requires c = (c.requires.marked, c.requires.room)
+place_inputs-requires c = c.requires.room
 
 pub known_all-requires : goal.known_all-requires
 known_all-requires c = derive_ready c.requires c.place_inputs.ensures
 
 pub term_bits-bits-requires : goal.term_bits-bits-requires
-term_bits-bits-requires c = (c.requires.marked.shelf, c.requires.marked.low)
+term_bits-bits-requires c = c.requires.marked.low
+
+pub invariant_of-known : goal.invariant_of-known
+invariant_of-known c = record { closed = (derive_ready c.requires c.place_inputs.ensures).closed }
 
 pub write_bits-requires : goal.write_bits-requires
 write_bits-requires c = derive_output c.requires c.place_inputs.ensures c.term_bits-bits.ensures

@@ -1,9 +1,6 @@
-use Prim.Native.Nat.{◌-◌}
 use Rattle.partial.proofs.OutputLaws.{Writing}
 use Rattle.partial.proofs.output.write_bits.Given as goal
 
 abbrev pub invariant-loop-i : goal.invariant-loop-i
-invariant-loop-i l = Writing l.job l.work l.n l.values l.inputs l.asked l.bits l.initial.outputs l.outputs l.i
-
-abbrev pub decreases-loop-i : goal.decreases-loop-i
-decreases-loop-i l = l.bits - l.i
+invariant-loop-i l = let t = l.known.terms in
+    Writing t.job.now t.work.now t.rows l.known.values.now l.known.inputs.now l.asked l.bits l.initial.outputs l.outputs l.i

@@ -4,6 +4,3 @@ use Rattle.ternary.proofs.bits.row.Given as goal
 
 abbrev pub invariant-loop-i : goal.invariant-loop-i
 invariant-loop-i l = Rowing l.values l.or (words_in l.job l.a) l.acc l.i
-
-abbrev pub decreases-loop-i : goal.decreases-loop-i
-decreases-loop-i l = l.i
