@@ -1,8 +1,9 @@
-// Reads a text of Alethe steps from standard input and prints what it comes to: code, line and length, the bytes of the job, those past it, and
-// those of the work memory. Both lent memories are full of other bytes before.
+// Reads a text of Alethe steps from standard input and prints what it comes to: code, line and
+// length, the bytes of the job, those past it, and those of the work memory. Both lent memories are
+// full of other bytes before.
 #![tactic(auto)]
 
-use convert::convert;
+use convert::{Converted, convert};
 use std::io;
 use streams::read_full;
 
@@ -15,22 +16,12 @@ const LENT: usize = 200;
 // What the lent memories hold before.
 const OLD: u8 = 165;
 
-// Prints a number, and a space after it.
-fn print_number(rt: &impl Print, n: u64) -> io::Result<()> {
-    print!(rt; "{n} ")
-}
-
-// Ends a line.
-fn end_line(rt: &impl Print) -> io::Result<()> {
-    print!(rt; "\n")
-}
-
-// Prints the bytes from `start` up to `end`, where they are there.
-fn print_bytes(rt: &impl Print, bytes: &[u8], start: usize, end: usize) -> io::Result<()> {
-    for x in bytes.iter().take(end).skip(start) {
-        print_number(rt, u64::from(*x))?;
+// Prints bytes as numbers, a space after each, and ends the line.
+fn print_bytes(rt: &impl Print, bytes: &[u8]) -> io::Result<()> {
+    for byte in bytes {
+        print!(rt; "{byte} ")?;
     }
-    end_line(rt)
+    print!(rt; "\n")
 }
 
 fn main(rt: HostRuntime) -> io::Result<()> {
@@ -38,13 +29,10 @@ fn main(rt: HostRuntime) -> io::Result<()> {
     let n = read_full(&mut rt.stdin(), &mut text)?;
     let mut work = [OLD; LENT];
     let mut job = [OLD; MEMORY];
-    let c = convert(&text[..n], &mut work, &mut job);
-    print_number(&rt, u64::from(c.code))?;
-    print_number(&rt, c.line)?;
-    print_number(&rt, c.length)?;
-    end_line(&rt)?;
-    let size = c.length as usize;
-    print_bytes(&rt, &job, 0, size)?;
-    print_bytes(&rt, &job, size, MEMORY)?;
-    print_bytes(&rt, &work, 0, LENT)
+    let Converted { code, line, length } = convert(&text[..n], &mut work, &mut job);
+    print!(&rt; "{code} {line} {length} \n")?;
+    let (made, past) = job.split_at((length as usize).min(MEMORY));
+    print_bytes(&rt, made)?;
+    print_bytes(&rt, past)?;
+    print_bytes(&rt, &work)
 }

@@ -1,8 +1,9 @@
 -- One line of a text.
-use mathlib.Core.Path.{◌≡◌, refl, sym, ap, subst, ◌∙◌}
-use mathlib.Core.Bool.{Bool, true, false, cond}
+use mathlib.Core.Path.{◌≡◌, refl, sym, ap, ◌∙◌}
+use mathlib.Core.Bool.{Bool, true, false}
 use mathlib.Core.List.{List, [], ◌∷◌, ◌++◌}
-use mathlib.Core.Option.{Option, none, some}
+use Rattle.std.specs.Prelude as rust
+use Rattle.std.specs.Prelude.{Option, None as none, Some as some}
 use Prim.Native.Nat.{ℕ, ◌+◌, ◌≤◌, ◌<◌}
 use native.Mathlib.Omega.{arith}
 use lib.ListN.{length, take, length-append}
@@ -14,12 +15,11 @@ use Rattle.text.specs.Convert.{State, state, declare, take_step, take_line}
 use Rattle.text.specs.Claim.{declared_by}
 use Rattle.theory.proofs.Basics.{none_some}
 use Rattle.words.specs.Words.{piece}
+use Rattle.words.proofs.ReadLaws.{read_some, reads_some}
 use Rattle.names.specs.Kinds.{declared_in}
 use Rattle.names.specs.Lines.{Ended, Beyond}
 use Rattle.names.proofs.LineLaws.{further}
 use Rattle.writer.specs.declared.places.Spot.{Spot}
-use Rattle.writer.specs.declared.places.Put as put
-use Rattle.writer.specs.declared.places.Put.TheVariants.{Full, At}
 use Rattle.writer.specs.Places.{so_far}
 use Rattle.entries.specs.Steps.{Stepped}
 use Rattle.entries.specs.Declarations as D
@@ -74,22 +74,6 @@ line_5 room vars job line e f = line_4 room (state vars true job) line e f ∙ b
 never : {A : Type 0} → false ≡ true → A
 never e = absurd (let z : ◌≡◌ {A = ℕ} 0 1 = cc in omega arith)
 
--- a line that is refused
-pub lined_bad : {text : Bytes} {next : ℕ} {old new work : Bytes} {from : Spot} {q : Option State} {r : code.State} → r.ok ≡ false → q ≡ none → Lined text next old new work from q r
-lined_bad {text} {next} {old} {new} {work} {from} {q} {r} e f = record {
-  is = ap (λ (b : Bool). cond b (some (told_state text new r)) none) e ∙ sym f;
-  moved = λ h. never (sym e ∙ h);
-  between = λ h. never (sym e ∙ h);
-}
-
--- ---- what a callee said
-pub step_none : {vars : List Declared} {old new work : Bytes} {from : Spot} {q : Bool → Option State} {r : put.Put} → Stepped vars old new work from q r → r ≡ Full → (b : Bool) → q b ≡ none
-step_none {vars} {old} {new} {work} {from} {q} {r} h e b = let g : Stepped vars old new work from q Full = subst (Stepped vars old new work from q) e h in sym (g.is b)
-
-pub declare_none : {line : Bytes} {vars : List Declared} {old new work : Bytes} {from : Spot} {q : Option State} {r : put.Put} → D.Declared line vars old new work from q r → r ≡ Full → q ≡ none
-declare_none {line} {vars} {old} {new} {work} {from} {q} {r} h e =
-    let g : D.Declared line vars old new work from q Full = subst (D.Declared line vars old new work from q) e h in sym g.is
-
 -- ---- a line that is taken
 module _ {text : Bytes} {at end next : ℕ} {old work₀ : Bytes} {s : code.State} (h : at < length text) (e : Ended text at end) (b : Beyond text end next) (g : Between text at old work₀ s) where
   cut : Cut text at
@@ -99,45 +83,41 @@ module _ {text : Bytes} {at end next : ℕ} {old work₀ : Bytes} {s : code.Stat
   declared_few = let f = g.few in let m = further h e b in omega arith
 
   -- a step
-  pub lined_step : {new work : Bytes} {r : put.Put} {k : ℕ} {t : Spot} {q : Bool → Option State}
-      → Stepped (declared_in (take s.declarations text)) old new work s.spot q r → r ≡ At k t
+  pub lined_step : {new work : Bytes} {r : rust.Option Spot} {t : Spot} {q : Bool → Option State}
+      → Stepped (declared_in (take s.declarations text)) old new work s.spot q r → r ≡ rust.Some t
       → {p : Option State} → p ≡ q s.begun
-      → Lined text next old new work s.spot p (record { ok = true; declarations = s.declarations; declared = s.declared; begun = true; spot = t })
-  lined_step {new} {work} {r} {k} {t} {q} d f {p} l =
-      let vars = declared_in (take s.declarations text) in
-      let z : Stepped vars old new work s.spot q (At k t) = subst (Stepped vars old new work s.spot q) f d in
+      → Lined text next old new work s.spot p (rust.Some (record { declarations = s.declarations; declared = s.declared; begun = true; spot = t }))
+  lined_step {new} {work} {r} {t} {q} d f {p} l =
+      let z = d s.begun in
       let m = declared_few in
-      record {
-        is = z.is s.begun ∙ sym l;
-        moved = λ x. z.moved;
-        between = λ x. record {
-          ready = z.moved.ready;
+      let moved = z.fits t f in
+      reads_some (l ∙ read_some z f) (
+        moved,
+        record {
+          ready = moved.ready;
           within = g.within;
           counted = g.counted;
           few = omega arith;
           level = λ y. never (sym y);
           cut = cut_next h e b cut;
-        };
-      }
+        },
+      )
 
   -- a declaration
-  pub lined_declared : {new work : Bytes} {r : put.Put} {k : ℕ} {t : Spot} → s.begun ≡ false
+  pub lined_declared : {new work : Bytes} {r : rust.Option Spot} {t : Spot} → s.begun ≡ false
       → D.Declared (piece at end text) (declared_in (take s.declarations text)) old new work s.spot (bind (declared_by (piece at end text)) (declare (length old) (state (declared_in (take s.declarations text)) false (so_far old s.spot)))) r
-      → r ≡ At k t → {p : Option State}
+      → r ≡ rust.Some t → {p : Option State}
       → p ≡ bind (declared_by (piece at end text)) (declare (length old) (told_state text old s))
-      → Lined text next old new work s.spot p (record { ok = true; declarations = next; declared = s.declared + 1; begun = false; spot = t })
-  lined_declared {new} {work} {r} {k} {t} n d f {p} l = go (declared_by (piece at end text)) refl
+      → Lined text next old new work s.spot p (rust.Some (record { declarations = next; declared = s.declared + 1; begun = false; spot = t }))
+  lined_declared {new} {work} {r} {t} n d f {p} l = go (declared_by (piece at end text)) refl
     where
-      here : D.Declared (piece at end text) (declared_in (take s.declarations text)) old new work s.spot (bind (declared_by (piece at end text)) (declare (length old) (state (declared_in (take s.declarations text)) false (so_far old s.spot)))) (At k t)
-      here = subst (D.Declared (piece at end text) (declared_in (take s.declarations text)) old new work s.spot (bind (declared_by (piece at end text)) (declare (length old) (state (declared_in (take s.declarations text)) false (so_far old s.spot))))) f d
-
       so : p ≡ some (state (and_declared (piece at end text) (declared_in (take s.declarations text))) false (so_far new t))
       so =
           l ∙ ap (λ (x : Bool). bind (declared_by (piece at end text)) (declare (length old) (state (declared_in (take s.declarations text)) x (so_far old s.spot)))) n
-          ∙ sym here.is
+          ∙ read_some d f
 
       go : (q : Option Declared) → declared_by (piece at end text) ≡ q
-          → Lined text next old new work s.spot p (record { ok = true; declarations = next; declared = s.declared + 1; begun = false; spot = t })
+          → Lined text next old new work s.spot p (rust.Some (record { declarations = next; declared = s.declared + 1; begun = false; spot = t }))
       go none y =
           absurd (let z : p ≡ none = l ∙ ap (λ (x : Option Declared). bind x (declare (length old) (told_state text old s))) y in
           none_some (state (and_declared (piece at end text) (declared_in (take s.declarations text))) false (so_far new t)) (sym z ∙ so))
@@ -150,18 +130,18 @@ module _ {text : Bytes} {at end next : ℕ} {old work₀ : Bytes} {s : code.Stat
           let c = g.counted in
           let len : length (declared_in (take s.declarations text) ++ (v ∷ [])) ≡ length (declared_in (take s.declarations text)) + 1 = length-append (declared_in (take s.declarations text)) (v ∷ []) in
           let all : length (declared_in (take next text)) ≡ length (declared_in (take s.declarations text) ++ (v ∷ [])) = ap length nd in
-          record {
-            is = ap (λ (x : List Declared). some (state x false (so_far new t))) (nd ∙ sym ad) ∙ sym so;
-            moved = λ x. here.moved;
-            between = λ x. record {
-              ready = here.moved.ready;
+          let moved = d.fits t f in
+          reads_some (so ∙ ap (λ (x : List Declared). some (state x false (so_far new t))) (ad ∙ sym nd)) (
+            moved,
+            record {
+              ready = moved.ready;
               within = b.inside;
               counted = omega arith;
               few = declared_few;
               level = λ z. refl;
               cut = cut_next h e b cut;
-            };
-          }
+            },
+          )
 
 -- a declaration after a step is refused
 pub line_begun : (room : ℕ) (vars : List Declared) {begun : Bool} (job line : Bytes) {a b : Bytes} → begun ≡ true → after left line ≡ some a → after (word (ascii "declare-const")) a ≡ some b

@@ -1,9 +1,11 @@
 -- Between two lines, as the code says it.
-use Rattle.std.specs.Prelude.{◌≡◌, true, false, cond, ◌++◌, ℕ, ◌≤◌, length, take}
-use Rattle.std.proofs.Math.Option.{Option, none, some}
+use Rattle.std.specs.Prelude.{◌≡◌, false, ◌++◌, ℕ, ◌≤◌, length, take}
+use Rattle.std.specs.Prelude as rust
+use Rattle.std.specs.Prelude.{Option}
 use Rattle.theory.specs.Record.{Bytes}
 use Rattle.text.specs.Convert as C
 use Rattle.text.specs.Convert.{lines}
+use Rattle.words.specs.Tables.{Reads}
 use Rattle.names.specs.Kinds.{declared_in}
 use Rattle.writer.specs.declared.places.Spot.{Spot}
 use Rattle.writer.specs.Places.{so_far, Ready, Moved}
@@ -26,11 +28,7 @@ pub record Between (text : Bytes) (at : ℕ) (out work : Bytes) (s : code.State)
   pub level : s.begun ≡ false → s.declarations ≡ at
   pub cut : (at ≡ length text → ⊥) → Cut text at
 
-abbrev pub told : Bytes → Bytes → code.State → Option C.State
-told text out s = cond s.ok (some (told_state text out s)) none
-
 -- a line was taken, and the next starts at that place; or it was refused
-pub record Lined (text : Bytes) (next : ℕ) (old new work : Bytes) (from : Spot) (expected : Option C.State) (r : code.State) : Type 0 where
-  pub is : told text new r ≡ expected
-  pub moved : r.ok ≡ true → Moved old new work from r.spot
-  pub between : r.ok ≡ true → Between text next new work r
+abbrev pub Lined : Bytes → ℕ → Bytes → Bytes → Bytes → Spot → Option C.State → rust.Option code.State → Type 0
+Lined text next old new work from expected r =
+    Reads (told_state text new) (λ s. Moved old new work from s.spot × Between text next new work s) expected r

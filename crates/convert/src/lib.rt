@@ -12,12 +12,11 @@ ghost use Rattle.convert.specs.Text.{told, text_call, Taken};
 use crate::line::{State, take_line};
 use names::lines::{line_after, line_end};
 use table::{clear, wipe};
+use text::REFUSED;
 use writer::places::Spot;
 
-// The code of a text with a line that is refused.
-const REFUSED: u32 = 25;
-
-// What a text comes to: 0 and the job's length, or 25 and the place of the first line that is refused.
+// What a text comes to: 0 and the job's length, or 25 and the place of the first line that is
+// refused.
 #[repr(C)]
 #[derive(Clone, Copy)]
 pub struct Converted {
@@ -26,20 +25,13 @@ pub struct Converted {
     pub length: u64,
 }
 
-// What the lines come to: 0 and the job's length, or the place of the first line that is refused.
-#[derive(Clone, Copy)]
-pub struct Lines {
-    pub refused: u64,
-    pub length: usize,
-}
-
-// Reads the lines of a text into a job, with a work memory that is cleared but for the seed.
-fn take_lines(text: &[u8], work: &mut [u8], out: &mut [u8]) -> Lines
+// Reads the lines of a text into a job, with a work memory that is cleared but for the seed: the
+// job's length, or the place of the first line that is refused.
+fn take_lines(text: &[u8], work: &mut [u8], out: &mut [u8]) -> Result<usize, u64>
     requires { Table [] work.old 0 }
     ensures { Taken text.now out.old out.new result }
 {
     let mut s = State {
-        ok: true,
         declarations: 0,
         declared: 0,
         begun: false,
@@ -55,25 +47,19 @@ fn take_lines(text: &[u8], work: &mut [u8], out: &mut [u8]) -> Lines
     while at < text.len() {
         let end = line_end(text, at);
         let next = line_after(text, end);
-        let after = take_line(text, at, end, next, out, work, s);
-        if !after.ok {
-            return Lines {
-                refused: place,
-                length: 0,
-            };
-        }
+        let Some(after) = take_line(text, at, end, next, out, work, s) else {
+            return Err(place);
+        };
         s = after;
         at = next;
         place += 1;
     }
     let spot = s.spot;
-    Lines {
-        refused: 0,
-        length: spot.done,
-    }
+    Ok(spot.done)
 }
 
-// Reads a text into a job. The work memory makes lookups faster; it may hold anything, and is all zero afterwards.
+// Reads a text into a job. The work memory makes lookups faster; it may hold anything, and is all
+// zero afterwards.
 pub fn convert(text: &[u8], work: &mut [u8], job: &mut [u8]) -> Converted
     ensures result { told result ≡ (text_call text work job).result }
     ensures work { work.new ≡ (text_call text work job).work_memory }
@@ -82,17 +68,19 @@ pub fn convert(text: &[u8], work: &mut [u8], job: &mut [u8]) -> Converted
     clear(work);
     let lines = take_lines(text, work, job);
     wipe(work);
-    if lines.refused != 0 {
-        wipe(job);
-        return Converted {
-            code: REFUSED,
-            line: lines.refused,
-            length: 0,
-        };
-    }
-    Converted {
-        code: 0,
-        line: 0,
-        length: lines.length as u64,
+    match lines {
+        Ok(length) => Converted {
+            code: 0,
+            line: 0,
+            length: length as u64,
+        },
+        Err(line) => {
+            wipe(job);
+            Converted {
+                code: REFUSED,
+                line,
+                length: 0,
+            }
+        }
     }
 }

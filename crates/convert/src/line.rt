@@ -1,5 +1,5 @@
 // One line of a text.
-ghost use Rattle.std.specs.Prelude.{false, ◌≡◌, ◌≤◌, ◌<◌, length};
+ghost use Rattle.std.specs.Prelude.{◌<◌, length};
 ghost use Rattle.text.specs.Convert.{take_line};
 ghost use Rattle.words.specs.Words.{piece};
 ghost use Rattle.names.specs.Lines.{Ended, Beyond};
@@ -8,30 +8,16 @@ ghost use Rattle.convert.specs.Line.{told_state, Between, Lined};
 use entries::declarations::declare;
 use entries::steps::take_step;
 use names::marks::{left_after, word_after};
-use writer::places::{Put, Spot};
+use writer::places::Spot;
 
-// Between two lines, where `ok` says so: where the declarations end in the text, how many there are, whether a step was read, and where the
-// job stands.
+// Between two lines: where the declarations end in the text, how many there are, whether a step was
+// read, and where the job stands.
 #[derive(Clone, Copy)]
 pub struct State {
-    pub ok: bool,
     pub declarations: usize,
     pub declared: usize,
     pub begun: bool,
     pub spot: Spot,
-}
-
-// No line was taken.
-fn refused(spot: Spot) -> State
-    ensures { result.ok ≡ false }
-{
-    State {
-        ok: false,
-        declarations: 0,
-        declared: 0,
-        begun: false,
-        spot: spot,
-    }
 }
 
 // The line from `at` to `end` of the text; the one after it starts at `next`.
@@ -43,9 +29,11 @@ pub fn take_line(
     out: &mut [u8],
     work: &mut [u8],
     s: State,
-) -> State
-    requires { (at < length text.now) × Ended text.now at end × Beyond text.now end next
-        × Between text.now at out.old work.old s }
+) -> Option<State>
+    requires inside { at < length text.now }
+    requires ends { Ended text.now at end }
+    requires goes_on { Beyond text.now end next }
+    requires between { Between text.now at out.old work.old s }
     ensures { Lined text.now next out.old out.new work.new s.spot
         (take_line (length out.old) (told_state text.now out.old s)
         (piece at end text.now)) result }
@@ -53,37 +41,25 @@ pub fn take_line(
     let old = s.spot;
     let line = &text[at..end];
     let before = s.declarations;
-    let a = left_after(line, 0);
-    if a == 0 {
-        return refused(old);
-    }
-    if word_after(line, a, b"declare-const") == 0 {
-        let b = word_after(line, a, b"step");
-        if b == 0 {
-            return refused(old);
+    let a = left_after(line, 0)?;
+    if let Some(_) = word_after(line, a, b"declare-const") {
+        if s.begun {
+            return None;
         }
-        let Put::At(_, spot) = take_step(line, b, &text[..before], out, work, old) else {
-            return refused(old);
-        };
-        return State {
-            ok: true,
-            declarations: before,
-            declared: s.declared,
-            begun: true,
-            spot: spot,
-        };
+        let spot = declare(line, &text[..before], s.declared, out, work, old)?;
+        return Some(State {
+            declarations: next,
+            declared: s.declared + 1,
+            begun: false,
+            spot,
+        });
     }
-    if s.begun {
-        return refused(old);
-    }
-    let Put::At(_, spot) = declare(line, &text[..before], s.declared, out, work, old) else {
-        return refused(old);
-    };
-    State {
-        ok: true,
-        declarations: next,
-        declared: s.declared + 1,
-        begun: false,
-        spot: spot,
-    }
+    let b = word_after(line, a, b"step")?;
+    let after = take_step(line, b, &text[..before], out, work, old)?;
+    Some(State {
+        declarations: before,
+        declared: s.declared,
+        begun: true,
+        spot: after,
+    })
 }

@@ -2,7 +2,8 @@
 use mathlib.Core.Path.{◌≡◌, refl, sym, ap, ◌∙◌}
 use mathlib.Core.Bool.{Bool, false, cond}
 use mathlib.Core.List.{List, [], ◌∷◌, ◌++◌}
-use mathlib.Core.Option.{Option, none, some}
+use Rattle.std.specs.Prelude as rust
+use Rattle.std.specs.Prelude.{Option, None as none, Some as some}
 use Prim.Native.Nat.{ℕ, ◌<◌, ◌≤◌}
 use lib.Dec.{ltb}
 use lib.ListN.{length}
@@ -17,8 +18,8 @@ use Rattle.text.specs.Convert.{State, state, declare}
 use Rattle.text.specs.Claim.{declared_by}
 use Rattle.writer.specs.declared.places.Spot.{Spot}
 use Rattle.writer.specs.declared.places.Put.{Put}
-use Rattle.writer.specs.declared.places.Put.TheVariants as P
 use Rattle.writer.specs.Places.{Puts}
+use Rattle.words.proofs.ReadLaws.{read_none, read_some, reads_some}
 use Rattle.entries.specs.Declarations.{and_declared, Declared}
 
 abbrev put_so : List R.Declared → Option Placed → Option State
@@ -32,9 +33,6 @@ declare_is : (vars : List R.Declared) (room : ℕ) (job : Bytes) (d : R.Declared
     ≡ declared_so vars room job d (is_some (find_name 0 d.name vars)) (ltb (length vars) number_end) (put_term room (variable (length vars) d) (placed_all [] job))
 unfolding declare write
 declare_is vars room job d = refl
-
-pub declared_none : {line : Bytes} {vars : List R.Declared} {old new work : Bytes} {from : Spot} {q : Option State} → q ≡ none → Declared line vars old new work from q P.Full
-declared_none e = record { is = sym e; moved = tt }
 
 module _ (line : Bytes) (vars : List R.Declared) (room : ℕ) (job : Bytes) where
   abbrev declares : Option R.Declared → Option State
@@ -69,7 +67,10 @@ module _ (line : Bytes) (vars : List R.Declared) (room : ℕ) (job : Bytes) wher
           ∙ ap (λ (x : Op). put_so (vars ++ (d ∷ [])) (put_term room x (placed_all [] job))) (sym (k ∙ ap (λ (m : ℕ). variable m d) i))
           ∙ ap (λ (q : Option R.Declared). put_so (either vars (λ c. vars ++ (c ∷ [])) q) (put_term room o (placed_all [] job))) (sym e)
 
-pub declares_put : {line : Bytes} {vars : List R.Declared} {old new work : Bytes} {from : Spot} {q : Option State} (o : Op) (room : ℕ) (job : Bytes) (r : Put)
-    → Puts old new work from (put_term room o (placed_all [] job)) r → q ≡ put_so (and_declared line vars) (put_term room o (placed_all [] job)) → Declared line vars old new work from q r
-declares_put {line} {vars} o room job P.Full h e = record { is = ap (put_so (and_declared line vars)) h.is ∙ sym e; moved = tt }
-declares_put {line} {vars} o room job (P.At k s) h e = record { is = ap (put_so (and_declared line vars)) h.is ∙ sym e; moved = h.moved }
+pub declares_put : (line : Bytes) (vars : List R.Declared) {old new work : Bytes} {from : Spot} {q : Option State} (o : Op) (room : ℕ) (job : Bytes) {r : rust.Option Put} {p : Put}
+    → Puts old new work from (put_term room o (placed_all [] job)) r → r ≡ rust.Some p → q ≡ put_so (and_declared line vars) (put_term room o (placed_all [] job)) → Declared line vars old new work from q (rust.Some p.spot)
+declares_put line vars o room job {r} {p} h f e = reads_some (e ∙ ap (put_so (and_declared line vars)) (read_some h f)) (h.fits p f)
+
+pub declares_full : (line : Bytes) (vars : List R.Declared) {old new work : Bytes} {from : Spot} {q : Option State} (o : Op) (room : ℕ) (job : Bytes) {r : rust.Option Put}
+    → Puts old new work from (put_term room o (placed_all [] job)) r → r ≡ rust.None → q ≡ put_so (and_declared line vars) (put_term room o (placed_all [] job)) → q ≡ none
+declares_full line vars o room job h f e = e ∙ ap (put_so (and_declared line vars)) (read_none h f)

@@ -1,104 +1,21 @@
 -- A step line.
 use mathlib.Core.Path.{◌≡◌, refl, sym, ap, ◌∙◌}
-use mathlib.Core.Bool.{Bool, true, false, cond}
+use mathlib.Core.Bool.{Bool, true}
 use mathlib.Core.List.{List}
-use mathlib.Core.Option.{Option, none, some}
-use Prim.Native.Nat.{ℕ, zero, suc}
+use Rattle.std.specs.Prelude as rust
+use Rattle.std.specs.Prelude.{Option, None as none, Some as some}
+use Prim.Native.Nat.{ℕ}
 use lib.ListN.{length}
 use Rattle.theory.specs.Record.{Bytes}
-use Rattle.text.specs.Tokens.{ascii, left, right, end, word, after}
-use Rattle.text.specs.Spelling.{rule_number}
 use Rattle.text.specs.Reading as R
 use Rattle.text.specs.Reading.{bind, Declared, Word, first_word, is_symbol, step_front, step_back, read_term, max_nesting}
 use Rattle.text.specs.Writing.{Placed, placed, write, put_step}
 use Rattle.text.specs.Convert.{State, state, take_step}
-use Rattle.words.specs.Tables.{some_number}
+use Rattle.words.specs.Tables.{told_by, Reads}
 use Rattle.writer.specs.declared.places.Spot.{Spot}
-use Rattle.writer.specs.declared.places.Put.{Put}
-use Rattle.writer.specs.declared.places.Put.TheVariants as P
 use Rattle.writer.specs.Places.{so_far, Moved, Steps}
 use Rattle.reader.specs.Reader.{Got, got, read_write}
 use Rattle.writer.proofs.Moves.{moved_on}
-use Rattle.entries.specs.Steps.{Stepped}
-
--- ---- name (cl
-abbrev opens : Option Bytes → Option Bytes
-opens q = bind q (after (word (ascii "cl")))
-
-abbrev names : Option Word → Option Bytes
-names q = bind q (λ w. cond (is_symbol w.name) (opens (after left w.rest)) none)
-
-front_is : (bs : Bytes) → step_front bs ≡ names (first_word bs)
-unfolding step_front
-front_is bs = refl
-
-module _ (bs : Bytes) where
-  pub front_1 : first_word bs ≡ none → step_front bs ≡ none
-  front_1 e = front_is bs ∙ ap names e
-
-  module _ {w : Word} (e : first_word bs ≡ some w) where
-    pub front_2 : is_symbol w.name ≡ false → step_front bs ≡ none
-    front_2 f = front_is bs ∙ ap names e ∙ ap (λ (b : Bool). cond b (opens (after left w.rest)) none) f
-
-    module _ (f : is_symbol w.name ≡ true) where
-      front_so : step_front bs ≡ opens (after left w.rest)
-      front_so = front_is bs ∙ ap names e ∙ ap (λ (b : Bool). cond b (opens (after left w.rest)) none) f
-
-      pub front_3 : after left w.rest ≡ none → step_front bs ≡ none
-      front_3 g = front_so ∙ ap opens g
-
-      pub front_4 : {a : Bytes} → after left w.rest ≡ some a → step_front bs ≡ after (word (ascii "cl")) a
-      front_4 g = front_so ∙ ap opens g
-
--- ---- ) :rule name)
-abbrev at_last : Word → Option Bytes → Option ℕ
-at_last w q = bind q (λ d. rule_number w.name)
-
-abbrev at_close : Word → Option Bytes → Option ℕ
-at_close w q = bind q (λ c. at_last w (after end c))
-
-abbrev at_name : Option Word → Option ℕ
-at_name q = bind q (λ w. at_close w (after right w.rest))
-
-abbrev at_rule : Option Bytes → Option ℕ
-at_rule q = bind q (λ b. at_name (first_word b))
-
-abbrev at_right : Option Bytes → Option ℕ
-at_right q = bind q (λ a. at_rule (after (word (ascii ":rule")) a))
-
-back_is : (bs : Bytes) → step_back bs ≡ at_right (after right bs)
-unfolding step_back
-back_is bs = refl
-
-module _ (bs : Bytes) where
-  pub back_1 : after right bs ≡ none → step_back bs ≡ none
-  back_1 e = back_is bs ∙ ap at_right e
-
-  module _ {a : Bytes} (e : after right bs ≡ some a) where
-    pub back_2 : after (word (ascii ":rule")) a ≡ none → step_back bs ≡ none
-    back_2 f = back_is bs ∙ ap at_right e ∙ ap at_rule f
-
-    module _ {b : Bytes} (f : after (word (ascii ":rule")) a ≡ some b) where
-      pub back_3 : first_word b ≡ none → step_back bs ≡ none
-      back_3 g = back_is bs ∙ ap at_right e ∙ ap at_rule f ∙ ap at_name g
-
-      module _ {w : Word} (g : first_word b ≡ some w) where
-        pub back_4 : after right w.rest ≡ none → step_back bs ≡ none
-        back_4 h = back_is bs ∙ ap at_right e ∙ ap at_rule f ∙ ap at_name g ∙ ap (at_close w) h
-
-        module _ {c : Bytes} (h : after right w.rest ≡ some c) where
-          pub back_5 : after end c ≡ none → step_back bs ≡ none
-          back_5 i = back_is bs ∙ ap at_right e ∙ ap at_rule f ∙ ap at_name g ∙ ap (at_close w) h ∙ ap (at_last w) i
-
-          pub back_6 : {d : Bytes} → after end c ≡ some d → step_back bs ≡ rule_number w.name
-          back_6 i = back_is bs ∙ ap at_right e ∙ ap at_rule f ∙ ap at_name g ∙ ap (at_close w) h ∙ ap (at_last w) i
-
-pub rule_none : {q : Option ℕ} {r : ℕ} → some_number r ≡ q → r ≡ 0 → q ≡ none
-rule_none e f = sym e ∙ ap some_number f
-
-pub rule_some : {q : Option ℕ} (r : ℕ) → some_number r ≡ q → (r ≡ 0 → ⊥) → q ≡ some r
-rule_some zero e f = absurd (f refl)
-rule_some (suc n) e f = sym e
 
 -- ---- the step
 abbrev put_so : List Declared → ℕ → ℕ → Placed → Option State
@@ -146,9 +63,6 @@ step_is : (vars : List Declared) (begun : Bool) (room : ℕ) (job bs : Bytes) �
 unfolding take_step
 step_is vars begun room job bs = whole_so vars room job (step_front bs)
 
-pub stepped_none : {vars : List Declared} {old new work : Bytes} {from : Spot} {q : Bool → Option State} → ((begun : Bool) → q begun ≡ none) → Stepped vars old new work from q P.Full
-stepped_none e = record { is = λ begun. sym (e begun); moved = tt }
-
 module _ (vars : List Declared) (begun : Bool) (room : ℕ) (job bs : Bytes) where
   pub step_1 : step_front bs ≡ none → take_step room (state vars begun job) bs ≡ none
   step_1 e = step_is vars begun room job bs ∙ ap (with_front vars room job) e
@@ -164,17 +78,17 @@ module _ (vars : List Declared) (begun : Bool) (room : ℕ) (job bs : Bytes) whe
       pub step_4 : {rule : ℕ} → step_back rest ≡ some rule → take_step room (state vars begun job) bs ≡ put_so vars room rule (placed k j)
       step_4 g = step_is vars begun room job bs ∙ ap (with_front vars room job) e ∙ ap (with_literal vars room) f ∙ ap (with_rule vars room (got k rest j)) g
 
-abbrev put_all : List Declared → Option Bytes → Option State
-put_all vars q = bind q (λ j. some (state vars true j))
-
-pub stepped : {vars : List Declared} {old mid new work work' : Bytes} {from s : Spot} (room rule k : ℕ) {p : Bool → Option State} (r : Put) → length mid ≡ room → Moved old mid work from s
+-- a step that is put after its literal, or does not fit
+pub stepped : {vars : List Declared} {old mid new work work' : Bytes} {from s : Spot} (room rule k : ℕ) {p : Option State} {r : rust.Option Spot} → length mid ≡ room → Moved old mid work from s
     → Steps mid new work' s (put_step (length mid) rule (placed k (so_far mid s))) r
-    → ((begun : Bool) → p begun ≡ put_all vars (put_step room rule (placed k (so_far mid s)))) → Stepped vars old new work' from p r
-stepped {vars} {old} {mid} {new} {work} {work'} {from} {s} room rule k {p} r l m h e = go r h
+    → p ≡ put_so vars room rule (placed k (so_far mid s)) → Reads (λ (x : Spot). state vars true (so_far new x)) (Moved old new work' from) p r
+stepped {vars} {old} {mid} {new} {work} {work'} {from} {s} room rule k {p} {r} l m h e = record {
+  is = told_state r
+      ∙ ap (λ (q : Option Bytes). bind q (λ b. some (state vars true b))) h.is
+      ∙ ap (λ (j : ℕ). put_so vars j rule (placed k (so_far mid s))) l ∙ sym e;
+  fits = λ t u. moved_on m (h.fits t u);
+}
   where
-    same : put_all vars (put_step (length mid) rule (placed k (so_far mid s))) ≡ put_all vars (put_step room rule (placed k (so_far mid s)))
-    same = ap (λ (n : ℕ). put_all vars (put_step n rule (placed k (so_far mid s)))) l
-
-    go : (r : Put) → Steps mid new work' s (put_step (length mid) rule (placed k (so_far mid s))) r → Stepped vars old new work' from p r
-    go P.Full h = record { is = λ begun. ap (put_all vars) h.is ∙ same ∙ sym (e begun); moved = tt }
-    go (P.At n t) h = record { is = λ begun. ap (put_all vars) h.is ∙ same ∙ sym (e begun); moved = moved_on m h.moved }
+    told_state : (q : rust.Option Spot) → told_by (λ (x : Spot). state vars true (so_far new x)) q ≡ bind (told_by (λ (x : Spot). so_far new x) q) (λ b. some (state vars true b))
+    told_state rust.None = refl
+    told_state (rust.Some t) = refl

@@ -7,16 +7,14 @@ ghost use Rattle.names.specs.Kinds.{declared_in};
 ghost use Rattle.writer.specs.Places.{so_far, Ready};
 ghost use Rattle.entries.specs.Declarations.{Declared};
 
-use names::kinds::Atom;
-use names::names::{Declaration, declared_by, find_name, variable};
-use terms::Term;
-use writer::places::{Put, Spot, put_term};
+use names::names::{declared_by, find_name, variable};
+use writer::places::{Spot, put_term};
 
 // The first number that a record's two bytes can't hold.
 const NUMBER_END: usize = 65536;
 
-// A declaration where `declared` variables are declared: the name is new and its number fits; the variable is put.
-#[tactic(auto, using(heads::proofs::ConstantLaws::made_not, heads::proofs::ConstantLaws::made_said, names::proofs::NameLaws::declared_said, names::proofs::NameLaws::declared_not, crate::proofs::DeclareLaws::declared_none, crate::proofs::DeclareLaws::declares_put, crate::proofs::DeclareLaws::declare_1, crate::proofs::DeclareLaws::declare_2, crate::proofs::DeclareLaws::declare_3, crate::proofs::DeclareLaws::declare_4))]
+// A declaration where `declared` variables are declared: the name is new and its number fits; the
+// variable is put. Where the job stands then.
 pub fn declare(
     line: &[u8],
     declarations: &[u8],
@@ -24,24 +22,22 @@ pub fn declare(
     out: &mut [u8],
     work: &mut [u8],
     spot: Spot,
-) -> Put
-    requires { (declared ≡ length (declared_in declarations.now)) × Ready out.old work.old spot }
+) -> Option<Spot>
+    requires counted { declared ≡ length (declared_in declarations.now) }
+    requires ready { Ready out.old work.old spot }
     ensures { Declared line.now (declared_in declarations.now)
         out.old out.new work.new spot
         (bind (declared_by line.now) (declare (length out.old)
         (state (declared_in declarations.now) false (so_far out.old spot)))) result }
 {
-    let Declaration::Is(s, e, vector, width) = declared_by(line) else {
-        return Put::Full;
-    };
-    let known = find_name(declarations, &line[s..e]);
-    if let Atom::Is(_) = known {
-        return Put::Full;
+    let d = declared_by(line)?;
+    if let Some(_) = find_name(declarations, &line[d.start..d.end]) {
+        return None;
     }
     if NUMBER_END <= declared {
-        return Put::Full;
+        return None;
     }
-    let kind = variable(declared as u64, vector, width);
-    let none = [0u16; Term::MAX_ARGUMENTS];
-    put_term(kind, none, 0, out, work, spot)
+    let kind = variable(declared as u64, d.width);
+    let put = put_term(kind, &[], out, work, spot)?;
+    Some(put.spot)
 }

@@ -2,7 +2,7 @@
 ghost use Rattle.std.specs.Prelude.{◌≡◌, ◌≤◌, length, drop};
 ghost use Rattle.text.specs.Reading.{step_front, step_back};
 ghost use Rattle.text.specs.Convert.{state, take_step};
-ghost use Rattle.words.specs.Tables.{some_number};
+ghost use Rattle.words.specs.Tables.{told};
 ghost use Rattle.names.specs.Kinds.{declared_in};
 ghost use Rattle.names.specs.Marks.{Passed};
 ghost use Rattle.writer.specs.Places.{so_far, Ready};
@@ -10,62 +10,50 @@ ghost use Rattle.entries.specs.Steps.{Stepped};
 
 use names::marks::{at_end, left_after, right_after, word_after};
 use names::symbols::is_symbol;
-use reader::reading::{Read, read_term};
+use reader::reading::read_term;
 use words::tables::rule_named;
 use words::tokens::{Token, next_token};
-use writer::places::{Put, Spot, put_step};
+use writer::places::{Spot, put_step};
 
 // The deepest nesting.
 const MAX_NESTING: usize = 200;
 
-// name (cl before the literal: the place after it, or 0.
-#[tactic(auto, using(words::proofs::WordLaws::word_inside, names::proofs::MarkLaws::first_is, names::proofs::MarkLaws::first_none, names::proofs::MarkLaws::passes_not, names::proofs::MarkLaws::passed_is, names::proofs::MarkLaws::passed_not, crate::proofs::StepLaws::front_1, crate::proofs::StepLaws::front_2, crate::proofs::StepLaws::front_3, crate::proofs::StepLaws::front_4))]
-fn step_front(line: &[u8], at: usize) -> usize
+// name (cl before the literal: the place after it.
+#[tactic(auto, using(crate::proofs::Sets::laws), unfolding(text::specs::Reading::step_front))]
+fn step_front(line: &[u8], at: usize) -> Option<usize>
     requires { at ≤ length line.now }
     ensures { Passed line.now (step_front (drop at line.now)) result }
 {
     let Token::Word(s, e) = next_token(line, at) else {
-        return 0;
+        return None;
     };
     if !is_symbol(&line[s..e]) {
-        return 0;
+        return None;
     }
-    let a = left_after(line, e);
-    if a == 0 {
-        return 0;
-    }
+    let a = left_after(line, e)?;
     word_after(line, a, b"cl")
 }
 
-// ) :rule name) after the literal: the rule's number, or 0.
-#[tactic(auto, using(words::proofs::WordLaws::word_inside, names::proofs::MarkLaws::first_is, names::proofs::MarkLaws::first_none, names::proofs::MarkLaws::passed_is, names::proofs::MarkLaws::passed_not, names::proofs::MarkLaws::end_some, names::proofs::MarkLaws::end_none, crate::proofs::StepLaws::back_1, crate::proofs::StepLaws::back_2, crate::proofs::StepLaws::back_3, crate::proofs::StepLaws::back_4, crate::proofs::StepLaws::back_5, crate::proofs::StepLaws::back_6))]
-fn step_back(line: &[u8], at: usize) -> u32
+// ) :rule name) after the literal: the rule's number.
+#[tactic(auto, using(crate::proofs::Sets::laws), unfolding(text::specs::Reading::step_back))]
+fn step_back(line: &[u8], at: usize) -> Option<u32>
     requires { at ≤ length line.now }
-    ensures { some_number result ≡ step_back (drop at line.now) }
+    ensures { told result ≡ step_back (drop at line.now) }
 {
-    let a = right_after(line, at);
-    if a == 0 {
-        return 0;
-    }
-    let b = word_after(line, a, b":rule");
-    if b == 0 {
-        return 0;
-    }
+    let a = right_after(line, at)?;
+    let b = word_after(line, a, b":rule")?;
     let Token::Word(s, e) = next_token(line, b) else {
-        return 0;
+        return None;
     };
-    let c = right_after(line, e);
-    if c == 0 {
-        return 0;
-    }
+    let c = right_after(line, e)?;
     if !at_end(line, c) {
-        return 0;
+        return None;
     }
     rule_named(&line[s..e])
 }
 
-// A step after `(step`: its literal is read and put, then the step.
-#[tactic(auto, using(reader::proofs::LoopLaws::read_said, reader::proofs::LoopLaws::read_bad, names::proofs::MarkLaws::passed_is, names::proofs::MarkLaws::passed_not, crate::proofs::StepLaws::stepped_none, crate::proofs::StepLaws::stepped, crate::proofs::StepLaws::step_1, crate::proofs::StepLaws::step_2, crate::proofs::StepLaws::step_3, crate::proofs::StepLaws::step_4, crate::proofs::StepLaws::rule_none, crate::proofs::StepLaws::rule_some))]
+// A step after `(step`: its literal is read and put, then the step. Where the job stands then, if
+// all of it fits.
 pub fn take_step(
     line: &[u8],
     at: usize,
@@ -73,32 +61,17 @@ pub fn take_step(
     out: &mut [u8],
     work: &mut [u8],
     spot: Spot,
-) -> Put
-    requires { (at ≤ length line.now) × Ready out.old work.old spot }
+) -> Option<Spot>
+    requires inside { at ≤ length line.now }
+    requires ready { Ready out.old work.old spot }
     ensures { Stepped (declared_in declarations.now)
         out.old out.new work.new spot
         (λ begun. take_step (length out.old)
         (state (declared_in declarations.now) begun (so_far out.old spot))
         (drop at line.now)) result }
 {
-    let a = step_front(line, at);
-    if a == 0 {
-        return Put::Full;
-    }
-    let Read::Term(c, literal, after) = read_term(
-        line,
-        a,
-        MAX_NESTING,
-        declarations,
-        out,
-        work,
-        spot,
-    ) else {
-        return Put::Full;
-    };
-    let rule = step_back(line, c);
-    if rule == 0 {
-        return Put::Full;
-    }
-    put_step(rule, literal, out, work, after)
+    let front = step_front(line, at)?;
+    let literal = read_term(line, front, MAX_NESTING, declarations, out, work, spot)?;
+    let rule = step_back(line, literal.next)?;
+    put_step(rule, literal.number, out, work, literal.spot)
 }

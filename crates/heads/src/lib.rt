@@ -1,4 +1,4 @@
 // How a term begins: a whole term without arguments, or an operation.
-#![tactic(auto)]
+#![tactic(auto, using(crate::proofs::Sets::laws))]
 
 pub mod heads;

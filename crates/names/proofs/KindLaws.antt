@@ -1,27 +1,26 @@
 -- Kinds by their numbers; indices; bvN.
 use mathlib.Core.Path.{◌≡◌, refl, sym, ap, subst, ◌∙◌}
-use mathlib.Core.Bool.{Bool, true, false, cond}
+use mathlib.Core.Bool.{Bool, true, false, cond, ◌&&◌, ◌||◌}
 use mathlib.Core.List.{[], ◌∷◌}
-use mathlib.Core.Option.{Option, none, some}
+use Rattle.std.specs.Prelude.{Option, None as none, Some as some}
 use Prim.Native.Nat.{ℕ, zero, suc, ◌+◌, ◌<◌, ◌≤◌}
 use native.Mathlib.Decide.{dec_le}
 use native.Mathlib.Omega.{arith}
-use lib.Dec.{eqb}
+use lib.Dec.{eqb, leb}
 use lib.ListN.{length, drop, get_or}
 use borrow.Author.Tests.{eq-eqb, ne_eqb}
-use Rattle.theory.specs.Kind.{Op, kind}
+use Rattle.theory.specs.Kind.{kind}
 use Rattle.theory.specs.Optional.{is_some}
 use Rattle.theory.specs.Record.{Bytes, Shape, plain, indexed, twice_indexed, valued, shape_of}
-use Rattle.text.specs.Reading.{bind, below, number_end, numeral, Number, a_number, Word, first_word, index, past, bv_value}
+use Rattle.text.specs.Reading.{bind, below, number_end, numeral, a_number, Word, first_word, index, past, bv_value}
 use Rattle.words.specs.declared.tokens.Token.{Token}
 use Rattle.words.specs.declared.tokens.Token.TheVariants as T
-use Rattle.words.specs.declared.numbers.Number.TheVariants as N
-use Rattle.words.specs.declared.numbers.Number as num
 use Rattle.words.specs.Words.{piece, Lexed}
-use Rattle.words.specs.Tables.{told_number}
+use Rattle.words.proofs.ReadLaws.{reads_none, reads_some}
+use Rattle.std.specs.Prelude as rust
 use Rattle.words.proofs.WordLaws.{word_inside}
-use Rattle.names.specs.declared.kinds.Index.{Index}
-use Rattle.names.specs.declared.kinds.Index.TheVariants as I
+use Rattle.names.specs.declared.kinds.Indices.{Indices}
+use Rattle.names.specs.declared.kinds.Indices.TheVariants as F
 use Rattle.names.specs.Kinds.{kind_at, kinds_end, Known, Indexed, family_of}
 use Rattle.names.proofs.MarkLaws.{first_is}
 
@@ -52,121 +51,42 @@ same_kinds = (never, (never, (never, (never, (never, (never, (never, (never, (ne
 pub known : (k x y : ℕ) → k < kinds_end → is_some (shape_of k) ≡ true → Known (record { number = k; x = x; y = y })
 known k x y h e = record { below = h; same = each SameKind 0 59 same_kinds k (omega arith) h e x y }
 
-pub family_1 : (k : ℕ) → 0 ≤ k → k < 10 → 0 ≡ family_of (shape_of k)
-unfolding shape_of
-family_1 k h l = each (λ k. 0 ≡ family_of (shape_of k)) 0 10 (refl, (refl, (refl, (refl, (refl, (refl, (refl, (refl, (refl, (refl, tt)))))))))) k h l
+abbrev family_by_runs : ℕ → rust.Option Indices
+family_by_runs k =
+    cond ((leb 20 k && leb k 25) || eqb k 31 || (leb 40 k && leb k 56)) (rust.Some F.Plain)
+    (cond (eqb k 10 || eqb k 30 || eqb k 58) (rust.Some F.Indexed)
+    (cond (eqb k 11 || eqb k 57) (rust.Some F.TwiceIndexed)
+    (cond (eqb k 12) (rust.Some F.Valued) rust.None)))
 
-pub family_2 : (k : ℕ) → 10 ≤ k → k < 11 → 2 ≡ family_of (shape_of k)
+pub families : (k : ℕ) → k < 59 → family_of (shape_of k) ≡ family_by_runs k
 unfolding shape_of
-family_2 k h l = each (λ k. 2 ≡ family_of (shape_of k)) 10 1 (refl, tt) k h l
-
-pub family_3 : (k : ℕ) → 11 ≤ k → k < 12 → 3 ≡ family_of (shape_of k)
-unfolding shape_of
-family_3 k h l = each (λ k. 3 ≡ family_of (shape_of k)) 11 1 (refl, tt) k h l
-
-pub family_4 : (k : ℕ) → 12 ≤ k → k < 13 → 4 ≡ family_of (shape_of k)
-unfolding shape_of
-family_4 k h l = each (λ k. 4 ≡ family_of (shape_of k)) 12 1 (refl, tt) k h l
-
-pub family_5 : (k : ℕ) → 13 ≤ k → k < 20 → 0 ≡ family_of (shape_of k)
-unfolding shape_of
-family_5 k h l = each (λ k. 0 ≡ family_of (shape_of k)) 13 7 (refl, (refl, (refl, (refl, (refl, (refl, (refl, tt))))))) k h l
-
-pub family_6 : (k : ℕ) → 20 ≤ k → k < 26 → 1 ≡ family_of (shape_of k)
-unfolding shape_of
-family_6 k h l = each (λ k. 1 ≡ family_of (shape_of k)) 20 6 (refl, (refl, (refl, (refl, (refl, (refl, tt)))))) k h l
-
-pub family_7 : (k : ℕ) → 26 ≤ k → k < 30 → 0 ≡ family_of (shape_of k)
-unfolding shape_of
-family_7 k h l = each (λ k. 0 ≡ family_of (shape_of k)) 26 4 (refl, (refl, (refl, (refl, tt)))) k h l
-
-pub family_8 : (k : ℕ) → 30 ≤ k → k < 31 → 2 ≡ family_of (shape_of k)
-unfolding shape_of
-family_8 k h l = each (λ k. 2 ≡ family_of (shape_of k)) 30 1 (refl, tt) k h l
-
-pub family_9 : (k : ℕ) → 31 ≤ k → k < 32 → 1 ≡ family_of (shape_of k)
-unfolding shape_of
-family_9 k h l = each (λ k. 1 ≡ family_of (shape_of k)) 31 1 (refl, tt) k h l
-
-pub family_10 : (k : ℕ) → 32 ≤ k → k < 40 → 0 ≡ family_of (shape_of k)
-unfolding shape_of
-family_10 k h l = each (λ k. 0 ≡ family_of (shape_of k)) 32 8 (refl, (refl, (refl, (refl, (refl, (refl, (refl, (refl, tt)))))))) k h l
-
-pub family_11 : (k : ℕ) → 40 ≤ k → k < 57 → 1 ≡ family_of (shape_of k)
-unfolding shape_of
-family_11 k h l = each (λ k. 1 ≡ family_of (shape_of k)) 40 17 (refl, (refl, (refl, (refl, (refl, (refl, (refl, (refl, (refl, (refl, (refl, (refl, (refl, (refl, (refl, (refl, (refl, tt))))))))))))))))) k h l
-
-pub family_12 : (k : ℕ) → 57 ≤ k → k < 58 → 3 ≡ family_of (shape_of k)
-unfolding shape_of
-family_12 k h l = each (λ k. 3 ≡ family_of (shape_of k)) 57 1 (refl, tt) k h l
-
-pub family_13 : (k : ℕ) → 58 ≤ k → k < 59 → 2 ≡ family_of (shape_of k)
-unfolding shape_of
-family_13 k h l = each (λ k. 2 ≡ family_of (shape_of k)) 58 1 (refl, tt) k h l
+families k h = each (λ k. family_of (shape_of k) ≡ family_by_runs k) 0 59 (refl, (refl, (refl, (refl, (refl, (refl, (refl, (refl, (refl, (refl, (refl, (refl, (refl, (refl, (refl, (refl, (refl, (refl, (refl, (refl, (refl, (refl, (refl, (refl, (refl, (refl, (refl, (refl, (refl, (refl, (refl, (refl, (refl, (refl, (refl, (refl, (refl, (refl, (refl, (refl, (refl, (refl, (refl, (refl, (refl, (refl, (refl, (refl, (refl, (refl, (refl, (refl, (refl, (refl, (refl, (refl, (refl, (refl, (refl, tt))))))))))))))))))))))))))))))))))))))))))))))))))))))))))) k (omega arith) h
 
 -- the shape of a family
-pub family_none : (q : Option Shape) {r : ℕ} → r ≡ family_of q → r ≡ 0 → q ≡ none
+pub family_none : (q : Option Shape) {r : rust.Option Indices} → r ≡ family_of q → rust.is_some r ≡ false → q ≡ none
 family_none none e f = refl
-family_none (some (plain o)) e f = absurd (omega arith)
-family_none (some (indexed o)) e f = absurd (omega arith)
-family_none (some (twice_indexed o)) e f = absurd (omega arith)
-family_none (some (valued o)) e f = absurd (omega arith)
+family_none (some (plain o)) e f = absurd cc
+family_none (some (indexed o)) e f = absurd cc
+family_none (some (twice_indexed o)) e f = absurd cc
+family_none (some (valued o)) e f = absurd cc
 
-pub family_some : (q : Option Shape) {r : ℕ} → r ≡ family_of q → (r ≡ 0 → ⊥) → is_some q ≡ true
-family_some none e f = absurd (f e)
+pub family_some : (q : Option Shape) {r : rust.Option Indices} → r ≡ family_of q → rust.is_some r ≡ true → is_some q ≡ true
+family_some none e f = cc
 family_some (some s) e f = refl
 
-pub family_plain : (q : Option Shape) {r : ℕ} → r ≡ family_of q → r ≡ 1 → (o : Op) × (q ≡ some (plain o))
-family_plain none e f = absurd (omega arith)
-family_plain (some (plain o)) e f = (o, refl)
-family_plain (some (indexed o)) e f = absurd (omega arith)
-family_plain (some (twice_indexed o)) e f = absurd (omega arith)
-family_plain (some (valued o)) e f = absurd (omega arith)
-
-pub family_indexed : (q : Option Shape) {r : ℕ} → r ≡ family_of q → r ≡ 2 → (f : ℕ → Op) × (q ≡ some (indexed f))
-family_indexed none e f = absurd (omega arith)
-family_indexed (some (plain o)) e f = absurd (omega arith)
-family_indexed (some (indexed o)) e f = (o, refl)
-family_indexed (some (twice_indexed o)) e f = absurd (omega arith)
-family_indexed (some (valued o)) e f = absurd (omega arith)
-
-pub family_twice : (q : Option Shape) {r : ℕ} → r ≡ family_of q → r ≡ 3 → (f : ℕ → ℕ → Op) × (q ≡ some (twice_indexed f))
-family_twice none e f = absurd (omega arith)
-family_twice (some (plain o)) e f = absurd (omega arith)
-family_twice (some (indexed o)) e f = absurd (omega arith)
-family_twice (some (twice_indexed o)) e f = (o, refl)
-family_twice (some (valued o)) e f = absurd (omega arith)
-
 -- ---- an index
-pub number_said : {r : num.Number} {q : Option ℕ} {n : ℕ} → told_number r ≡ q → r ≡ N.Is n → q ≡ some n
-number_said e f = sym e ∙ ap told_number f
-
-pub number_bad : {r : num.Number} {q : Option ℕ} → told_number r ≡ q → r ≡ N.Bad → q ≡ none
-number_bad e f = sym e ∙ ap told_number f
-
 after_word : (bs : Bytes) {w : Word} → first_word bs ≡ some w → index bs ≡ bind (below number_end (numeral w.name)) (λ n. some (a_number n w.rest))
 after_word bs e = ap (λ (q : Option Word). bind q (λ w. bind (below number_end (numeral w.name)) (λ n. some (a_number n w.rest)))) e
 
-pub index_said : {line : Bytes} {q : Option Number} {r : Index} {n a : ℕ} → Indexed line q r → r ≡ I.Is n a → (q ≡ some (a_number n (drop a line))) × (a ≤ length line)
-index_said {line} {q} {r} {n} {a} h e = let g : Indexed line q (I.Is n a) = subst (Indexed line q) e h in (sym g.is, g.inside)
+pub index_none : (line : Bytes) (at : ℕ) → first_word (drop at line) ≡ none → Indexed line (index (drop at line)) rust.None
+index_none line at e = reads_none (ap (λ (q : Option Word). bind q (λ w. bind (below number_end (numeral w.name)) (λ n. some (a_number n w.rest)))) e)
 
-pub index_not : {line : Bytes} {q : Option Number} {r : Index} → Indexed line q r → r ≡ I.Bad → q ≡ none
-index_not {line} {q} {r} h e = let g : Indexed line q I.Bad = subst (Indexed line q) e h in sym g.is
+module _ {line : Bytes} {at : ℕ} {r : Token} {s e : ℕ} (l : Lexed line at r) (f : r ≡ T.Word s e) where
+  pub index_bad : below number_end (numeral (piece s e line)) ≡ none → Indexed line (index (drop at line)) rust.None
+  index_bad g = reads_none (after_word (drop at line) (first_is l f) ∙ ap (λ (q : Option ℕ). bind q (λ n. some (a_number n (drop e line)))) g)
 
-pub index_none : (line : Bytes) (at : ℕ) → first_word (drop at line) ≡ none → Indexed line (index (drop at line)) I.Bad
-index_none line at e = record { is = sym (ap (λ (q : Option Word). bind q (λ w. bind (below number_end (numeral w.name)) (λ n. some (a_number n w.rest)))) e); inside = tt }
-
-pub index_bad : {line : Bytes} {at : ℕ} {r : Token} {s e : ℕ} → Lexed line at r → r ≡ T.Word s e → below number_end (numeral (piece s e line)) ≡ none → Indexed line (index (drop at line)) I.Bad
-index_bad {line} {at} {r} {s} {e} l f g = record {
-  is = sym (after_word (drop at line) (first_is l f) ∙ ap (λ (q : Option ℕ). bind q (λ n. some (a_number n (drop e line)))) g);
-  inside = tt;
-}
-
-pub index_is : {line : Bytes} {at : ℕ} {r : Token} {s e n : ℕ} → Lexed line at r → r ≡ T.Word s e → below number_end (numeral (piece s e line)) ≡ some n → Indexed line (index (drop at line)) (I.Is n e)
-index_is {line} {at} {r} {s} {e} {n} l f g = record {
-  is = sym (after_word (drop at line) (first_is l f) ∙ ap (λ (q : Option ℕ). bind q (λ n. some (a_number n (drop e line)))) g);
-  inside = (word_inside l f).last;
-}
+  pub index_is : {n : ℕ} → below number_end (numeral (piece s e line)) ≡ some n → Indexed line (index (drop at line)) (rust.Some (record { number = n; next = e }))
+  index_is g = reads_some (after_word (drop at line) (first_is l f) ∙ ap (λ (q : Option ℕ). bind q (λ n. some (a_number n (drop e line)))) g) (word_inside l f).last
 
 -- ---- the value of bvN
 pub bv_short : (w : Bytes) → length w < 2 → bv_value w ≡ none

@@ -3,3 +3,4 @@ pub mod KindLaws
 pub mod LineLaws
 pub mod SymbolLaws
 pub mod NameLaws
+pub mod Sets

@@ -1,10 +1,11 @@
 -- Tokens that must follow; words.
 use mathlib.Core.Path.{◌≡◌, refl, sym, ap, subst, ◌∙◌}
 use mathlib.Core.Bool.{Bool, true, false, cond}
-use mathlib.Core.Option.{Option, none, some}
-use Prim.Native.Nat.{ℕ, zero, suc, ◌<◌, ◌≤◌}
+use Rattle.std.specs.Prelude.{Option, None as none, Some as some}
+use Rattle.std.specs.Prelude as rust
+use Prim.Native.Nat.{ℕ}
 use native.Mathlib.Omega.{arith}
-use lib.ListN.{length, drop}
+use lib.ListN.{drop}
 use Rattle.theory.specs.Term.{same_numbers}
 use Rattle.theory.specs.Optional.{is_some}
 use Rattle.theory.specs.Record.{Bytes}
@@ -15,42 +16,23 @@ use Rattle.words.specs.declared.tokens.Token.{Token}
 use Rattle.words.specs.declared.tokens.Token.TheVariants as T
 use Rattle.words.specs.Words.{piece, told_token, Lexed}
 use Rattle.words.proofs.WordLaws.{word_inside, word_next}
-use Rattle.names.specs.Marks.{told_passed, Passed}
-
--- ---- the place after a token
-pub passed_not : {line : Bytes} {q : Option Bytes} {r : ℕ} → Passed line q r → r ≡ 0 → q ≡ none
-passed_not {line} {q} {r} h e = let g : Passed line q 0 = subst (Passed line q) e h in sym g.is
-
-pub passed_is : {line : Bytes} {q : Option Bytes} {r : ℕ} → Passed line q r → (r ≡ 0 → ⊥) → q ≡ some (drop r line)
-passed_is {line} {q} {r} h f = go r f h.is
-  where
-    go : (n : ℕ) → (n ≡ 0 → ⊥) → told_passed line n ≡ q → q ≡ some (drop n line)
-    go zero f e = absurd (f refl)
-    go (suc n) f e = sym e
-
-pub passes : {line : Bytes} {q : Option Bytes} (a : ℕ) → 0 < a → a ≤ length line → q ≡ some (drop a line) → Passed line q a
-passes zero h l e = absurd (omega arith)
-passes (suc n) h l e = record { is = sym e; inside = l }
-
-pub passes_not : {line : Bytes} {q : Option Bytes} → q ≡ none → Passed line q 0
-passes_not e = record { is = sym e; inside = omega arith }
+use Rattle.words.proofs.ReadLaws.{reads_none, reads_some}
+use Rattle.names.specs.Marks.{Passed}
 
 after_next : (t : K.Token) (bs : Bytes) {n : Next} → n ≡ next bs → after t bs ≡ cond (same_token n.token t) (some n.rest) none
 unfolding after
 after_next t bs e = ap (λ (x : Next). cond (same_token x.token t) (some x.rest) none) (sym e)
 
 module _ {line : Bytes} {at : ℕ} {r : Token} (l : Lexed line at r) where
-  pub left_is : {a : ℕ} → r ≡ T.Left a → Passed line (after left (drop at line)) a
+  pub left_is : {a : ℕ} → r ≡ T.Left a → Passed line (after left (drop at line)) (rust.Some a)
   left_is {a} e =
       let g : Lexed line at (T.Left a) = subst (Lexed line at) e l in
-      let i = g.inside.0 in
-      passes a (omega arith) g.inside.1 (after_next left (drop at line) g.is)
+      reads_some (after_next left (drop at line) g.is) g.inside.1
 
-  pub right_is : {a : ℕ} → r ≡ T.Right a → Passed line (after right (drop at line)) a
+  pub right_is : {a : ℕ} → r ≡ T.Right a → Passed line (after right (drop at line)) (rust.Some a)
   right_is {a} e =
       let g : Lexed line at (T.Right a) = subst (Lexed line at) e l in
-      let i = g.inside.0 in
-      passes a (omega arith) g.inside.1 (after_next right (drop at line) g.is)
+      reads_some (after_next right (drop at line) g.is) g.inside.1
 
   pub end_is : r ≡ T.End → true ≡ is_some (after end (drop at line))
   end_is e = let g : Lexed line at T.End = subst (Lexed line at) e l in sym (ap is_some (after_next end (drop at line) g.is))
@@ -59,14 +41,11 @@ module _ {line : Bytes} {at : ℕ} {r : Token} (l : Lexed line at r) where
     after_word : after (word w) (drop at line) ≡ cond (same_numbers (piece s e line) w) (some (drop e line)) none
     after_word = after_next (word w) (drop at line) (sym (word_next l f))
 
-    pub word_is : same_numbers (piece s e line) w ≡ true → Passed line (after (word w) (drop at line)) e
-    word_is t =
-        let i = word_inside l f in
-        let j = i.some_byte in
-        passes e (omega arith) i.last (after_word ∙ ap (λ (b : Bool). cond b (some (drop e line)) none) t)
+    pub word_is : same_numbers (piece s e line) w ≡ true → Passed line (after (word w) (drop at line)) (rust.Some e)
+    word_is t = reads_some (after_word ∙ ap (λ (b : Bool). cond b (some (drop e line)) none) t) (word_inside l f).last
 
-    pub word_other : same_numbers (piece s e line) w ≡ false → Passed line (after (word w) (drop at line)) 0
-    word_other t = passes_not (after_word ∙ ap (λ (b : Bool). cond b (some (drop e line)) none) t)
+    pub word_other : same_numbers (piece s e line) w ≡ false → Passed line (after (word w) (drop at line)) rust.None
+    word_other t = reads_none (after_word ∙ ap (λ (b : Bool). cond b (some (drop e line)) none) t)
 
 no_left : (line bs : Bytes) (r : Token) → told_token line r ≡ next bs → ((a : ℕ) → r ≡ T.Left a → ⊥) → after left bs ≡ none
 no_left line bs T.End e k = after_next left bs e
@@ -97,17 +76,17 @@ no_word w line bs (T.Right a) e k = after_next (word w) bs e
 no_word w line bs (T.Word s a) e k = absurd (k s a refl)
 
 module _ {line : Bytes} {at : ℕ} {r : Token} (l : Lexed line at r) where
-  pub left_not : ((a : ℕ) → r ≡ T.Left a → ⊥) → Passed line (after left (drop at line)) 0
-  left_not k = passes_not (no_left line (drop at line) r l.is k)
+  pub left_not : ((a : ℕ) → r ≡ T.Left a → ⊥) → Passed line (after left (drop at line)) rust.None
+  left_not k = reads_none (no_left line (drop at line) r l.is k)
 
-  pub right_not : ((a : ℕ) → r ≡ T.Right a → ⊥) → Passed line (after right (drop at line)) 0
-  right_not k = passes_not (no_right line (drop at line) r l.is k)
+  pub right_not : ((a : ℕ) → r ≡ T.Right a → ⊥) → Passed line (after right (drop at line)) rust.None
+  right_not k = reads_none (no_right line (drop at line) r l.is k)
 
   pub end_not : (r ≡ T.End → ⊥) → false ≡ is_some (after end (drop at line))
   end_not k = sym (ap is_some (no_end line (drop at line) r l.is k))
 
-  pub word_not : (w : Bytes) → ((a b : ℕ) → r ≡ T.Word a b → ⊥) → Passed line (after (word w) (drop at line)) 0
-  word_not w k = passes_not (no_word w line (drop at line) r l.is k)
+  pub word_not : (w : Bytes) → ((a b : ℕ) → r ≡ T.Word a b → ⊥) → Passed line (after (word w) (drop at line)) rust.None
+  word_not w k = reads_none (no_word w line (drop at line) r l.is k)
 
 -- ---- the end of the line
 pub end_some : (q : Option Bytes) {b : Bool} → b ≡ is_some q → b ≡ true → (d : Bytes) × (q ≡ some d)

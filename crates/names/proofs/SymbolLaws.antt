@@ -2,15 +2,15 @@
 use mathlib.Core.Path.{◌≡◌, refl, sym, ap, ◌∙◌}
 use mathlib.Core.Bool.{Bool, true, false, ◌&&◌, ◌||◌, not, cond}
 use mathlib.Core.List.{List, [], ◌∷◌}
-use mathlib.Core.Option.{Option, none, some}
+use Rattle.std.specs.Prelude.{Option, None as none, Some as some}
 use Prim.Native.Nat.{ℕ, suc, ◌+◌, ◌-◌, ◌*◌, ◌<◌, ◌≤◌}
 use native.Mathlib.Omega.{arith}
 use native.Mathlib.Decide.{dec_le}
-use native.Mathlib.Numerals.{add-one}
 use lib.Dec.{leb, ltb}
-use lib.ListN.{length, drop, get_or, drop_of_length-le}
-use lib.Seq.{drop-cons}
+use lib.ListN.{length, get_or}
 use borrow.Author.Tests.{le-leb, lt-leb}
+use Rattle.std.specs.Char.{is_ascii_digit}
+use Rattle.std.specs.List.{list_all}
 use Rattle.theory.specs.Term.{same_numbers}
 use Rattle.theory.specs.Optional.{is_some}
 use Rattle.theory.specs.Record.{Bytes, Shape}
@@ -58,13 +58,6 @@ high_digit d h = rw (lt-leb d 57 h, le-leb 48 d (omega arith)) (go (dec_le 97 d)
     go (no a) b (yes p) (no q) = rw (lt-leb 97 d (omega arith), le-leb 65 d p, lt-leb d 70 (omega arith))
     go (no a) b (no p) q = rw (lt-leb 97 d (omega arith), lt-leb 65 d (omega arith))
 
-at_byte : (w : Bytes) (i : ℕ) → i < length w → drop i w ≡ get_or w i 0 ∷ drop (i + 1) w
-at_byte w i h = drop-cons w i 0 h ∙ ap (λ (j : ℕ). get_or w i 0 ∷ drop j w) (sym (add-one i))
-
-pub record Digits (w : Bytes) (i : ℕ) : Type 0 where
-  pub inside : i ≤ length w
-  pub leads : is_some (numeral w) ≡ all_digits (drop i w)
-
 pub no_digits : (w : Bytes) → length w ≡ 0 → false ≡ is_some (numeral w)
 no_digits [] h = refl
 no_digits (d ∷ ds) h = absurd (omega arith)
@@ -72,71 +65,47 @@ no_digits (d ∷ ds) h = absurd (omega arith)
 pub zero_digits : (w : Bytes) → leading_zero w ≡ true → false ≡ is_some (numeral w)
 zero_digits w e = sym (ap (λ (b : Bool). is_some (cond b none (number_in 10 w))) e)
 
-pub digits_start : (w : Bytes) → (length w ≡ 0 → ⊥) → leading_zero w ≡ false → Digits w 0
-digits_start [] h e = absurd (h refl)
-digits_start (d ∷ ds) h e = record { inside = omega arith; leads = ap (λ (b : Bool). is_some (cond b none (number_in 10 (d ∷ ds)))) e ∙ from_digits 0 (d ∷ ds) }
+same_digits : (ds : Bytes) → list_all is_ascii_digit ds ≡ all_digits ds
+same_digits [] = refl
+same_digits (d ∷ ds) = go (same_digits ds) (dec_le 48 d) (dec_le d 57)
+  where
+    both : (x : Bool) → is_ascii_digit d ≡ x → list_all is_ascii_digit (d ∷ ds) ≡ (x && list_all is_ascii_digit ds)
+    both x e = ap (λ (y : Bool). y && list_all is_ascii_digit ds) e
 
-module _ {w : Bytes} {i : ℕ} (g : Digits w i) where
-  now_digits : i < length w → is_some (numeral w) ≡ (ltb (digit_value (get_or w i 0)) 10 && all_digits (drop (i + 1) w))
-  now_digits h = g.leads ∙ ap all_digits (at_byte w i h)
+    digit_in : (d : ℕ) → 48 ≤ d → d ≤ 57 → is_ascii_digit d ≡ true
+    digit_in d a b = rw (le-leb 48 d a, le-leb d 57 b)
 
-  stop : i < length w → ltb (digit_value (get_or w i 0)) 10 ≡ false → false ≡ is_some (numeral w)
-  stop h e = sym (now_digits h ∙ ap (λ (b : Bool). b && all_digits (drop (i + 1) w)) e)
+    go : list_all is_ascii_digit ds ≡ all_digits ds → Dec (48 ≤ d) → Dec (d ≤ 57) → list_all is_ascii_digit (d ∷ ds) ≡ all_digits (d ∷ ds)
+    go ih (yes a) (yes b) = both true (digit_in d a b) ∙ ih ∙ sym (ap (λ (x : Bool). x && all_digits ds) (digit d a b))
+    go ih (yes a) (no b) = both false (rw (le-leb 48 d a, lt-leb d 57 (omega arith))) ∙ sym (ap (λ (x : Bool). x && all_digits ds) (high_digit d (omega arith)))
+    go ih (no a) q = both false (rw (lt-leb 48 d (omega arith))) ∙ sym (ap (λ (x : Bool). x && all_digits ds) (low_digit d (omega arith)))
 
-  pub digits_low : i < length w → get_or w i 0 < 48 → false ≡ is_some (numeral w)
-  digits_low h l = stop h (low_digit (get_or w i 0) l)
-
-  pub digits_high : i < length w → 57 < get_or w i 0 → false ≡ is_some (numeral w)
-  digits_high h l = stop h (high_digit (get_or w i 0) l)
-
-  pub digits_turn : i < length w → 48 ≤ get_or w i 0 → get_or w i 0 ≤ 57 → Digits w (i + 1)
-  digits_turn h l m = record {
-    inside = omega arith;
-    leads = now_digits h ∙ ap (λ (b : Bool). b && all_digits (drop (i + 1) w)) (digit (get_or w i 0) l m);
-  }
-
-  pub digits_end : length w ≤ i → true ≡ is_some (numeral w)
-  digits_end h = sym (g.leads ∙ ap all_digits (drop_of_length-le w {i = i} h))
+pub digits_end : (w : Bytes) → (length w ≡ 0 → ⊥) → leading_zero w ≡ false → list_all is_ascii_digit w ≡ is_some (numeral w)
+digits_end [] h e = absurd (h refl)
+digits_end (d ∷ ds) h e = same_digits (d ∷ ds) ∙ sym (ap (λ (b : Bool). is_some (cond b none (number_in 10 (d ∷ ds)))) e ∙ from_digits 0 (d ∷ ds))
 
 -- ---- symbols
-pub record Symbols (w : Bytes) (i : ℕ) : Type 0 where
-  pub inside : i ≤ length w
-  pub leads : is_symbol w ≡ all_symbol (drop i w)
-
 pub symbol_none : (w : Bytes) → length w ≡ 0 → false ≡ is_symbol w
 unfolding is_symbol
 symbol_none [] h = refl
 symbol_none (b ∷ bs) h = absurd (omega arith)
 
-pub symbol_digit : (w : Bytes) → (length w ≡ 0 → ⊥) → 48 ≤ get_or w 0 0 → get_or w 0 0 ≤ 57 → false ≡ is_symbol w
+pub symbol_digit : (w : Bytes) → (length w ≡ 0 → ⊥) → is_ascii_digit (get_or w 0 0) ≡ true → false ≡ is_symbol w
 unfolding is_symbol
-symbol_digit [] f h l = absurd (f refl)
-symbol_digit (b ∷ bs) f h l = sym (rw (le-leb 48 b h, le-leb b 57 l))
+symbol_digit [] f h = absurd (f refl)
+symbol_digit (b ∷ bs) f h = sym (rw h)
 
 starts : (b : ℕ) (bs : Bytes) → not (leb 48 b && leb b 57) ≡ true → is_symbol (b ∷ bs) ≡ all_symbol (b ∷ bs)
 unfolding is_symbol
 starts b bs e = ap (λ (c : Bool). c && all_symbol (b ∷ bs)) e
 
-pub symbol_low : (w : Bytes) → (length w ≡ 0 → ⊥) → get_or w 0 0 < 48 → Symbols w 0
-symbol_low [] f h = absurd (f refl)
-symbol_low (b ∷ bs) f h = record { inside = omega arith; leads = starts b bs (rw (lt-leb 48 b h)) }
+same_symbols : (bs : Bytes) → list_all in_symbol bs ≡ all_symbol bs
+same_symbols [] = refl
+same_symbols (b ∷ bs) = ap (λ (x : Bool). in_symbol b && x) (same_symbols bs)
 
-pub symbol_high : (w : Bytes) → (length w ≡ 0 → ⊥) → 48 ≤ get_or w 0 0 → 57 < get_or w 0 0 → Symbols w 0
-symbol_high [] f h l = absurd (f refl)
-symbol_high (b ∷ bs) f h l = record { inside = omega arith; leads = starts b bs (rw (le-leb 48 b h, lt-leb b 57 l)) }
-
-module _ {w : Bytes} {i : ℕ} (g : Symbols w i) where
-  now_symbols : i < length w → is_symbol w ≡ (in_symbol (get_or w i 0) && all_symbol (drop (i + 1) w))
-  now_symbols h = g.leads ∙ ap all_symbol (at_byte w i h)
-
-  pub symbols_stop : i < length w → in_symbol (get_or w i 0) ≡ false → false ≡ is_symbol w
-  symbols_stop h e = sym (now_symbols h ∙ ap (λ (b : Bool). b && all_symbol (drop (i + 1) w)) e)
-
-  pub symbols_turn : i < length w → in_symbol (get_or w i 0) ≡ true → Symbols w (i + 1)
-  symbols_turn h e = record { inside = omega arith; leads = now_symbols h ∙ ap (λ (b : Bool). b && all_symbol (drop (i + 1) w)) e }
-
-  pub symbols_end : length w ≤ i → true ≡ is_symbol w
-  symbols_end h = sym (g.leads ∙ ap all_symbol (drop_of_length-le w {i = i} h))
+pub symbol_all : (w : Bytes) → (length w ≡ 0 → ⊥) → is_ascii_digit (get_or w 0 0) ≡ false → list_all in_symbol w ≡ is_symbol w
+symbol_all [] f h = absurd (f refl)
+symbol_all (b ∷ bs) f h = same_symbols (b ∷ bs) ∙ sym (starts b bs (rw h))
 
 -- ---- names that terms are spelled with
 some_named : {A : Type 0} (w : Bytes) (rs : List (Spelled A)) → is_named w rs ≡ is_some (named w rs)

@@ -1,13 +1,10 @@
 -- A token that must follow, as the code says it.
-use Rattle.std.specs.Prelude.{◌≡◌, ℕ, zero, suc, ◌≤◌, length, drop}
-use Rattle.std.proofs.Math.Option.{Option, none, some}
+use Rattle.std.specs.Prelude.{ℕ, ◌≤◌, length, drop}
+use Rattle.std.specs.Prelude as rust
+use Rattle.std.specs.Prelude.{Option}
 use Rattle.theory.specs.Record.{Bytes}
+use Rattle.words.specs.Tables.{Reads}
 
--- the place after it; 0 where another one is next
-abbrev pub told_passed : Bytes → ℕ → Option Bytes
-told_passed line zero = none
-told_passed line (suc n) = some (drop (suc n) line)
-
-pub record Passed (line : Bytes) (expected : Option Bytes) (r : ℕ) : Type 0 where
-  pub is : told_passed line r ≡ expected
-  pub inside : r ≤ length line
+-- the place after it
+abbrev pub Passed : Bytes → Option Bytes → rust.Option ℕ → Type 0
+Passed line expected r = Reads (λ a. drop a line) (λ a. a ≤ length line) expected r

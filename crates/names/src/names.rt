@@ -5,7 +5,7 @@ ghost use Rattle.text.specs.Claim.{declared_by};
 ghost use Rattle.names.specs.Kinds.{declared_in, Made, op_of, Known};
 ghost use Rattle.names.specs.Names.{Sorts, Declares, Varies};
 
-use crate::kinds::{Atom, Index, Kind, read_index};
+use crate::kinds::{Kind, read_index};
 use crate::lines::{line_after, line_end};
 use crate::marks::{at_end, left_after, right_after, word_after};
 use crate::symbols::{is_symbol, reserved};
@@ -16,108 +16,89 @@ const BOOL_VARIABLE: u32 = 10;
 
 const VECTOR_VARIABLE: u32 = 11;
 
-// A sort: whether it is one of vectors, their width (0 for Bool), and the place after it.
+// A sort: the width of a vector, none for Bool, and the place after it.
 #[derive(Clone, Copy)]
-pub enum Sort {
-    Bad,
-    Is(bool, u64, usize),
+pub struct Sort {
+    pub width: Option<u64>,
+    pub next: usize,
 }
 
-// What a line declares: where the name starts and ends, and its sort.
+// What a line declares: where the name starts and ends, and the width of a vector.
 #[derive(Clone, Copy)]
-pub enum Declaration {
-    Bad,
-    Is(usize, usize, bool, u64),
+pub struct Declaration {
+    pub start: usize,
+    pub end: usize,
+    pub width: Option<u64>,
 }
 
 // The sort at `at`: Bool, or (_ BitVec n).
-#[tactic(auto, using(crate::proofs::MarkLaws::passed_is, crate::proofs::MarkLaws::passed_not, crate::proofs::KindLaws::index_said, crate::proofs::KindLaws::index_not, crate::proofs::NameLaws::sort_bad, crate::proofs::NameLaws::sort_bool, crate::proofs::NameLaws::sort_1, crate::proofs::NameLaws::sort_2, crate::proofs::NameLaws::sort_3, crate::proofs::NameLaws::sort_4, crate::proofs::NameLaws::sort_5))]
-fn read_sort(line: &[u8], at: usize) -> Sort
+#[tactic(auto, using(crate::proofs::Sets::laws), unfolding(text::specs::Reading::sort_in))]
+fn read_sort(line: &[u8], at: usize) -> Option<Sort>
     requires { at ≤ length line.now }
     ensures { Sorts line.now (sort_in (drop at line.now)) result }
 {
-    let f = word_after(line, at, b"Bool");
-    if f != 0 {
-        return Sort::Is(false, 0, f);
+    if let Some(next) = word_after(line, at, b"Bool") {
+        return Some(Sort { width: None, next });
     }
-    let a = left_after(line, at);
-    if a == 0 {
-        return Sort::Bad;
-    }
-    let b = word_after(line, a, b"_");
-    if b == 0 {
-        return Sort::Bad;
-    }
-    let c = word_after(line, b, b"BitVec");
-    if c == 0 {
-        return Sort::Bad;
-    }
-    let Index::Is(width, d) = read_index(line, c) else {
-        return Sort::Bad;
-    };
-    let e = right_after(line, d);
-    if e == 0 {
-        return Sort::Bad;
-    }
-    Sort::Is(true, width, e)
+    let a = left_after(line, at)?;
+    let b = word_after(line, a, b"_")?;
+    let c = word_after(line, b, b"BitVec")?;
+    let index = read_index(line, c)?;
+    let next = right_after(line, index.next)?;
+    Some(Sort {
+        width: Some(index.number),
+        next,
+    })
 }
 
 // What a line declares.
-#[tactic(auto, using(words::proofs::WordLaws::word_inside, crate::proofs::MarkLaws::passed_is, crate::proofs::MarkLaws::passed_not, crate::proofs::MarkLaws::first_is, crate::proofs::MarkLaws::first_none, crate::proofs::MarkLaws::end_some, crate::proofs::MarkLaws::end_none, crate::proofs::NameLaws::sort_said, crate::proofs::NameLaws::sort_not, crate::proofs::NameLaws::declared_bad, crate::proofs::NameLaws::declares, crate::proofs::NameLaws::declared_1, crate::proofs::NameLaws::declared_2, crate::proofs::NameLaws::declared_3, crate::proofs::NameLaws::declared_4, crate::proofs::NameLaws::declared_5, crate::proofs::NameLaws::declared_6, crate::proofs::NameLaws::declared_7, crate::proofs::NameLaws::declared_8))]
-pub fn declared_by(line: &[u8]) -> Declaration
+pub fn declared_by(line: &[u8]) -> Option<Declaration>
     ensures { Declares line.now (declared_by line.now) result }
 {
-    let a = left_after(line, 0);
-    if a == 0 {
-        return Declaration::Bad;
-    }
-    let b = word_after(line, a, b"declare-const");
-    if b == 0 {
-        return Declaration::Bad;
-    }
-    let Token::Word(s, e) = next_token(line, b) else {
-        return Declaration::Bad;
+    let a = left_after(line, 0)?;
+    let b = word_after(line, a, b"declare-const")?;
+    let Token::Word(start, end) = next_token(line, b) else {
+        return None;
     };
-    let Sort::Is(vector, width, next) = read_sort(line, e) else {
-        return Declaration::Bad;
-    };
-    let f = right_after(line, next);
-    if f == 0 {
-        return Declaration::Bad;
+    let sort = read_sort(line, end)?;
+    let last = right_after(line, sort.next)?;
+    if !at_end(line, last) {
+        return None;
     }
-    if !at_end(line, f) {
-        return Declaration::Bad;
+    let name = &line[start..end];
+    if !is_symbol(name) {
+        return None;
     }
-    if !is_symbol(&line[s..e]) {
-        return Declaration::Bad;
+    if reserved(name) {
+        return None;
     }
-    if reserved(&line[s..e]) {
-        return Declaration::Bad;
-    }
-    Declaration::Is(s, e, vector, width)
+    Some(Declaration {
+        start,
+        end,
+        width: sort.width,
+    })
 }
 
 // The kind of variable k.
-pub fn variable(k: u64, vector: bool, width: u64) -> Kind
-    ensures { Varies k vector width result }
+pub fn variable(k: u64, width: Option<u64>) -> Kind
+    ensures { Varies k width result }
 {
-    if vector {
-        return Kind {
+    match width {
+        Some(n) => Kind {
             number: VECTOR_VARIABLE,
-            x: width,
+            x: n,
             y: k,
-        };
-    }
-    Kind {
-        number: BOOL_VARIABLE,
-        x: k,
-        y: 0,
+        },
+        None => Kind {
+            number: BOOL_VARIABLE,
+            x: k,
+            y: 0,
+        },
     }
 }
 
 // The variable of a name among those that `declarations` declare.
-#[tactic(auto, using(crate::proofs::LineLaws::further, crate::proofs::NameLaws::declared_said, crate::proofs::NameLaws::declared_not, crate::proofs::NameLaws::naming_start, crate::proofs::NameLaws::naming_end, crate::proofs::NameLaws::naming_skip, crate::proofs::NameLaws::naming_found, crate::proofs::NameLaws::naming_on, crate::proofs::NameLaws::made_variable, crate::proofs::NameLaws::made_bad))]
-pub fn find_name(declarations: &[u8], word: &[u8]) -> Atom
+pub fn find_name(declarations: &[u8], word: &[u8]) -> Option<Kind>
     ensures { Made (find_name 0 word.now (declared_in declarations.now)) result }
 {
     let mut at: usize = 0;
@@ -127,13 +108,13 @@ pub fn find_name(declarations: &[u8], word: &[u8]) -> Atom
         let end = line_end(declarations, start);
         at = line_after(declarations, end);
         let line = &declarations[start..end];
-        let Declaration::Is(s, e, vector, width) = declared_by(line) else {
+        let Some(d) = declared_by(line) else {
             continue;
         };
-        if same(word, &line[s..e]) {
-            return Atom::Is(variable(k, vector, width));
+        if same(word, &line[d.start..d.end]) {
+            return Some(variable(k, d.width));
         }
         k += 1;
     }
-    Atom::Bad
+    None
 }

@@ -1,9 +1,10 @@
 -- A term whose arguments are put.
-use mathlib.Core.Path.{◌≡◌, refl, sym, ap, ◌∙◌}
+use mathlib.Core.Path.{◌≡◌, refl, ap, ◌∙◌}
 use mathlib.Core.Bool.{Bool, true, false, cond}
 use mathlib.Core.Logic.{◌⊎◌, inl, inr}
 use mathlib.Core.List.{List, [], ◌∷◌}
-use mathlib.Core.Option.{Option, none, some}
+use Rattle.std.specs.Prelude as rust
+use Rattle.std.specs.Prelude.{Option, None as none, Some as some}
 use Prim.Native.Nat.{ℕ, suc, ◌<◌, ◌≤◌}
 use native.Mathlib.Omega.{arith}
 use lib.ListN.{length, take, drop}
@@ -17,8 +18,9 @@ use Rattle.text.specs.Reading.{bind, number_end}
 use Rattle.text.specs.Writing.{Placed, placed, placed_all, put_term}
 use Rattle.text.proofs.Placed.{low}
 use Rattle.writer.specs.declared.places.Spot.{Spot}
-use Rattle.reader.specs.declared.reading.Read.TheVariants.{Term}
-use Rattle.writer.specs.Places.{so_far, Moved}
+use Rattle.writer.specs.declared.places.Put.{Put}
+use Rattle.writer.specs.Places.{so_far, Puts}
+use Rattle.words.proofs.ReadLaws.{read_some, reads_some}
 use Rattle.reader.specs.Reader.{Got, got, got_all, leaf_write, finish, Reads}
 
 -- `true` and `false` take no arguments, so none that is too large
@@ -56,9 +58,17 @@ module _ (room : ℕ) (o : Op) (ks : List ℕ) (rest job : Bytes) where
   unfolding leaf_write
   leaf_put e = rw e
 
-pub reads_term : {line old new work : Bytes} {from s : Spot} {q : Option Got} {a k : ℕ} → q ≡ some (got k (drop a line) (so_far new s)) → a ≤ length line → Moved old new work from s
-    → Reads line old new work from q (Term a k s)
-reads_term e l m = record { is = sym e; moved = (l, m) }
-
 pub count_is : (numbers : List ℕ) (count : ℕ) → count ≤ length numbers → length (take count numbers) ≡ count
 count_is numbers count h = length-take-le count numbers h
+
+-- what was put, with what is left of the line
+module _ {line old new work : Bytes} {from : Spot} {next : ℕ} (h : next ≤ length line) (o : Op) where
+  pub finish_reads : (ks : List ℕ) {r : rust.Option Put} {p : Put} → takes (arity o) (length ks) ≡ true
+      → Puts old new work from (put_term (length old) o (placed_all ks (so_far old from))) r → r ≡ rust.Some p
+      → Reads line old new work from (finish (length old) o (got_all ks (drop next line) (so_far old from))) (rust.Some (record { next = next; number = p.number; spot = p.spot }))
+  finish_reads ks {r} {p} t g e = reads_some (finish_put (length old) o ks (drop next line) (so_far old from) t (read_some g e)) (h, g.fits p e)
+
+  pub leaf_reads : {r : rust.Option Put} {p : Put}
+      → Puts old new work from (put_term (length old) o (placed_all [] (so_far old from))) r → r ≡ rust.Some p
+      → Reads line old new work from (leaf_write (length old) o (drop next line) (so_far old from)) (rust.Some (record { next = next; number = p.number; spot = p.spot }))
+  leaf_reads {r} {p} g e = reads_some (leaf_put (length old) o [] (drop next line) (so_far old from) (read_some g e)) (h, g.fits p e)

@@ -3,3 +3,4 @@ pub mod LoopLaws
 pub mod FinishLaws
 pub mod TermLaws
 pub mod SpanLaws
+pub mod Sets

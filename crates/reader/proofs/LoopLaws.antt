@@ -2,7 +2,9 @@
 use mathlib.Core.Path.{◌≡◌, refl, sym, ap, subst, ◌∙◌}
 use mathlib.Core.Bool.{Bool, true, false, ◌&&◌, cond}
 use mathlib.Core.List.{List, [], ◌∷◌, ◌++◌, append_assoc, append-nil}
-use mathlib.Core.Option.{Option, none, some}
+use Rattle.std.specs.Prelude as rust
+use Rattle.std.specs.Prelude.{Option, None as none, Some as some, Result, Ok, Err}
+use Rattle.std.specs.Result.{OkIff, result_ok}
 use Prim.Native.Nat.{ℕ, suc, ◌+◌, ◌-◌, ◌<◌, ◌≤◌}
 use native.Mathlib.Omega.{arith}
 use native.Mathlib.Numerals.{add-one}
@@ -18,29 +20,16 @@ use Rattle.rows.proofs.RowLaws.{and_first, and_second}
 use Rattle.text.specs.Reading.{bind, number_end, Declared}
 use Rattle.writer.specs.declared.places.Spot.{Spot}
 use Rattle.reader.specs.declared.reading.Read.{Read}
-use Rattle.reader.specs.declared.reading.Read.TheVariants.{Bad, Term}
-use Rattle.reader.specs.declared.reading.Close.{Close}
-use Rattle.reader.specs.declared.reading.Close.TheVariants.{Not, After}
 use Rattle.writer.specs.Places.{so_far, Ready, Moved}
-use Rattle.reader.specs.Reader.{Got, got, GotAll, got_all, read_write, read_write_all, fitting, before, Reads, Lists, Closed}
+use Rattle.reader.specs.Reader.{Got, got, GotAll, got_all, read_write, read_write_all, fitting, before, Reads, Lists}
+use Rattle.words.proofs.ReadLaws.{read_none, read_some, reads_some}
 use Rattle.writer.proofs.Moves.{moved_none, moved_on}
 use Rattle.reader.proofs.ReaderLaws.{none_more, too_many, one_more}
 
--- ---- what a callee said
-pub read_said : {line old new work : Bytes} {from : Spot} {q : Option Got} {r : Read} {a k : ℕ} {s : Spot} → Reads line old new work from q r → r ≡ Term a k s
-    → (q ≡ some (got k (drop a line) (so_far new s))) × (a ≤ length line) × Moved old new work from s
-read_said {line} {old} {new} {work} {from} {q} {r} {a} {k} {s} h e =
-    let g : Reads line old new work from q (Term a k s) = subst (Reads line old new work from q) e h in
-    (sym g.is, g.moved.0, g.moved.1)
-
-pub read_bad : {line old new work : Bytes} {from : Spot} {q : Option Got} {r : Read} → Reads line old new work from q r → r ≡ Bad → q ≡ none
-read_bad {line} {old} {new} {work} {from} {q} {r} h e = let g : Reads line old new work from q Bad = subst (Reads line old new work from q) e h in sym g.is
-
-pub close_said : {line : Bytes} {q : Option Bytes} {r : Close} {a : ℕ} → Closed line q r → r ≡ After a → (q ≡ some (drop a line)) × (a ≤ length line)
-close_said {line} {q} {r} {a} h e = let g : Closed line q (After a) = subst (Closed line q) e h in (sym g.is, g.inside)
-
-pub close_not : {line : Bytes} {q : Option Bytes} {r : Close} → Closed line q r → r ≡ Not → q ≡ none
-close_not {line} {q} {r} h e = let g : Closed line q Not = subst (Closed line q) e h in sym g.is
+-- ---- a number that has more than two bytes
+pub not_two_bytes : {E P : Type 0} (k : ℕ) (r : Result ℕ E) {q : Option ℕ} → OkIff r P k → q ≡ result_ok r → q ≡ none → P → ⊥
+not_two_bytes k (Ok x) h e f p = absurd cc
+not_two_bytes k (Err x) h e f p = h p
 
 -- ---- the loop
 before_nothing : (q : Option GotAll) → before [] q ≡ q
@@ -101,86 +90,81 @@ module _ {line old out work₀ work : Bytes} {from : Spot} {vars : List Declared
   whole = read_write_all n vars (length old) max_arguments (drop at line) (so_far old from)
 
   -- one more argument is read
-  next_leads : {out' work' : Bytes} {r : Read} {a k : ℕ} {t : Spot} → after right (drop next line) ≡ none → ((count ≡ max_arguments) → ⊥)
-      → Reads line out out' work' s (read_write n vars (length out) (drop next line) (so_far out s)) r → r ≡ Term a k t
-      → whole ≡ before (take count numbers ++ (k ∷ [])) (read_write_all n vars (length old) (max_arguments - (count + 1)) (drop a line) (so_far out' t))
-  next_leads {out'} {work'} {r} {a} {k} {t} c f h e =
-      let said = read_said h e in
-      let few = g.few in
+  next_leads : {out' work' : Bytes} {r : rust.Option Read} {t : Read} → after right (drop next line) ≡ none → count < max_arguments
+      → Reads line out out' work' s (read_write n vars (length out) (drop next line) (so_far out s)) r → r ≡ rust.Some t
+      → whole ≡ before (take count numbers ++ (t.number ∷ [])) (read_write_all n vars (length old) (max_arguments - (count + 1)) (drop t.next line) (so_far out' t.spot))
+  next_leads {out'} {work'} {r} {t} c f h e =
       let m : max_arguments - count ≡ suc (max_arguments - (count + 1)) = omega arith in
-      let q : read_write n vars (length old) (drop next line) (so_far out s) ≡ some (got k (drop a line) (so_far out' t))
-      = ap (λ (z : ℕ). read_write n vars z (drop next line) (so_far out s)) (sym g.same_out) ∙ said.0 in
+      let q : read_write n vars (length old) (drop next line) (so_far out s) ≡ some (got t.number (drop t.next line) (so_far out' t.spot))
+      = ap (λ (z : ℕ). read_write n vars z (drop next line) (so_far out s)) (sym g.same_out) ∙ read_some h e in
       g.leads
       ∙ ap (λ (z : ℕ). before (take count numbers) (read_write_all n vars (length old) z (drop next line) (so_far out s))) m
       ∙ ap (before (take count numbers)) (one_more vars (length old) n (max_arguments - (count + 1)) (drop next line) (so_far out s) c)
       ∙ ap (λ (z : Option Got). before (take count numbers) (bind z (λ x. before (x.number ∷ []) (read_write_all n vars (length old) (max_arguments - (count + 1)) x.rest x.job)))) q
-      ∙ before_before (take count numbers) k (read_write_all n vars (length old) (max_arguments - (count + 1)) (drop a line) (so_far out' t))
+      ∙ before_before (take count numbers) t.number (read_write_all n vars (length old) (max_arguments - (count + 1)) (drop t.next line) (so_far out' t.spot))
 
-  one_longer : ((count ≡ max_arguments) → ⊥) → (k : ℕ) → take (count + 1) (set numbers count k) ≡ take count numbers ++ (k ∷ [])
+  one_longer : count < max_arguments → (k : ℕ) → take (count + 1) (set numbers count k) ≡ take count numbers ++ (k ∷ [])
   one_longer f k =
-      let few = g.few in
       let long = g.long in
       ap (λ (j : ℕ). take j (set numbers count k)) (add-one count) ∙ take-suc-set numbers count k (omega arith)
 
   -- its number fits
-  pub goes_on : {out' work' : Bytes} {r : Read} {a k : ℕ} {t : Spot} → after right (drop next line) ≡ none → ((count ≡ max_arguments) → ⊥)
-      → Reads line out out' work' s (read_write n vars (length out) (drop next line) (so_far out s)) r → r ≡ Term a k t → k < number_end
+  pub goes_on : {out' work' : Bytes} {r : rust.Option Read} {t : Read} → after right (drop next line) ≡ none → count < max_arguments
+      → Reads line out out' work' s (read_write n vars (length out) (drop next line) (so_far out s)) r → r ≡ rust.Some t → {k : ℕ} → (t.number < number_end) × (k ≡ t.number)
       → length out' ≡ length out → length work' ≡ length work
-      → Going line old out' work₀ work' from vars n at (set numbers count k) (count + 1) a t
-  goes_on {out'} {work'} {r} {a} {k} {t} c f h e b lo lw =
-      let said = read_said h e in
-      let few = g.few in
+      → Going line old out' work₀ work' from vars n at (set numbers count k) (count + 1) t.next t.spot
+  goes_on {out'} {work'} {r} {t} c f h e {k} b lo lw =
+      let fits = h.fits t e in
       let long = g.long in
       let so = g.same_out in
       let sw = g.same_work in
       record {
         few = omega arith;
         long = length-set numbers count k ∙ long;
-        inside = said.1;
+        inside = fits.0;
         same_out = lo ∙ so;
         same_work = lw ∙ sw;
-        moved = moved_on g.moved said.2;
-        fit = ap (all_below number_end) (one_longer f k) ∙ below_snoc (take count numbers) k g.fit b;
+        moved = moved_on g.moved fits.1;
+        fit = ap (all_below number_end) longer ∙ below_snoc (take count numbers) t.number g.fit b.0;
         leads = next_leads c f h e
-            ∙ ap (λ (l : List ℕ). before l (read_write_all n vars (length old) (max_arguments - (count + 1)) (drop a line) (so_far out' t))) (sym (one_longer f k));
+            ∙ ap (λ (l : List ℕ). before l (read_write_all n vars (length old) (max_arguments - (count + 1)) (drop t.next line) (so_far out' t.spot))) (sym longer);
       }
+    where
+      longer : take (count + 1) (set numbers count k) ≡ take count numbers ++ (t.number ∷ [])
+      longer = one_longer f k ∙ ap (λ (j : ℕ). take count numbers ++ (j ∷ [])) b.1
 
   -- it does not fit
-  pub goes_large : {out' work' : Bytes} {r : Read} {a k : ℕ} {t : Spot} → after right (drop next line) ≡ none → ((count ≡ max_arguments) → ⊥)
-      → Reads line out out' work' s (read_write n vars (length out) (drop next line) (so_far out s)) r → r ≡ Term a k t → number_end ≤ k → fitting whole ≡ none
-  goes_large {out'} {work'} {r} {a} {k} {t} c f h e b =
-      ap fitting (next_leads c f h e) ∙ never_fits (take count numbers) k (read_write_all n vars (length old) (max_arguments - (count + 1)) (drop a line) (so_far out' t)) b
+  pub goes_large : {out' work' : Bytes} {r : rust.Option Read} {t : Read} → after right (drop next line) ≡ none → count < max_arguments
+      → Reads line out out' work' s (read_write n vars (length out) (drop next line) (so_far out s)) r → r ≡ rust.Some t → number_end ≤ t.number → fitting whole ≡ none
+  goes_large {out'} {work'} {r} {t} c f h e b =
+      ap fitting (next_leads c f h e) ∙ never_fits (take count numbers) t.number (read_write_all n vars (length old) (max_arguments - (count + 1)) (drop t.next line) (so_far out' t.spot)) b
 
   -- no more arguments
-  pub goes_out : {a : ℕ} → after right (drop next line) ≡ some (drop a line) → a ≤ length line
-      → Lists line old out work from (fitting whole) (record { ok = true; next = a; count = count; numbers = numbers; spot = s })
-  goes_out {a} c h = record {
-    is = sym (ap fitting (g.leads ∙ ap (before (take count numbers)) (none_more vars (length old) n (max_arguments - count) (drop next line) (so_far out s) (drop a line) c)
-        ∙ ap (λ (l : List ℕ). some (got_all l (drop a line) (so_far out s))) (append-nil (take count numbers)))
-        ∙ ap (λ (b : Bool). cond b (some (got_all (take count numbers) (drop a line) (so_far out s))) none) g.fit);
-    moved = (g.few, g.fit, h, g.moved);
-  }
+  pub goes_out : {a m : ℕ} → after right (drop next line) ≡ some (drop a line) → a ≤ length line → count ≡ m
+      → Lists line old out work from (fitting whole) (rust.Some (record { next = a; count = m; numbers = numbers; spot = s }))
+  goes_out {a} c h e = subst (λ (m : ℕ). Lists line old out work from (fitting whole) (rust.Some (record { next = a; count = m; numbers = numbers; spot = s }))) e
+      (reads_some
+      (ap fitting (g.leads ∙ ap (before (take count numbers)) (none_more vars (length old) n (max_arguments - count) (drop next line) (so_far out s) (drop a line) c)
+      ∙ ap (λ (l : List ℕ). some (got_all l (drop a line) (so_far out s))) (append-nil (take count numbers)))
+      ∙ ap (λ (b : Bool). cond b (some (got_all (take count numbers) (drop a line) (so_far out s))) none) g.fit)
+      (g.few, h, g.moved))
 
   -- too many
-  pub goes_over : after right (drop next line) ≡ none → count ≡ max_arguments → whole ≡ none
+  pub goes_over : after right (drop next line) ≡ none → count ≡ max_arguments → fitting whole ≡ none
   goes_over c e =
       let m : max_arguments - count ≡ 0 = omega arith in
-      g.leads ∙ ap (λ (z : ℕ). before (take count numbers) (read_write_all n vars (length old) z (drop next line) (so_far out s))) m
-      ∙ ap (before (take count numbers)) (too_many vars (length old) n (drop next line) (so_far out s) c)
+      ap fitting
+      (g.leads ∙ ap (λ (z : ℕ). before (take count numbers) (read_write_all n vars (length old) z (drop next line) (so_far out s))) m
+      ∙ ap (before (take count numbers)) (too_many vars (length old) n (drop next line) (so_far out s) c))
 
   -- one that is refused
-  pub goes_bad : {out' work' : Bytes} {r : Read} → after right (drop next line) ≡ none → ((count ≡ max_arguments) → ⊥)
-      → Reads line out out' work' s (read_write n vars (length out) (drop next line) (so_far out s)) r → r ≡ Bad → whole ≡ none
+  pub goes_bad : {out' work' : Bytes} {r : rust.Option Read} → after right (drop next line) ≡ none → count < max_arguments
+      → Reads line out out' work' s (read_write n vars (length out) (drop next line) (so_far out s)) r → r ≡ rust.None → fitting whole ≡ none
   goes_bad {out'} {work'} {r} c f h e =
-      let few = g.few in
       let m : max_arguments - count ≡ suc (max_arguments - (count + 1)) = omega arith in
-      g.leads
+      ap fitting
+      (g.leads
       ∙ ap (λ (z : ℕ). before (take count numbers) (read_write_all n vars (length old) z (drop next line) (so_far out s))) m
       ∙ ap (before (take count numbers)) (one_more vars (length old) n (max_arguments - (count + 1)) (drop next line) (so_far out s) c)
       ∙ ap (λ (z : Option Got). before (take count numbers) (bind z (λ x. before (x.number ∷ []) (read_write_all n vars (length old) (max_arguments - (count + 1)) x.rest x.job))))
-      (ap (λ (z : ℕ). read_write n vars z (drop next line) (so_far out s)) (sym g.same_out) ∙ read_bad h e)
-
--- a refusal
-pub refused : {line old new work : Bytes} {from : Spot} {q : Option GotAll} {a b : ℕ} {ks : List ℕ} {s : Spot} → q ≡ none
-    → Lists line old new work from q (record { ok = false; next = a; count = b; numbers = ks; spot = s })
-refused e = record { is = sym e; moved = tt }
+      (ap (λ (z : ℕ). read_write n vars z (drop next line) (so_far out s)) (sym g.same_out) ∙ read_none h e))

@@ -1,8 +1,9 @@
 -- A term, by how it begins.
-use mathlib.Core.Path.{◌≡◌, refl, sym, ap, subst, ◌∙◌}
+use mathlib.Core.Path.{◌≡◌, refl, sym, ap, ◌∙◌}
 use mathlib.Core.Bool.{Bool, true, false, cond}
 use mathlib.Core.List.{List}
-use mathlib.Core.Option.{Option, none, some}
+use Rattle.std.specs.Prelude as rust
+use Rattle.std.specs.Prelude.{Option, None as none, Some as some}
 use Prim.Native.Nat.{ℕ, suc, ◌-◌, ◌≤◌}
 use native.Mathlib.Omega.{arith}
 use native.Mathlib.Decide.{dec_le}
@@ -11,71 +12,17 @@ use Rattle.theory.specs.Limit.{first_terms, max_arguments}
 use Rattle.theory.specs.Kind.{Op, kind}
 use Rattle.theory.specs.Record.{Bytes}
 use Rattle.theory.specs.Codes.{all_below}
-use Rattle.text.specs.Reading.{bind, number_end, Declared, Head, leaf, branch, head}
-use Rattle.names.specs.declared.kinds.Kind.{Kind}
-use Rattle.heads.specs.declared.heads.Start.{Start}
-use Rattle.heads.specs.declared.heads.Start.TheVariants as S
+use Rattle.text.specs.Reading.{bind, number_end, Declared, branch, head}
 use Rattle.writer.specs.declared.places.Spot.{Spot}
 use Rattle.reader.specs.declared.reading.Read.{Read}
-use Rattle.reader.specs.declared.reading.Read.TheVariants.{Bad, Term}
 use Rattle.reader.specs.declared.reading.List as list
-use Rattle.names.specs.Kinds.{op_of, Known}
-use Rattle.heads.specs.Heads.{Begins}
-use Rattle.writer.specs.Places.{so_far, Moved}
-use Rattle.reader.specs.Reader.{Got, GotAll, got_all, read_write, read_write_all, finish, fitting, Reads, Lists, list_moved}
+use Rattle.writer.specs.Places.{so_far}
+use Rattle.reader.specs.Reader.{GotAll, got_all, read_write, read_write_all, finish, fitting, Reads, Lists}
 use Rattle.reader.proofs.ReaderLaws.{too_deep, at_branch}
+use Rattle.words.proofs.ReadLaws.{read_some}
 use Rattle.writer.proofs.Moves.{moved_on}
 use Rattle.writer.proofs.PutLaws.{put_over}
 use Rattle.reader.proofs.FinishLaws.{finish_not, finish_full, low_takes}
-
--- ---- what a callee said
-pub begin_leaf : {line : Bytes} {q : Option Head} {r : Start} {k : Kind} {a : ℕ} → Begins line q r → r ≡ S.Leaf k a → (q ≡ some (leaf (op_of k) (drop a line))) × (a ≤ length line) × Known k
-begin_leaf {line} {q} {r} {k} {a} h e = let g : Begins line q (S.Leaf k a) = subst (Begins line q) e h in (sym g.is, g.inside.0, g.inside.1)
-
-pub begin_branch : {line : Bytes} {q : Option Head} {r : Start} {k : Kind} {a : ℕ} → Begins line q r → r ≡ S.Branch k a → (q ≡ some (branch (op_of k) (drop a line))) × (a ≤ length line) × Known k
-begin_branch {line} {q} {r} {k} {a} h e = let g : Begins line q (S.Branch k a) = subst (Begins line q) e h in (sym g.is, g.inside.0, g.inside.1)
-
-pub begin_bad : {line : Bytes} {q : Option Head} {r : Start} → Begins line q r → r ≡ S.Bad → q ≡ none
-begin_bad {line} {q} {r} h e = let g : Begins line q S.Bad = subst (Begins line q) e h in sym g.is
-
-list_cases : (b : Bool) {x : Option GotAll} (y : GotAll) → b ≡ true → cond b (some y) none ≡ x → x ≡ some y
-list_cases true y e f = sym f
-list_cases false y e f = absurd (let z : ◌≡◌ {A = ℕ} 0 1 = cc in omega arith)
-
-list_none : (b : Bool) {x : Option GotAll} (y : GotAll) → b ≡ false → cond b (some y) none ≡ x → x ≡ none
-list_none false y e f = sym f
-list_none true y e f = absurd (let z : ◌≡◌ {A = ℕ} 0 1 = cc in omega arith)
-
-pub record Listed (line old new work : Bytes) (from : Spot) (q : Option GotAll) (l : list.List) : Type 0 where
-  pub is : q ≡ some (got_all (take l.count l.numbers) (drop l.next line) (so_far new l.spot))
-  pub few : l.count ≤ max_arguments
-  pub fit : all_below number_end (take l.count l.numbers) ≡ true
-  pub inside : l.next ≤ length line
-  pub moved : Moved old new work from l.spot
-
-pub list_said : {line old new work : Bytes} {from : Spot} {q : Option GotAll} {l : list.List} → Lists line old new work from q l → l.ok ≡ true → Listed line old new work from q l
-list_said {line} {old} {new} {work} {from} {q} {l} h e =
-    let m = go l.ok e h.moved in
-    record { is = list_cases l.ok _ e h.is; few = m.0; fit = m.1; inside = m.2; moved = m.3 }
-  where
-    go : (b : Bool) → b ≡ true → list_moved line old new work from l b → list_moved line old new work from l true
-    go true d m = m
-    go false d m = absurd (let z : ◌≡◌ {A = ℕ} 0 1 = cc in omega arith)
-
-pub list_bad : {line old new work : Bytes} {from : Spot} {q : Option GotAll} {l : list.List} → Lists line old new work from q l → l.ok ≡ false → q ≡ none
-list_bad {line} {old} {new} {work} {from} {q} {l} h e = list_none l.ok _ e h.is
-
--- ---- what is said to the caller
-pub read_none : {line old new work : Bytes} {from : Spot} {q : Option Got} → q ≡ none → Reads line old new work from q Bad
-read_none e = record { is = sym e; moved = tt }
-
-pub reads_as : {line old new work : Bytes} {from : Spot} {q p : Option Got} {r : Read} → Reads line old new work from q r → p ≡ q → Reads line old new work from p r
-reads_as {line} {old} {new} {work} {from} {q} {p} {r} h e = subst (λ (x : Option Got). Reads line old new work from x r) (sym e) h
-
--- from an earlier place
-pub reads_from : {line old mid new work work' : Bytes} {from s : Spot} {q : Option Got} (r : Read) → Moved old mid work from s → Reads line mid new work' s q r → Reads line old new work' from q r
-reads_from Bad m h = record { is = h.is; moved = tt }
-reads_from (Term a k t) m h = record { is = h.is; moved = (h.moved.0, moved_on m h.moved.1) }
 
 -- ---- arguments whose numbers do not fit make no term
 finish_large : (room : ℕ) (o : Op) (g : GotAll) → all_below number_end g.numbers ≡ false → finish room o g ≡ none
@@ -108,14 +55,16 @@ module _ (vars : List Declared) (room : ℕ) (n : ℕ) (bs job : Bytes) (o : Op)
   at_none f h e = at_more f h ∙ ap (λ (q : Option GotAll). bind q (finish room o)) e
 
 -- a term whose arguments were read and written
-pub branch_reads : (vars : List Declared) (n : ℕ) (bs : Bytes) (o : Op) (rest : Bytes) {line old mid new work work' : Bytes} {from : Spot} {l : list.List} {r : Read}
+pub branch_reads : (vars : List Declared) (n : ℕ) (bs : Bytes) (o : Op) (rest : Bytes) {line old mid new work work' : Bytes} {from : Spot} {p : rust.Option list.List} {l : list.List} {r : rust.Option Read}
     → ((n ≡ 0) → ⊥) → head vars bs ≡ some (branch o rest)
-    → Listed line old mid work from (fitting (read_write_all (n - 1) vars (length old) max_arguments rest (so_far old from))) l
+    → Lists line old mid work from (fitting (read_write_all (n - 1) vars (length old) max_arguments rest (so_far old from))) p → p ≡ rust.Some l
     → length mid ≡ length old
     → Reads line mid new work' l.spot (finish (length mid) o (got_all (take l.count l.numbers) (drop l.next line) (so_far mid l.spot))) r
     → Reads line old new work' from (read_write n vars (length old) bs (so_far old from)) r
-branch_reads vars n bs o rest {line} {old} {mid} {new} {work} {work'} {from} {l} {r} f h g e d =
-    reads_as (reads_from r g.moved d)
-    (at_more vars (length old) n bs (so_far old from) o rest f h
-    ∙ ap (λ (q : Option GotAll). bind q (finish (length old) o)) g.is
-    ∙ ap (λ (m : ℕ). finish m o (got_all (take l.count l.numbers) (drop l.next line) (so_far mid l.spot))) (sym e))
+branch_reads vars n bs o rest {line} {old} {mid} {new} {work} {work'} {from} {p} {l} {r} f h g w e d = record {
+  is = d.is
+      ∙ sym (at_more vars (length old) n bs (so_far old from) o rest f h
+      ∙ ap (λ (q : Option GotAll). bind q (finish (length old) o)) (read_some g w)
+      ∙ ap (λ (m : ℕ). finish m o (got_all (take l.count l.numbers) (drop l.next line) (so_far mid l.spot))) (sym e));
+  fits = λ t u. let f = d.fits t u in (f.0, moved_on (g.fits l w).2 f.1);
+}

@@ -1,6 +1,7 @@
 -- A term that is read and written at one time; its arguments.
 use Rattle.std.specs.Prelude.{◌≡◌, Bool, true, false, cond, List, [], ◌++◌, ℕ, ◌≤◌, length, take, drop}
-use Rattle.std.proofs.Math.Option.{Option, none, some}
+use Rattle.std.specs.Prelude as rust
+use Rattle.std.specs.Prelude.{Option, None as none, Some as some}
 use Rattle.theory.specs.Limit.{max_arguments}
 use Rattle.theory.specs.Kind.{Op, arity, takes}
 use Rattle.theory.specs.Term.{from_list}
@@ -8,12 +9,10 @@ use Rattle.theory.specs.Record.{Bytes}
 use Rattle.theory.specs.Codes.{all_below}
 use Rattle.text.specs.Reading.{bind, number_end, Declared, read_term, arguments}
 use Rattle.text.specs.Writing.{placed_all, put_term, write, write_all}
+use Rattle.words.specs.Tables as tables
 use Rattle.writer.specs.declared.places.Spot.{Spot}
 use Rattle.reader.specs.declared.reading.Read.{Read}
-use Rattle.reader.specs.declared.reading.Read.TheVariants.{Bad, Term}
 use Rattle.reader.specs.declared.reading.List as list
-use Rattle.reader.specs.declared.reading.Close.{Close}
-use Rattle.reader.specs.declared.reading.Close.TheVariants.{Not, After}
 use Rattle.reader.specs.declared.reading.Span.{Span}
 use Rattle.terms.specs.Bodies.{least, most}
 use Rattle.names.specs.Kinds.{kind_at}
@@ -68,46 +67,26 @@ abbrev pub before : List ℕ → Option GotAll → Option GotAll
 before ks p = bind p (λ g. some (got_all (ks ++ g.numbers) g.rest g.job))
 
 -- ---- what the code says
-abbrev pub told : Bytes → Bytes → Read → Option Got
-told line out Bad = none
-told line out (Term next k s) = some (got k (drop next line) (so_far out s))
+-- a term was read and written, or refused
+abbrev pub told : Bytes → Bytes → Read → Got
+told line out r = got r.number (drop r.next line) (so_far out r.spot)
 
 abbrev pub read_moved : Bytes → Bytes → Bytes → Bytes → Spot → Read → Type 0
-read_moved line old new work from Bad = Unit {0}
-read_moved line old new work from (Term next k s) = (next ≤ length line) × Moved old new work from s
+read_moved line old new work from r = (r.next ≤ length line) × Moved old new work from r.spot
 
--- a term was read and written, or refused
-pub record Reads (line old new work : Bytes) (from : Spot) (expected : Option Got) (r : Read) : Type 0 where
-  pub is : told line new r ≡ expected
-  pub moved : read_moved line old new work from r
-
-abbrev pub told_list : Bytes → Bytes → list.List → Option GotAll
-told_list line out l = cond l.ok (some (got_all (take l.count l.numbers) (drop l.next line) (so_far out l.spot))) none
-
-abbrev pub list_moved : Bytes → Bytes → Bytes → Bytes → Spot → list.List → Bool → Type 0
-list_moved line old new work from l false = Unit {0}
-list_moved line old new work from l true =
-    (l.count ≤ max_arguments) × (all_below number_end (take l.count l.numbers) ≡ true)
-    × (l.next ≤ length line) × Moved old new work from l.spot
+abbrev pub Reads : Bytes → Bytes → Bytes → Bytes → Spot → Option Got → rust.Option Read → Type 0
+Reads line old new work from expected r = tables.Reads (told line new) (read_moved line old new work from) expected r
 
 -- arguments were read and written, or refused
-pub record Lists (line old new work : Bytes) (from : Spot) (expected : Option GotAll) (l : list.List) : Type 0 where
-  pub is : told_list line new l ≡ expected
-  pub moved : list_moved line old new work from l l.ok
+abbrev pub told_list : Bytes → Bytes → list.List → GotAll
+told_list line out l = got_all (take l.count l.numbers) (drop l.next line) (so_far out l.spot)
 
--- a closing parenthesis, as the code says it
-abbrev pub told_close : Bytes → Close → Option Bytes
-told_close line Not = none
-told_close line (After next) = some (drop next line)
+abbrev pub list_moved : Bytes → Bytes → Bytes → Bytes → Spot → list.List → Type 0
+list_moved line old new work from l =
+    (l.count ≤ max_arguments) × (l.next ≤ length line) × Moved old new work from l.spot
 
-abbrev pub close_inside : Bytes → Close → Type 0
-close_inside line Not = Unit {0}
-close_inside line (After next) = next ≤ length line
-
--- the next token is one, or is none
-pub record Closed (line : Bytes) (expected : Option Bytes) (r : Close) : Type 0 where
-  pub is : told_close line r ≡ expected
-  pub inside : close_inside line r
+abbrev pub Lists : Bytes → Bytes → Bytes → Bytes → Spot → Option GotAll → rust.Option list.List → Type 0
+Lists line old new work from expected r = tables.Reads (told_list line new) (list_moved line old new work from) expected r
 
 -- the arguments of a kind, whatever the numbers in it
 pub record Spanned (k : ℕ) (r : Span) : Type 0 where

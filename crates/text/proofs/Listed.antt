@@ -2,13 +2,14 @@
 use mathlib.Core.Path.{◌≡◌, refl, sym, ap, ap₂, subst, ◌∙◌}
 use mathlib.Core.Bool.{Bool, true, false, ◌||◌, cond}
 use mathlib.Core.List.{List, [], ◌∷◌, ◌++◌, map, map-append, foldl, append_assoc, append-nil}
-use mathlib.Core.Option.{Option, none, some}
+use Rattle.std.specs.Prelude.{Option, None as none, Some as some}
 use Prim.Native.Nat.{ℕ, zero, suc, ◌+◌, ◌/◌, ◌<◌, ◌≤◌}
 use native.Mathlib.Omega.{arith}
 use lib.Dec.{T, leb, eqb, eqb→eq}
 use lib.Ieee.Fits.{and_l, and_r}
 use lib.Seq.{drop-append-le, get_or-append_seam}
-use lib.ListN.{length, drop, get_elem?, length-append, length-drop, length-map}
+use lib.ListN.{length, drop, length-append, length-drop, length-map}
+use Rattle.std.specs.Prelude.{slice_get as get_elem?}
 use Rattle.theory.specs.Limit.{first_terms, value_bytes, number_bytes}
 use Rattle.theory.specs.Kind.{Op, True, False, kind, indices}
 use Rattle.theory.specs.Term.{Term, node, nil, same_numbers}

@@ -1,8 +1,8 @@
 -- Document 02, P13: what is to be shown of the job that is written: one step for each step line, in order,
 -- whose literal is that line's term.
 use Rattle.std.specs.Prelude.{◌≡◌, List, [], ◌∷◌, ◌++◌, ℕ, length, take}
-use Rattle.std.proofs.Math.Option.{Option, none, some}
-use Rattle.std.proofs.Math.ListN.{get_elem?}
+use Rattle.std.specs.Prelude.{Option, None as none, Some as some}
+use Rattle.std.specs.Prelude.{slice_get as get_elem?}
 use Rattle.theory.specs.Limit.{number_bytes}
 use Rattle.theory.specs.Term.{Term}
 use Rattle.theory.specs.Optional.{either}

@@ -1,6 +1,6 @@
 -- Document 02, P13: a text read line by line, and the job that is written.
 use Rattle.std.specs.Prelude.{Bool, true, false, cond, List, [], ◌∷◌, ◌++◌, ℕ, suc, eqb, ltb, length, drop, replicate}
-use Rattle.std.proofs.Math.Option.{Option, none, some}
+use Rattle.std.specs.Prelude.{Option, None as none, Some as some}
 use Rattle.theory.specs.Term.{node, nil}
 use Rattle.theory.specs.Optional.{is_some, either}
 use Rattle.theory.specs.Record.{Bytes}

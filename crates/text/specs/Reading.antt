@@ -1,6 +1,6 @@
 -- Document 02, P13: terms, declarations and steps in a line's bytes.
 use Rattle.std.specs.Prelude.{Bool, true, false, ◌&&◌, ◌||◌, not, cond, List, [], ◌∷◌, ℕ, zero, suc, ◌+◌, ◌-◌, ◌*◌, ◌^◌, eqb, leb, ltb, length}
-use Rattle.std.proofs.Math.Option.{Option, none, some}
+use Rattle.std.specs.Prelude.{Option, None as none, Some as some}
 use Rattle.theory.specs.Limit.{max_arguments, number_bytes, value_bytes}
 use Rattle.theory.specs.Kind.{Op, True, False, BoolVar, BvVar, Const, arity, takes}
 use Rattle.theory.specs.Term.{Term, node, nil, from_list, same_numbers}

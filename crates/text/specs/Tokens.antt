@@ -1,6 +1,6 @@
 -- Document 02, P13: a line's bytes as tokens: a parenthesis or a word. Blanks stand between them.
 use Rattle.std.specs.Prelude.{Bool, true, false, ◌||◌, cond, [], ◌∷◌, ℕ, zero, suc, eqb, length, drop}
-use Rattle.std.proofs.Math.Option.{Option, none, some}
+use Rattle.std.specs.Prelude.{Option, None as none, Some as some}
 use Prim.Native.Char.{code}
 use Prim.Native.String.{String, len, char_at}
 use Rattle.theory.specs.Term.{same_numbers}

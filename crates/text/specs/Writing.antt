@@ -1,6 +1,6 @@
 -- Document 02, P13: terms and steps written as records, equal terms one time, arguments from the left before their term.
 use Rattle.std.specs.Prelude.{◌≡◌, true, false, cond, List, [], ◌∷◌, ◌++◌, ℕ, suc, ◌+◌, eqb, leb, ltb, length}
-use Rattle.std.proofs.Math.Option.{Option, none, some}
+use Rattle.std.specs.Prelude.{Option, None as none, Some as some}
 use Rattle.theory.specs.Limit.{first_terms, number_bytes, value_bytes}
 use Rattle.theory.specs.Kind.{Op, Const, kind, indices}
 use Rattle.theory.specs.Term.{Term, Terms, node, nil, cons, same_numbers}

@@ -1,3 +1,4 @@
 pub mod WordLaws
 pub mod TableLaws
 pub mod NumberLaws
+pub mod ReadLaws

@@ -1,14 +1,14 @@
 -- Laws of numbers in words.
 use mathlib.Core.Path.{◌≡◌, refl, sym, ap, subst, ◌∙◌}
-use mathlib.Core.Bool.{Bool, true, false, ◌&&◌}
+use mathlib.Core.Bool.{Bool, true, false, ◌&&◌, cond}
 use mathlib.Core.List.{[], ◌∷◌}
-use mathlib.Core.Option.{Option, none, some}
-use Prim.Native.Nat.{ℕ, zero, suc, ◌+◌, ◌-◌, ◌*◌, ◌/◌, ◌<◌, ◌≤◌}
+use Rattle.std.specs.Prelude.{Option, None as none, Some as some}
+use Prim.Native.Nat.{ℕ, zero, suc, ◌+◌, ◌-◌, ◌*◌, ◌<◌, ◌≤◌}
 use native.Mathlib.Decide.{dec_le}
 use native.Mathlib.Omega.{arith}
-use native.Mathlib.Nat.{mul-le-mul_left, mul-le-mul_right, mul-div-le, lt-mul-div-succ}
+use native.Mathlib.Nat.{mul-le-mul_right}
 use native.Mathlib.Numerals.{add-one}
-use lib.Dec.{T, eqb, ltb, eqb→eq}
+use lib.Dec.{T, eqb, ltb, leb, eqb→eq}
 use lib.Ieee.Fits.{and_l, and_r}
 use lib.ListN.{length, drop, get_or, drop_of_length-le}
 use lib.Seq.{drop-cons}
@@ -31,6 +31,13 @@ each p lo (suc n) t b h k = go (λ l. each p (suc lo) n (and_r (p lo) _ t) b l (
 
 pub digit_run : (g : ℕ → ℕ) (lo n : ℕ) → T (all_from (λ b. eqb (digit_value b) (g b)) lo n) → (b : ℕ) → lo ≤ b → b < lo + n → g b ≡ digit_value b
 digit_run g lo n t b h k = sym (eqb→eq (digit_value b) (g b) (each (λ b. eqb (digit_value b) (g b)) lo n t b h k))
+
+-- what a digit is worth, by the runs in which digits stand
+abbrev digit_by_runs : ℕ → ℕ
+digit_by_runs b = cond (leb 48 b && leb b 57) (b - 48) (cond (leb 65 b && leb b 70) (b - 65 + 10) (cond (leb 97 b && leb b 102) (b - 97 + 10) 16))
+
+pub digit_runs : (b : ℕ) → b < 256 → digit_value b ≡ digit_by_runs b
+digit_runs b h = sym (digit_run digit_by_runs 0 256 tt b (omega arith) h)
 
 -- ---- a number from its digits
 from_more : (base n d : ℕ) (ds : Bytes) → digit_value d < base → number_from base n (d ∷ ds) ≡ number_from base (base * n + digit_value d) ds
@@ -61,16 +68,6 @@ grows base bound n (d ∷ ds) h k = go (ltb (digit_value d) base) (grows base bo
     go true ih = ih
     go false ih = refl
 
--- ---- the test before a digit is taken
-pub taken_fits : (base most n d : ℕ) → d ≤ most → n ≤ (most - d) / base → base * n + d ≤ most
-taken_fits base most n d h k = omega (arith, mul-le-mul_left base k, mul-div-le (most - d) base)
-
-taken_over : (base most n d : ℕ) → 2 ≤ base → d ≤ most → (most - d) / base < n → most + 1 ≤ base * n + d
-taken_over base most n d b h k =
-    let z : 0 < base = omega arith in
-    let j : (most - d) / base + 1 ≤ n = omega arith in
-    omega (arith, mul-le-mul_left base j, lt-mul-div-succ (most - d) z)
-
 -- ---- the loop
 pub record Counting (base : ℕ) (w : Bytes) (most n i : ℕ) : Type 0 where
   pub inside : i ≤ length w
@@ -95,12 +92,13 @@ module _ {base : ℕ} {w : Bytes} {most n i : ℕ} (g : Counting base w most n i
   on : i < length w → total ≡ below (most + 1) (number_from base n (get_or w i 0 ∷ drop (i + 1) w))
   on h = g.leads ∙ ap (λ (x : Bytes). below (most + 1) (number_from base n x)) (here h)
 
-  pub count_on : i < length w → {d : ℕ} → d ≡ digit_value (get_or w i 0) → d < base → base * n + d ≤ most → Counting base w most (base * n + d) (i + 1)
-  count_on h {d} e l f = record {
+  pub count_on : i < length w → {d : ℕ} → d ≡ digit_value (get_or w i 0) → d < base → {m : ℕ} → m ≡ n * base + d → m ≤ most → Counting base w most m (i + 1)
+  count_on h {d} e l {m} j f = record {
     inside = omega arith;
     small = f;
     leads = on h ∙ ap (below (most + 1)) (from_more base n (get_or w i 0) (drop (i + 1) w) (subst (λ (x : ℕ). x < base) e l))
-        ∙ ap (λ (x : ℕ). below (most + 1) (number_from base (base * n + x) (drop (i + 1) w))) (sym e);
+        ∙ ap (λ (x : ℕ). below (most + 1) (number_from base (base * n + x) (drop (i + 1) w))) (sym e)
+        ∙ ap (λ (x : ℕ). below (most + 1) (number_from base x (drop (i + 1) w))) (let q : base * n + d ≡ m = omega arith in q);
   }
 
   pub count_bad : i < length w → {d : ℕ} → d ≡ digit_value (get_or w i 0) → base ≤ d → none ≡ total
@@ -112,11 +110,8 @@ module _ {base : ℕ} {w : Bytes} {most n i : ℕ} (g : Counting base w most n i
       ∙ ap (λ (x : ℕ). below (most + 1) (number_from base (base * n + x) (drop (i + 1) w))) (sym e)
       ∙ grows base (most + 1) (base * n + d) (drop (i + 1) w) b f)
 
-  pub count_large : i < length w → {d : ℕ} → d ≡ digit_value (get_or w i 0) → d < base → 2 ≤ base → most < d → none ≡ total
-  count_large h e l b f = over h e l b (omega arith)
-
-  pub count_over : i < length w → {d : ℕ} → d ≡ digit_value (get_or w i 0) → d < base → 2 ≤ base → d ≤ most → (most - d) / base < n → none ≡ total
-  count_over h {d} e l b f k = over h e l b (taken_over base most n d b f k)
+  pub count_over : i < length w → {d : ℕ} → d ≡ digit_value (get_or w i 0) → d < base → 2 ≤ base → most < n * base + d → none ≡ total
+  count_over h e l b f = over h e l b (omega arith)
 
   pub count_end : length w ≤ i → some n ≡ total
   unfolding number_from

@@ -1,23 +1,31 @@
 -- Laws of bytes, words and tokens.
 use mathlib.Core.Path.{◌≡◌, refl, sym, ap, ap₂, subst, ◌∙◌}
-use mathlib.Core.Bool.{Bool, true, false, ◌&&◌, not}
+use mathlib.Core.Bool.{Bool, true, false, ◌&&◌, ◌||◌, not, cond}
 use mathlib.Core.List.{[], ◌∷◌, ◌++◌, append-nil, append_assoc}
 use Prim.Native.Nat.{ℕ, zero, suc, ◌+◌, ◌-◌, ◌<◌, ◌≤◌}
 use native.Mathlib.Decide.{dec_le}
 use native.Mathlib.Omega.{arith}
 use native.Mathlib.Numerals.{add-one}
-use lib.Dec.{eqb}
+use lib.Dec.{eqb, leb}
 use lib.Dec as dec
 use lib.Ieee.Fits.{and_l, and_r}
 use lib.ListN.{length, take, drop, get_or, length-take, length-drop, drop_of_length-le}
 use lib.Seq.{drop-cons, take-suc, get_or-drop, drop-drop, ext_get_or}
 use borrow.Author.Tests.{eq-eqb, ne_eqb, eqb-true}
+use Rattle.std.specs.Borrow.{Bor}
+use Rattle.std.specs.Prelude.{Option, None as none, Some as some, MatchOption}
+use Rattle.std.proofs.lemmas.Bool.Decides.{Decides-eqb}
+use Rattle.std.proofs.lemmas.Slice.Eq.{strip_prefix_is}
+use Rattle.std.specs.Cmp.Lexicographic.{pointwise}
 use Rattle.theory.specs.Term.{same_numbers}
 use Rattle.theory.specs.Record.{Bytes}
+use Rattle.text.specs.Reading.{past}
 use Rattle.text.specs.Tokens.{is_blank, in_word, in_symbol, followed, token_at, next, front_word, left, right, end, bad, word}
 use Rattle.words.specs.declared.tokens.Token.{Token}
 use Rattle.words.specs.declared.tokens.Token.TheVariants as T
+use Rattle.words.specs.Tables.{Reads}
 use Rattle.words.specs.Words.{piece, Skipped, Ends, Lexed}
+use Rattle.words.proofs.ReadLaws.{reads_none, reads_some}
 
 -- ---- a property of bytes, decided by trying a run of them
 abbrev pub same_bool : Bool → Bool → Bool
@@ -43,6 +51,16 @@ agree f g lo (suc n) t b h k = go (λ l. agree f g (suc lo) n (and_r (same_bool 
     go ih (no l) =
         let e : lo ≡ b = omega arith in
         subst (λ (x : ℕ). f x ≡ g x) e (same_bool_is (f lo) (g lo) (and_l (same_bool (f lo) (g lo)) _ t))
+
+-- a byte of a word, by the runs in which they stand
+abbrev word_runs : ℕ → Bool
+word_runs b =
+    eqb b 33 || (leb 35 b && leb b 38) || (leb 42 b && leb b 43) || (leb 45 b && leb b 58) || (leb 60 b && leb b 90)
+    || (leb 94 b && leb b 95) || (leb 97 b && leb b 122) || eqb b 126
+
+pub word_ranges : (b : ℕ) → b < 256 → in_word b ≡ word_runs b
+unfolding in_word
+word_ranges b h = agree in_word word_runs 0 256 tt b (omega arith) h
 
 -- ---- words
 front_more : (b : ℕ) (bs : Bytes) → in_word b ≡ true → front_word (b ∷ bs) ≡ b ∷ front_word bs
@@ -211,3 +229,27 @@ word_inside {line} {at} {r} {s} {e} l f = let g : Lexed line at (T.Word s e) = s
 
 pub word_next : {line : Bytes} {at : ℕ} {r : Token} {s e : ℕ} → Lexed line at r → r ≡ T.Word s e → next (drop at line) ≡ followed (word (piece s e line)) (drop e line)
 word_next {line} {at} {r} {s} {e} l f = let g : Lexed line at (T.Word s e) = subst (Lexed line at) f l in sym g.is
+
+-- ---- what stands after a prefix
+past_on : (p rest : Bytes) → past p (p ++ rest) ≡ some rest
+past_on [] rest = refl
+past_on (b ∷ p) rest = rw (eq-eqb b b refl) (past_on p rest)
+
+past_off : (p s : Bytes) → ((rest : Bytes) → s ≡ p ++ rest → ⊥) → past p s ≡ none
+past_off [] s h = absurd (h s refl)
+past_off (b ∷ p) [] h = refl
+past_off (b ∷ p) (c ∷ s) h = go (eqb b c) refl (past_off p s)
+  where
+    go : (t : Bool) → eqb b c ≡ t → (((rest : Bytes) → s ≡ p ++ rest → ⊥) → past p s ≡ none) → cond t (past p s) none ≡ none
+    go true e ih = ih (λ rest f. h rest (ap₂ (λ (u : ℕ) (v : Bytes). u ∷ v) (sym (eqb-true b c e)) f))
+    go false e ih = refl
+
+-- what `strip_prefix` says
+pub stripped : (p s : Bytes) {r : Option (Bor Bytes)}
+    → MatchOption r (pointwise eqb (take (length p) s) p ≡ false) (λ x. (pointwise eqb (take (length p) s) p ≡ true) × (x.now ≡ drop (length p) s) × (length x.now + length p ≡ length s))
+    → Reads (λ (x : Bor Bytes). x.now) (λ x. Unit {0}) (past p s) r
+stripped p s {r} m = go r (strip_prefix_is Decides-eqb s p r m)
+  where
+    go : (r : Option (Bor Bytes)) → MatchOption r ((rest : Bytes) → s ≡ p ++ rest → ⊥) (λ x. s ≡ p ++ x.now) → Reads (λ (x : Bor Bytes). x.now) (λ x. Unit {0}) (past p s) r
+    go none h = reads_none (past_off p s h)
+    go (some x) h = reads_some (ap (past p) h ∙ past_on p x.now) tt

@@ -1,82 +1,91 @@
-// The names of kinds and rules, each table in the order of their numbers. The character before a name stands for its length: 0 to 9, then : to ?.
-ghost use Rattle.std.specs.Prelude.{◌≡◌, ◌%◌, ◌<◌};
+// The names of kinds and rules, with their numbers.
+ghost use Rattle.std.specs.Prelude.{◌≡◌, ◌<◌};
 ghost use Rattle.theory.specs.Record.{shape_of};
 ghost use Rattle.text.specs.Spelling.{named, kind_names, rule_number};
-ghost use Rattle.words.specs.Tables.{words_in, place_word, told_place, some_number};
+ghost use Rattle.words.specs.Tables.{Beside, told};
 
 use crate::tokens::same;
 
-// A word's place in a table.
-#[derive(Clone, Copy)]
-pub enum Found {
-    Missing,
-    At(usize),
-}
+// The names of the rules, with their numbers.
+static RULES: [(&[u8], u32); 23] = [
+    (b"value", 1),
+    (b"var", 2),
+    (b"and", 3),
+    (b"or", 4),
+    (b"xor", 5),
+    (b"xnor", 6),
+    (b"not", 7),
+    (b"ult", 8),
+    (b"slt", 9),
+    (b"add", 10),
+    (b"mult", 11),
+    (b"neg", 12),
+    (b"equality", 13),
+    (b"comp", 14),
+    (b"extract", 15),
+    (b"concat", 16),
+    (b"sign_extend", 17),
+    (b"shl", 18),
+    (b"lshr", 19),
+    (b"ashr", 20),
+    (b"udiv", 21),
+    (b"urem", 22),
+    (b"bitwise_slicing", 23),
+];
 
-// The length that a byte stands for.
-fn length_in(b: u8) -> usize
-    ensures { result ≡ b % 16 }
-{
-    (b % 16) as usize
-}
+// The names of the kinds, with their numbers.
+static KINDS: [(&[u8], u32); 27] = [
+    (b"not", 20),
+    (b"and", 21),
+    (b"or", 22),
+    (b"xor", 23),
+    (b"=", 24),
+    (b"ite", 25),
+    (b"@bit_of", 30),
+    (b"@bbterm", 31),
+    (b"bvnot", 40),
+    (b"bvneg", 41),
+    (b"bvand", 42),
+    (b"bvor", 43),
+    (b"bvxor", 44),
+    (b"bvadd", 45),
+    (b"bvmul", 46),
+    (b"bvxnor", 47),
+    (b"bvcomp", 48),
+    (b"bvult", 49),
+    (b"bvslt", 50),
+    (b"bvshl", 51),
+    (b"bvlshr", 52),
+    (b"bvashr", 53),
+    (b"bvudiv", 54),
+    (b"bvurem", 55),
+    (b"concat", 56),
+    (b"extract", 57),
+    (b"sign_extend", 58),
+];
 
-// The place of a word among the words of a table: before each stands a byte whose last four bits are its length, so that most words are passed
-// over without a look at their bytes.
-#[tactic(auto, using(crate::proofs::TableLaws::seek_start, crate::proofs::TableLaws::seek_end, crate::proofs::TableLaws::seek_cut, crate::proofs::TableLaws::seek_found, crate::proofs::TableLaws::seek_on))]
-fn place_in(table: &[u8], word: &[u8]) -> Found
-    ensures { told_place result ≡ place_word 0 word.now (words_in table.now) }
+// The number beside a word in a table.
+fn number_of(table: &[(&[u8], u32)], word: &[u8]) -> Option<u32>
+    ensures { Beside word.now table.now result }
 {
-    let mut at: usize = 0;
-    let mut k: usize = 0;
-    while at < table.len() {
-        let start = at + 1;
-        let size = length_in(table[at]);
-        if table.len() - start < size {
-            return Found::Missing;
+    for &(name, number) in table {
+        if same(word, name) {
+            return Some(number);
         }
-        at = start + size;
-        if same(word, &table[start..at]) {
-            return Found::At(k);
-        }
-        k += 1;
     }
-    Found::Missing
+    None
 }
 
-// The number of the rule of a name, or 0.
-pub fn rule_named(word: &[u8]) -> u32
-    ensures { some_number result ≡ rule_number word.now }
+// The number of the rule of a name.
+pub fn rule_named(word: &[u8]) -> Option<u32>
+    ensures { told result ≡ rule_number word.now }
 {
-    let Found::At(k) = place_in(
-        b"5value3var3and2or3xor4xnor3not3ult3slt3add4mult3neg8equality4comp7extract6concat;sign_extend3shl4lshr4ashr4udiv4urem?bitwise_slicing",
-        word,
-    ) else {
-        return 0;
-    };
-    if 22 < k {
-        return 0;
-    }
-    k as u32 + 1
+    number_of(&RULES, word)
 }
 
 // The number of the kind of a name, or 0: the kinds are numbered from 20, 30 and 40 on.
 pub fn kind_named(word: &[u8]) -> u32
     ensures { (shape_of result ≡ named word.now kind_names) × (result < 59) }
 {
-    let Found::At(k) = place_in(
-        b"3not3and2or3xor1=3ite7@bit_of7@bbterm5bvnot5bvneg5bvand4bvor5bvxor5bvadd5bvmul6bvxnor6bvcomp5bvult5bvslt5bvshl6bvlshr6bvashr6bvudiv6bvurem6concat7extract;sign_extend",
-        word,
-    ) else {
-        return 0;
-    };
-    if k < 6 {
-        return 20 + k as u32;
-    }
-    if k < 8 {
-        return 24 + k as u32;
-    }
-    if 26 < k {
-        return 0;
-    }
-    32 + k as u32
+    number_of(&KINDS, word).unwrap_or(0)
 }

@@ -15,85 +15,20 @@ pub enum Token {
 }
 
 // A space, a tab or a carriage return?
-#[tactic(auto, using(crate::proofs::WordLaws::agree))]
 pub fn is_blank(b: u8) -> bool
     ensures { result ≡ is_blank b }
 {
-    if b == 32 {
-        return true;
-    }
-    if b == 9 {
-        return true;
-    }
-    b == 13
+    matches!(b, b' ' | b'\t' | b'\r')
 }
 
-// A byte of a word? In ASCII they stand in eight runs.
+// A byte of a word?
+#[tactic(auto, using(crate::proofs::WordLaws::word_ranges, std::proofs::lemmas::Bool::Decides::nat_tests))]
 pub fn in_word(b: u8) -> bool
     ensures { result ≡ in_word b }
 {
-    if b <= 58 {
-        return in_word_low(b);
-    }
-    in_word_high(b)
-}
-
-// The same up to the colon.
-fn in_word_low(b: u8) -> bool
-    requires { b ≤ 58 }
-    ensures { result ≡ in_word b }
-{
-    if b <= 32 {
-        return false;
-    }
-    if b <= 33 {
-        return true;
-    }
-    if b <= 34 {
-        return false;
-    }
-    if b <= 38 {
-        return true;
-    }
-    if b <= 41 {
-        return false;
-    }
-    if b <= 43 {
-        return true;
-    }
-    if b <= 44 {
-        return false;
-    }
-    true
-}
-
-// The same from there on.
-fn in_word_high(b: u8) -> bool
-    requires { 58 < b }
-    ensures { result ≡ in_word b }
-{
-    if b <= 59 {
-        return false;
-    }
-    if b <= 90 {
-        return true;
-    }
-    if b <= 93 {
-        return false;
-    }
-    if b <= 95 {
-        return true;
-    }
-    if b <= 96 {
-        return false;
-    }
-    if b <= 122 {
-        return true;
-    }
-    if b <= 125 {
-        return false;
-    }
-    b == 126
+    matches!(b, b'a'..=b'z' | b'-'..=b':' | b'<'..=b'Z' | b'#'..=b'&' | b'*'..=b'+' | b'^'..=b'_')
+        || b == b'!'
+        || b == b'~'
 }
 
 // A byte of a symbol: of a word, but not one that constants and `:rule` begin with.
@@ -115,29 +50,26 @@ fn skip_blanks(line: &[u8], at: usize) -> usize
     requires { at ≤ length line.now }
     ensures { Skipped line.now at result }
 {
-    let mut i = at;
-    while i < line.len() {
+    for i in at..line.len() {
         if !is_blank(line[i]) {
             return i;
         }
-        i += 1;
     }
-    i
+    line.len()
 }
 
 // The place after the word at `at`.
+#[tactic(auto, using(crate::proofs::WordLaws::word_start, crate::proofs::WordLaws::word_turn, crate::proofs::WordLaws::word_stop, crate::proofs::WordLaws::word_last))]
 fn word_end(line: &[u8], at: usize) -> usize
     requires { at ≤ length line.now }
     ensures { Ends line.now at result }
 {
-    let mut i = at;
-    while i < line.len() {
+    for i in at..line.len() {
         if !in_word(line[i]) {
             return i;
         }
-        i += 1;
     }
-    i
+    line.len()
 }
 
 // The first token at or after `at`.
@@ -167,15 +99,5 @@ pub fn next_token(line: &[u8], at: usize) -> Token
 pub fn same(a: &[u8], b: &[u8]) -> bool
     ensures { result ≡ same_numbers a.now b.now }
 {
-    if a.len() != b.len() {
-        return false;
-    }
-    let mut i = 0;
-    while i < a.len() {
-        if a[i] != b[i] {
-            return false;
-        }
-        i += 1;
-    }
-    true
+    a == b
 }

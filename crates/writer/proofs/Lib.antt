@@ -4,3 +4,4 @@ pub mod Frame
 pub mod CoverLaws
 pub mod PlaceLaws
 pub mod StepLaws
+pub mod Sets

@@ -1,22 +1,20 @@
 -- Laws of the places in a job: the walk over its records, and a record put at its end.
 use mathlib.Core.Path.{◌≡◌, refl, sym, ap, ap₂, subst, ◌∙◌}
-use mathlib.Core.Bool.{Bool, true, false, ◌||◌, cond}
+use mathlib.Core.Bool.{Bool, true, false, cond}
 use mathlib.Core.List.{List, [], ◌∷◌, ◌++◌, append_assoc}
-use mathlib.Core.Option.{Option, none, some}
+use Rattle.std.specs.Prelude.{Option, None as none, Some as some}
 use Prim.Native.Nat.{ℕ, zero, suc, ◌+◌, ◌-◌, ◌*◌, ◌<◌, ◌≤◌}
 use native.Mathlib.Omega.{arith}
 use native.Mathlib.Numerals.{add-one}
-use lib.Dec.{eqb}
-use lib.ListN.{length, take, drop, get_or, set, length-append, length-drop}
+use lib.ListN.{length, take, drop, get_or, length-append, length-drop}
 use lib.Seq.{sets, sets-eq, length-sets, drop-drop, take_at, drop_at, take-suc, take-take, take-add, length-take-le, take_all}
 use borrow.Author.Tests.{eq-eqb, ne_eqb, le-leb, lt-leb}
 use Rattle.theory.specs.Limit.{first_terms, number_bytes, max_arguments, max_job, value_bytes}
 use Rattle.theory.specs.Kind.{Op, kind}
 use Rattle.theory.specs.Term.{same_numbers}
 use Rattle.theory.specs.Record.{Bytes, little_endian, word, bytes_of, word_bytes, extent, whole, records_of, kind_of, step_kind, shape_of}
-use Rattle.terms.specs.declared.Frame.{Frame}
-use Rattle.terms.specs.declared.Frame.TheVariants.{Broken, Whole}
 use Rattle.terms.specs.Framing.{frame_of}
+use borrow.Rule.Slice.PartMut.{put_mid, Post-is}
 use Rattle.terms.proofs.Reading.{broken_learnt, whole_learnt}
 use Rattle.rows.proofs.RowLaws.{sets_append}
 use Rattle.text.specs.Reading.{bind}
@@ -24,6 +22,7 @@ use Rattle.text.specs.Writing.{Clean, Lone, terms_of, kept, place_from, append, 
 use Rattle.theory.proofs.Positions.{records_whole, records_broken}
 use Rattle.text.proofs.Records.{stands, clean_more, kept_more}
 use Rattle.text.proofs.Encoding.{words_length, record_length}
+use Rattle.text.proofs.Placed.{small}
 use Rattle.rows.specs.Layout.{link_bytes, missing}
 use Rattle.rows.specs.Rows as R
 use Rattle.table.specs.Buckets.{TableAs}
@@ -33,9 +32,11 @@ use Rattle.table.specs.declared.kept.Added.TheVariants.{New}
 use Rattle.words.specs.Words.{piece}
 use Rattle.words.proofs.WordLaws.{piece_length}
 use Rattle.writer.specs.declared.places.Spot.{Spot}
-use Rattle.writer.specs.declared.places.Put.TheVariants as P
-use Rattle.names.specs.Kinds.{kind_at, kinds_end}
-use Rattle.writer.specs.Places.{so_far, row_records, Covered, Ready, Longer, Grows, Puts, key_bytes, front_size, Encoded}
+use Rattle.words.proofs.ReadLaws.{reads_none, reads_some}
+use Rattle.names.specs.declared.kinds.Indices.{Indices}
+use Rattle.names.specs.declared.kinds.Indices.TheVariants as F
+use Rattle.names.specs.Kinds.{kind_at, kinds_end, family_of}
+use Rattle.writer.specs.Places.{so_far, row_records, Covered, Ready, Longer, Grows, Puts, key_bytes, Encoded}
 use Rattle.writer.proofs.Moves.{moved_none}
 use Rattle.writer.proofs.Moves.{AllFrom, each}
 use Rattle.writer.proofs.CoverLaws.{part_is, covered_more, covered_table, record_ends, covered_row, found_row, found_rest}
@@ -68,11 +69,11 @@ module _ {job wanted : Bytes} {first at place : ℕ} (g : Walking job wanted fir
   bs : Bytes
   bs = drop at job
 
-  pub walk_missing : {f : Frame} → f ≡ frame_of (drop at job) → f ≡ Broken → none ≡ place_from first wanted (kept job)
+  pub walk_missing : {f : Option ℕ} → f ≡ frame_of (drop at job) → f ≡ none → none ≡ place_from first wanted (kept job)
   walk_missing {f} e k =
       sym (g.leads ∙ ap (λ (rs : List Bytes). place_from place wanted (terms_of rs)) (records_broken (drop at job) (broken_learnt (drop at job) (sym k ∙ e))))
 
-  module _ {f : Frame} {size : ℕ} (e : f ≡ frame_of (drop at job)) (d : f ≡ Whole size) where
+  module _ {f : Option ℕ} {size : ℕ} (e : f ≡ frame_of (drop at job)) (d : f ≡ some size) where
     learnt : (whole (drop at job) ≡ true) × (size ≡ extent (drop at job))
     learnt = whole_learnt (drop at job) (sym d ∙ e)
 
@@ -158,36 +159,37 @@ module _ (out : Bytes) (done : ℕ) (r : Bytes) (fits : done + length r ≤ leng
       ap (drop (done + length r)) put_is
       ∙ drop_at (take done out ++ r) (drop (done + length r) out) (done + length r) front_length
 
+-- a part that was written over
+pub part_set : (a b : ℕ) (out bs : Bytes) {now : Bytes} → a + length bs ≤ length out → b ≡ a + length bs → now ≡ bs → put_mid a (b - a) out now ≡ sets out a bs
+part_set a b out bs h e n =
+    ap₂ (λ (x y : Bytes). take a out ++ (x ++ y)) n (Post-is a b out (omega arith) ∙ ap (λ (j : ℕ). drop j out) e)
+    ∙ sym (append_assoc (take a out) bs (drop (a + length bs) out)) ∙ sym (sets-eq bs out a h)
+
 -- ---- what keep says
 module _ {out work : Bytes} {s : Spot} (r : Bytes) (g : Ready out work s) where
-  pub keep_there : {k : ℕ} → some k ≡ place_from first_terms r (kept (so_far out s)) → Puts out out work s (keep (length out) r (so_far out s)) (P.At k s)
+  pub keep_there : {q : Option ℕ} {k : ℕ} → q ≡ place_from first_terms r (kept (so_far out s)) → q ≡ some k
+      → Puts out out work s (keep (length out) r (so_far out s)) (some (record { number = k; spot = s }))
   unfolding keep
-  keep_there {k} e = record {
-    is = ap (λ (q : Option ℕ). elim q as (λ x. Option Placed) [
-      | none ↦ bind (append (length out) r (so_far out s)) (λ j. some (placed (first_terms + length (kept (so_far out s))) j))
-      | some n ↦ some (placed n (so_far out s))
-    ]) e;
-    moved = moved_none g;
-  }
+  keep_there {q} {k} e f = reads_some (ap (λ (p : Option ℕ). elim p as (λ x. Option Placed) [
+    | none ↦ bind (append (length out) r (so_far out s)) (λ j. some (placed (first_terms + length (kept (so_far out s))) j))
+    | some n ↦ some (placed n (so_far out s))
+  ]) (sym e ∙ f)) (moved_none g)
 
   so_long : length (so_far out s) ≡ s.done
   so_long = length-take-le s.done out g.within
 
-  missing_is : none ≡ place_from first_terms r (kept (so_far out s))
-      → bind (append (length out) r (so_far out s)) (λ j. some (placed (first_terms + length (kept (so_far out s))) j)) ≡ keep (length out) r (so_far out s)
+  missing_is : {q : Option ℕ} → q ≡ place_from first_terms r (kept (so_far out s)) → q ≡ none
+      → keep (length out) r (so_far out s) ≡ bind (append (length out) r (so_far out s)) (λ j. some (placed (first_terms + length (kept (so_far out s))) j))
   unfolding keep
-  missing_is e = ap (λ (q : Option ℕ). elim q as (λ x. Option Placed) [
+  missing_is e f = ap (λ (q : Option ℕ). elim q as (λ x. Option Placed) [
     | none ↦ bind (append (length out) r (so_far out s)) (λ j. some (placed (first_terms + length (kept (so_far out s))) j))
     | some n ↦ some (placed n (so_far out s))
-  ]) e
+  ]) (sym e ∙ f)
 
-  pub keep_full : none ≡ place_from first_terms r (kept (so_far out s)) → length out < s.done + length r → Puts out out work s (keep (length out) r (so_far out s)) P.Full
-  keep_full e f = record {
-    is = sym (ap (λ (b : Bool). bind (cond b (some (so_far out s ++ r)) none) (λ j. some (placed (first_terms + length (kept (so_far out s))) j)))
-        (lt-leb (length (so_far out s) + length r) (length out) (let l = so_long in omega arith)))
-        ∙ missing_is e;
-    moved = tt;
-  }
+  pub keep_full : {q : Option ℕ} → q ≡ place_from first_terms r (kept (so_far out s)) → q ≡ none → length out < s.done + length r → Puts out out work s (keep (length out) r (so_far out s)) none
+  keep_full e n f =
+      reads_none (missing_is e n ∙ ap (λ (b : Bool). bind (cond b (some (so_far out s ++ r)) none) (λ j. some (placed (first_terms + length (kept (so_far out s))) j)))
+      (lt-leb (length (so_far out s) + length r) (length out) (let l = so_long in omega arith)))
 
   -- the record is put at the end, and counted
   module _ (f : s.done + length r ≤ length out) {new : Bytes} (n : new ≡ sets out s.done r) where
@@ -223,24 +225,23 @@ module _ {out work : Bytes} {s : Spot} (r : Bytes) (g : Ready out work s) where
           low = subst (λ (x : Bytes). kind_of x < step_kind) (sym piece_put) low;
         }
 
-    pub keep_put : none ≡ place_from first_terms r (kept (so_far out s)) → {work' : Bytes} {t : Spot} → Grows new work' (s.done + length r) t
-        → Puts out new work' s (keep (length out) r (so_far out s)) (P.At (s.terms + 2) t)
-    keep_put e {work'} {t} h =
+    pub keep_put : {q : Option ℕ} → q ≡ place_from first_terms r (kept (so_far out s)) → q ≡ none → {work' : Bytes} {t : Spot} → Grows new work' (s.done + length r) t
+        → Puts out new work' s (keep (length out) r (so_far out s)) (some (record { number = s.terms + 2; spot = t }))
+    keep_put e m {work'} {t} h =
         let job = so_far out s in
         let l = so_long in
         let cnt = g.counted in
         let d = h.done_is in
         let far : so_far new t ≡ job ++ r = ap (λ (m : ℕ). take m new) d ∙ so_put in
-        record {
-          is = ap₂ (λ (k : ℕ) (j : Bytes). some (placed k j)) (let q : s.terms + 2 ≡ first_terms + length (kept job) = omega arith in q) far
-              ∙ sym (ap (λ (b : Bool). bind (cond b (some (job ++ r)) none) (λ j. some (placed (first_terms + length (kept job)) j))) (le-leb (length job + length r) (length out) (omega arith)))
-              ∙ missing_is e;
-          moved = record {
-            ready = h.ready;
-            grown = omega arith;
-            past = ap (λ (m : ℕ). drop m new) d ∙ ap (drop (s.done + length r)) n ∙ put_past out s.done r f ∙ ap (λ (m : ℕ). drop m out) (sym d);
-          };
-        }
+        reads_some
+        (missing_is e m
+        ∙ ap (λ (b : Bool). bind (cond b (some (job ++ r)) none) (λ j. some (placed (first_terms + length (kept job)) j))) (le-leb (length job + length r) (length out) (omega arith))
+        ∙ ap₂ (λ (k : ℕ) (j : Bytes). some (placed k j)) (let q : first_terms + length (kept job) ≡ s.terms + 2 = omega arith in q) (sym far))
+        (record {
+          ready = h.ready;
+          grown = omega arith;
+          past = ap (λ (m : ℕ). drop m new) d ∙ ap (drop (s.done + length r)) n ∙ put_past out s.done r f ∙ ap (λ (m : ℕ). drop m out) (sym d);
+        })
 
 -- ---- a term's record, counted
 module _ {out work : Bytes} {s : Spot} {end : ℕ} (g : Longer out work s end) where
@@ -345,29 +346,39 @@ module _ {out work : Bytes} {s : Spot} (g : Ready out work s) where
       ∙ found_rest g.rows w (e ∙ ap (λ (x : Bytes). R.place_of w (row_records x work s.rows)) (sym covered_is)) f
 
 -- ---- the numbers in a kind
-unfoldable pub by_size : ℕ → ℕ → ℕ → Bytes
-by_size n x y = cond (eqb n 0) [] (cond (eqb n 2) (word_bytes x) (cond (eqb n 4) (word_bytes x ++ word_bytes y) (word_bytes x ++ bytes_of value_bytes y)))
+-- their bytes by the family
+abbrev by_family : Option Indices → ℕ → ℕ → Bytes
+by_family none x y = []
+by_family (some F.Plain) x y = []
+by_family (some F.Indexed) x y = word_bytes x
+by_family (some F.TwiceIndexed) x y = word_bytes x ++ word_bytes y
+by_family (some F.Valued) x y = word_bytes x ++ bytes_of value_bytes y
 
 abbrev FrontAt : ℕ → Type 0
-FrontAt k = (x y : ℕ) → front_bytes (kind_at k x y) ≡ by_size (front_size k) x y
+FrontAt k = (x y : ℕ) → front_bytes (kind_at k x y) ≡ by_family (family_of (shape_of k)) x y
 
 all_fronts : AllFrom FrontAt 0 59
-unfolding by_size front_bytes kind_at front_size shape_of
+unfolding front_bytes kind_at shape_of
 all_fronts = (λ x y. refl, (λ x y. refl, (λ x y. refl, (λ x y. refl, (λ x y. refl, (λ x y. refl, (λ x y. refl, (λ x y. refl, (λ x y. refl, (λ x y. refl, (λ x y. refl, (λ x y. refl, (λ x y. refl, (λ x y. refl, (λ x y. refl, (λ x y. refl, (λ x y. refl, (λ x y. refl, (λ x y. refl, (λ x y. refl, (λ x y. refl, (λ x y. refl, (λ x y. refl, (λ x y. refl, (λ x y. refl, (λ x y. refl, (λ x y. refl, (λ x y. refl, (λ x y. refl, (λ x y. refl, (λ x y. refl, (λ x y. refl, (λ x y. refl, (λ x y. refl, (λ x y. refl, (λ x y. refl, (λ x y. refl, (λ x y. refl, (λ x y. refl, (λ x y. refl, (λ x y. refl, (λ x y. refl, (λ x y. refl, (λ x y. refl, (λ x y. refl, (λ x y. refl, (λ x y. refl, (λ x y. refl, (λ x y. refl, (λ x y. refl, (λ x y. refl, (λ x y. refl, (λ x y. refl, (λ x y. refl, (λ x y. refl, (λ x y. refl, (λ x y. refl, (λ x y. refl, (λ x y. refl, tt)))))))))))))))))))))))))))))))))))))))))))))))))))))))))))
 
-pub front_is : (k x y : ℕ) → k < kinds_end → front_bytes (kind_at k x y) ≡ by_size (front_size k) x y
-front_is k x y h = each FrontAt 0 59 all_fronts k (omega arith) (omega arith) x y
+module _ (k x y : ℕ) (h : k < kinds_end) {q : Option Indices} (e : q ≡ family_of (shape_of k)) where
+  front_is : {p : Option Indices} → q ≡ p → front_bytes (kind_at k x y) ≡ by_family p x y
+  front_is f = each FrontAt 0 59 all_fronts k (omega arith) (omega arith) x y ∙ ap (λ (p : Option Indices). by_family p x y) (sym e ∙ f)
 
--- ---- a copy
-pub copy_turn : (old bs : Bytes) (at i : ℕ) → i < length bs → set (sets old at (take i bs)) (at + i) (get_or bs i 0) ≡ sets old at (take (i + 1) bs)
-copy_turn old bs at i h =
-    let l : length (take i bs) ≡ i = length-take-le i bs (omega arith) in
-    ap (λ (j : ℕ). set (sets old at (take i bs)) (at + j) (get_or bs i 0)) (sym l)
-    ∙ sym (sets_append old at (take i bs) (get_or bs i 0 ∷ []))
-    ∙ ap (sets old at) (sym (ap (λ (j : ℕ). take j bs) (add-one i) ∙ take-suc bs i 0 h))
+  pub no_family : q ≡ none → front_bytes (kind_at k x y) ≡ []
+  no_family f = front_is f
 
-pub copy_end : (old bs : Bytes) (at i : ℕ) → length bs ≤ i → sets old at (take i bs) ≡ sets old at bs
-copy_end old bs at i h = ap (sets old at) (take_all i bs h)
+  pub plain_front : q ≡ some F.Plain → front_bytes (kind_at k x y) ≡ []
+  plain_front f = front_is f
+
+  pub one_front : q ≡ some F.Indexed → front_bytes (kind_at k x y) ≡ word_bytes x
+  one_front f = front_is f
+
+  pub two_front : q ≡ some F.TwiceIndexed → front_bytes (kind_at k x y) ≡ word_bytes x ++ word_bytes y
+  two_front f = front_is f
+
+  pub value_front : q ≡ some F.Valued → front_bytes (kind_at k x y) ≡ word_bytes x ++ bytes_of value_bytes y
+  value_front f = front_is f
 
 -- ---- a record built in the array
 -- the array begins with these bytes
@@ -395,117 +406,61 @@ words_more numbers i h = ap words_bytes (ap (λ (j : ℕ). take j numbers) (add-
     append_words [] k = refl
     append_words (x ∷ ks) k = ap (λ (b : Bytes). word_bytes x ++ b) (append_words ks k)
 
+pub front_few : (o : Op) → length (front_bytes o) ≤ 10
+front_few o = (small o).1
+
 -- before argument i: those before it stand after the head, which ends at `start`
-pub record Filled (old key : Bytes) (start : ℕ) (numbers : List ℕ) (count i at : ℕ) : Type 0 where
+pub record Filled (old key : Bytes) (start : ℕ) (numbers : List ℕ) (i at : ℕ) : Type 0 where
   pub is : key ≡ sets old start (words_bytes (take i numbers))
   pub at_is : at ≡ start + 2 * i
   pub long : length key ≡ key_bytes
   pub low : start ≤ 14
-  pub on : i ≤ count
-  pub few : count ≤ max_arguments
-  pub wide : length numbers ≡ max_arguments
+  pub on : i ≤ length numbers
+  pub few : length numbers ≤ max_arguments
 
-pub fill_turn : {old key : Bytes} {start : ℕ} {numbers : List ℕ} {count i at : ℕ} → Filled old key start numbers count i at → i < count → {key' : Bytes} → length key' ≡ length key
-    → key' ≡ sets key at (bytes_of 2 (get_or numbers i 0)) → Filled old key' start numbers count (i + 1) (at + 2)
-fill_turn {old} {key} {start} {numbers} {count} {i} {at} g h {key'} l e =
-    let few = g.few in
-    let wide = g.wide in
+pub fill_start : {key : Bytes} {start : ℕ} {numbers : List ℕ} → length key ≡ key_bytes → start ≤ 14 → length numbers ≤ max_arguments → Filled key key start numbers 0 start
+fill_start l h f = record { is = refl; at_is = omega arith; long = l; low = h; on = omega arith; few = f }
+
+pub fill_turn : {old key : Bytes} {start : ℕ} {numbers : List ℕ} {i at : ℕ} → Filled old key start numbers i at → i < length numbers → {key' : Bytes} → length key' ≡ length key
+    → key' ≡ sets key at (bytes_of 2 (get_or numbers i 0)) → Filled old key' start numbers (i + 1) (at + 2)
+fill_turn {old} {key} {start} {numbers} {i} {at} g h {key'} l e =
     let w : length (words_bytes (take i numbers)) ≡ 2 * i = words_length (take i numbers) ∙ ap (λ (n : ℕ). 2 * n) (length-take-le i numbers (omega arith)) in
     let a = g.at_is in
     let q : at ≡ start + length (words_bytes (take i numbers)) = omega arith in
     record {
       is = e ∙ ap₂ (λ (x : Bytes) (j : ℕ). sets x j (bytes_of 2 (get_or numbers i 0))) g.is q
           ∙ sym (sets_append old start (words_bytes (take i numbers)) (word_bytes (get_or numbers i 0)))
-          ∙ ap (sets old start) (sym (words_more numbers i (omega arith)));
+          ∙ ap (sets old start) (sym (words_more numbers i h));
       at_is = omega arith;
       long = l ∙ g.long;
       low = g.low;
       on = omega arith;
-      few = few;
-      wide = wide;
+      few = g.few;
     }
 
 -- all of it is the record of the term
-pub fill_end : (old key₁ key₂ : Bytes) {key₃ key : Bytes} (o : Op) (k size : ℕ) {start : ℕ} {numbers : List ℕ} {count i at : ℕ} → kind o ≡ k
+pub fill_end : (old key₁ key₂ : Bytes) {key₃ key : Bytes} (o : Op) (k size : ℕ) {start : ℕ} {ks : List ℕ} {i at : ℕ} → kind o ≡ k
     → key₁ ≡ sets old 0 (bytes_of 2 (size - 2)) → key₂ ≡ sets key₁ 2 (bytes_of 2 k) → key₃ ≡ sets key₂ 4 (front_bytes o)
-    → start ≡ 4 + length (front_bytes o) → Filled key₃ key start numbers count i at → count ≤ i → length old ≡ key_bytes
-    → size ≡ start + 2 * count → Encoded key o (take count numbers) size
+    → start ≡ 4 + length (front_bytes o) → Filled key₃ key start ks i at → length ks ≤ i → length old ≡ key_bytes
+    → size ≡ start + 2 * length ks → Encoded key o ks size
 unfolding term_record
-fill_end old key₁ key₂ {key₃} {key} o k size {start} {numbers} {count} {i} {at} ke e₁ e₂ e₃ se g ce lo sz =
-    let on = g.on in
+fill_end old key₁ key₂ {key₃} {key} o k size {start} {ks} {i} {at} ke e₁ e₂ e₃ se g ce lo sz =
     let few = g.few in
-    let wide = g.wide in
     let low = g.low in
-    let ie : i ≡ count = omega arith in
-    let ks = take count numbers in
     let front = front_bytes o in
-    let w : length (words_bytes ks) ≡ 2 * count = words_length ks ∙ ap (λ (n : ℕ). 2 * n) (length-take-le count numbers (omega arith)) in
+    let w : length (words_bytes ks) ≡ 2 * length ks = words_length ks in
     let body : length (front ++ words_bytes ks) ≡ length front + length (words_bytes ks) = length-append front (words_bytes ks) in
     let b₁ = built_more (built_none old) 0 (bytes_of 2 (size - 2)) refl e₁ in
     let b₂ = built_more b₁ 2 (bytes_of 2 k) refl e₂ in
     let b₃ = built_more b₂ 4 front refl e₃ in
     let hl : length ((word_bytes (size - 2) ++ word_bytes k) ++ front) ≡ 4 + length front = length-append (word_bytes (size - 2) ++ word_bytes k) front in
-    let b₄ = built_more b₃ start (words_bytes (take i numbers)) (omega arith) g.is in
+    let all : key ≡ sets key₃ start (words_bytes ks) = g.is ∙ ap (λ (x : List ℕ). sets key₃ start (words_bytes x)) (take_all i ks ce) in
+    let b₄ = built_more b₃ start (words_bytes ks) (omega arith) all in
     let s2 : size - 2 ≡ 2 + length (front ++ words_bytes ks) = omega arith in
-    let whole : ((word_bytes (size - 2) ++ word_bytes k) ++ front) ++ words_bytes (take i numbers) ≡ record_of (kind o) (front ++ words_bytes ks)
-    = ap (λ (n : ℕ). ((word_bytes (size - 2) ++ word_bytes k) ++ front) ++ words_bytes (take n numbers)) ie
-    ∙ append_assoc (word_bytes (size - 2) ++ word_bytes k) front (words_bytes ks)
+    let whole : ((word_bytes (size - 2) ++ word_bytes k) ++ front) ++ words_bytes ks ≡ record_of (kind o) (front ++ words_bytes ks)
+    = append_assoc (word_bytes (size - 2) ++ word_bytes k) front (words_bytes ks)
     ∙ ap₂ (λ (m n : ℕ). (word_bytes m ++ word_bytes n) ++ (front ++ words_bytes ks)) s2 (sym ke) in
     let b : Built old key (record_of (kind o) (front ++ words_bytes ks)) = subst (Built old key) whole b₄ in
     let l : length (record_of (kind o) (front ++ words_bytes ks)) ≡ 4 + length (front ++ words_bytes ks) = record_length (kind o) (front ++ words_bytes ks) in
     let rl : size ≡ length (record_of (kind o) (front ++ words_bytes ks)) = omega arith in
     record { short = omega arith; is = ap (λ (n : ℕ). take n key) rl ∙ built_read b (omega arith) }
-
-pub size_of_front : (k x y : ℕ) → k < kinds_end → length (front_bytes (kind_at k x y)) ≡ front_size k
-unfolding by_size front_size
-size_of_front k x y h = ap length (front_is k x y h) ∙ go (eqb k 10 || eqb k 30 || eqb k 58) (eqb k 11 || eqb k 57) (eqb k 12)
-  where
-    go : (a b c : Bool) → length (by_size (cond a 2 (cond b 4 (cond c 10 0))) x y) ≡ cond a 2 (cond b 4 (cond c 10 0))
-    go true b c = refl
-    go false true c = refl
-    go false false true = refl
-    go false false false = refl
-
--- the sizes are four
-pub size_few : (k : ℕ) → front_size k ≤ 10
-unfolding front_size
-size_few k = go (eqb k 10 || eqb k 30 || eqb k 58) (eqb k 11 || eqb k 57) (eqb k 12)
-  where
-    go : (a b c : Bool) → cond a 2 (cond b 4 (cond c 10 0)) ≤ 10
-    go true b c = omega arith
-    go false true c = omega arith
-    go false false true = omega arith
-    go false false false = omega arith
-
-pub sizes_are : (k : ℕ) → (front_size k ≡ 0 → ⊥) → (front_size k ≡ 2 → ⊥) → (front_size k ≡ 4 → ⊥) → front_size k ≡ 10
-unfolding front_size
-sizes_are k = go (eqb k 10 || eqb k 30 || eqb k 58) (eqb k 11 || eqb k 57) (eqb k 12)
-  where
-    size : Bool → Bool → Bool → ℕ
-    size a b c = cond a 2 (cond b 4 (cond c 10 0))
-
-    go : (a b c : Bool) → (size a b c ≡ 0 → ⊥) → (size a b c ≡ 2 → ⊥) → (size a b c ≡ 4 → ⊥) → size a b c ≡ 10
-    go true b c p q r = absurd (q refl)
-    go false true c p q r = absurd (r refl)
-    go false false true p q r = refl
-    go false false false p q r = absurd (p refl)
-
--- the bytes by the size
-module _ (k x y : ℕ) (h : k < kinds_end) {n : ℕ} (e : n ≡ front_size k) where
-  pub no_front : n ≡ 0 → front_bytes (kind_at k x y) ≡ []
-  unfolding by_size
-  no_front f = front_is k x y h ∙ ap (λ (m : ℕ). by_size m x y) (sym e ∙ f)
-
-  pub one_front : n ≡ 2 → front_bytes (kind_at k x y) ≡ word_bytes x
-  unfolding by_size
-  one_front f = front_is k x y h ∙ ap (λ (m : ℕ). by_size m x y) (sym e ∙ f)
-
-  pub two_front : n ≡ 4 → front_bytes (kind_at k x y) ≡ word_bytes x ++ word_bytes y
-  unfolding by_size
-  two_front f = front_is k x y h ∙ ap (λ (m : ℕ). by_size m x y) (sym e ∙ f)
-
-  pub value_front : (n ≡ 0 → ⊥) → (n ≡ 2 → ⊥) → (n ≡ 4 → ⊥) → front_bytes (kind_at k x y) ≡ word_bytes x ++ bytes_of value_bytes y
-  unfolding by_size
-  value_front p q r =
-      let f : front_size k ≡ 10 = sizes_are k (λ z. p (e ∙ z)) (λ z. q (e ∙ z)) (λ z. r (e ∙ z)) in
-      front_is k x y h ∙ ap (λ (m : ℕ). by_size m x y) f

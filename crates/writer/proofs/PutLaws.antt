@@ -1,11 +1,13 @@
 -- A term that is put.
-use mathlib.Core.Path.{◌≡◌, sym, ap, subst, ◌∙◌}
+use mathlib.Core.Path.{◌≡◌, refl, sym, ap, subst, ◌∙◌}
 use mathlib.Core.Bool.{true, false}
-use mathlib.Core.List.{List, ◌++◌}
-use mathlib.Core.Option.{Option, none, some}
-use Prim.Native.Nat.{ℕ, min, ◌+◌, ◌<◌, ◌≤◌}
+use mathlib.Core.List.{List, [], ◌∷◌, ◌++◌}
+use Rattle.std.specs.Prelude.{Option, None as none, Some as some}
+use Prim.Native.Nat.{ℕ, suc, ◌+◌, ◌<◌, ◌≤◌}
+use mir.Syntax.{w16}
+use mir.Val.{Fits}
 use native.Mathlib.Omega.{arith}
-use lib.ListN.{length, take, length-append, length-take}
+use lib.ListN.{length, get_or, length-append}
 use borrow.Author.Tests.{lt-ltb, le-ltb}
 use Rattle.theory.specs.Limit.{first_terms, max_arguments}
 use Rattle.theory.specs.Kind.{Op, kind}
@@ -17,8 +19,8 @@ use Rattle.text.proofs.Encoding.{record_kind, record_lone, words_length}
 use Rattle.text.proofs.Placed.{small}
 use Rattle.writer.specs.declared.places.Spot.{Spot}
 use Rattle.writer.specs.declared.places.Put.{Put}
-use Rattle.writer.specs.declared.places.Put.TheVariants as P
-use Rattle.writer.specs.Places.{so_far, Ready, Moved, Puts}
+use Rattle.words.proofs.ReadLaws.{reads_some}
+use Rattle.writer.specs.Places.{so_far, Ready, Puts}
 use Rattle.writer.proofs.Moves.{moved_none}
 
 -- ---- the record of a term is one, and no step
@@ -55,26 +57,18 @@ module _ (room : ℕ) (o : Op) (ks : List ℕ) (job : Bytes) where
   unfolding put_term
   put_high h e = rw (le-ltb (kind o) first_terms h, e)
 
-pub puts_as : {old new work : Bytes} {from : Spot} {q p : Option Placed} {r : Put} → Puts old new work from q r → p ≡ q → Puts old new work from p r
+pub puts_as : {old new work : Bytes} {from : Spot} {q p : Option Placed} {r : Option Put} → Puts old new work from q r → p ≡ q → Puts old new work from p r
 puts_as {old} {new} {work} {from} {q} {p} {r} h e = subst (λ (x : Option Placed). Puts old new work from x r) (sym e) h
 
-pub puts_none : {old new work : Bytes} {from : Spot} {q : Option Placed} → q ≡ none → Puts old new work from q P.Full
-puts_none e = record { is = sym e; moved = tt }
+pub puts_here : {out work : Bytes} {s : Spot} {q : Option Placed} {k n : ℕ} → Ready out work s → q ≡ some (placed k (so_far out s)) → n ≡ k
+    → Puts out out work s q (some (record { number = n; spot = s }))
+puts_here {out} {work} {s} g e f = reads_some (e ∙ ap (λ (m : ℕ). some (placed m (so_far out s))) (sym f)) (moved_none g)
 
-pub puts_here : {out work : Bytes} {s : Spot} {q : Option Placed} {k n : ℕ} → Ready out work s → q ≡ some (placed k (so_far out s)) → n ≡ k → Puts out out work s q (P.At n s)
-puts_here {out} {work} {s} g e f = record { is = ap (λ (m : ℕ). some (placed m (so_far out s))) f ∙ sym e; moved = moved_none g }
+-- numbers of two bytes
+words_small : (ks : List ℕ) → ((i : ℕ) → Fits w16 (get_or ks i 0)) → all_below number_end ks ≡ true
+words_small [] h = refl
+words_small (k ∷ ks) h = let l = (h 0).fits in rw (lt-ltb k number_end l) (words_small ks (λ i. h (suc i)))
 
--- ---- what a callee said
-pub put_said : {old new work : Bytes} {from : Spot} {q : Option Placed} {r : Put} {k : ℕ} {s : Spot} → Puts old new work from q r → r ≡ P.At k s
-    → (q ≡ some (placed k (so_far new s))) × Moved old new work from s
-put_said {old} {new} {work} {from} {q} {r} {k} {s} h e = let g : Puts old new work from q (P.At k s) = subst (Puts old new work from q) e h in (sym g.is, g.moved)
-
-pub put_full : {old new work : Bytes} {from : Spot} {q : Option Placed} {r : Put} → Puts old new work from q r → r ≡ P.Full → q ≡ none
-put_full {old} {new} {work} {from} {q} {r} h e = let g : Puts old new work from q P.Full = subst (Puts old new work from q) e h in sym g.is
-
-pub take_few : (numbers : List ℕ) (count : ℕ) → count ≤ max_arguments → length (take count numbers) ≤ max_arguments
-take_few numbers count h = let l : length (take count numbers) ≡ min count (length numbers) = length-take count numbers in omega arith
-
-pub puts_record : {old new work : Bytes} {from : Spot} (room : ℕ) (o : Op) (ks : List ℕ) (job : Bytes) {x : Bytes} {r : Put} → first_terms ≤ kind o → all_below number_end ks ≡ true → x ≡ term_record o ks
+pub puts_record : {old new work : Bytes} {from : Spot} (room : ℕ) (o : Op) (ks : List ℕ) (job : Bytes) {x : Bytes} {r : Option Put} → first_terms ≤ kind o → ((i : ℕ) → Fits w16 (get_or ks i 0)) → x ≡ term_record o ks
     → Puts old new work from (keep room x job) r → Puts old new work from (put_term room o (placed_all ks job)) r
-puts_record room o ks job h b e p = puts_as p (put_high room o ks job h b ∙ ap (λ (y : Bytes). keep room y job) (sym e))
+puts_record room o ks job h b e p = puts_as p (put_high room o ks job h (words_small ks b) ∙ ap (λ (y : Bytes). keep room y job) (sym e))

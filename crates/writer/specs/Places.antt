@@ -1,6 +1,5 @@
 -- Where the job stands in the memory for it, and what putting a term changes.
-use Rattle.std.specs.Prelude.{◌≡◌, ◌||◌, cond, List, ◌++◌, ℕ, ◌≤◌, ◌<◌, eqb, length, take, drop}
-use Rattle.std.proofs.Math.Option.{Option, none, some}
+use Rattle.std.specs.Prelude.{◌≡◌, List, ◌++◌, ℕ, ◌≤◌, ◌<◌, length, take, drop, Option}
 use Rattle.theory.specs.Limit.{number_bytes}
 use Rattle.theory.specs.Record.{Bytes, kind_of, step_kind}
 use Rattle.theory.specs.Kind.{Op}
@@ -8,10 +7,10 @@ use Rattle.text.specs.Writing.{Lone, Clean, kept, Placed, placed, term_record}
 use Rattle.rows.specs.Layout.{link_bytes}
 use Rattle.rows.specs.Rows.{kept_as}
 use Rattle.table.specs.Buckets.{TableAs}
+use Rattle.words.specs.Tables.{Reads}
 use Rattle.words.specs.Words.{piece}
 use Rattle.writer.specs.declared.places.Spot.{Spot}
 use Rattle.writer.specs.declared.places.Put as put
-use Rattle.writer.specs.declared.places.Put.TheVariants.{Full, At}
 
 -- the job so far
 abbrev pub so_far : Bytes → Spot → Bytes
@@ -56,38 +55,18 @@ pub record Moved (old new work : Bytes) (from s : Spot) : Type 0 where
   pub grown : from.done ≤ s.done
   pub past : drop s.done new ≡ drop s.done old
 
--- what the code says of a term that was put
-abbrev pub told_put : Bytes → put.Put → Option Placed
-told_put out Full = none
-told_put out (At k s) = some (placed k (so_far out s))
-
-abbrev pub put_moved : Bytes → Bytes → Bytes → Spot → put.Put → Type 0
-put_moved old new work from Full = Unit {0}
-put_moved old new work from (At k s) = Moved old new work from s
-
 -- a term was put, or did not fit
-pub record Puts (old new work : Bytes) (from : Spot) (expected : Option Placed) (r : put.Put) : Type 0 where
-  pub is : told_put new r ≡ expected
-  pub moved : put_moved old new work from r
-
--- what the code says of a step that was put
-abbrev pub told_job : Bytes → put.Put → Option Bytes
-told_job out Full = none
-told_job out (At k s) = some (so_far out s)
+abbrev pub Puts : Bytes → Bytes → Bytes → Spot → Option Placed → Option put.Put → Type 0
+Puts old new work from expected r = Reads (λ p. placed p.number (so_far new p.spot)) (λ p. Moved old new work from p.spot) expected r
 
 -- a step was put, or did not fit
-pub record Steps (old new work : Bytes) (from : Spot) (expected : Option Bytes) (r : put.Put) : Type 0 where
-  pub is : told_job new r ≡ expected
-  pub moved : put_moved old new work from r
+abbrev pub Steps : Bytes → Bytes → Bytes → Spot → Option Bytes → Option Spot → Type 0
+Steps old new work from expected r = Reads (λ s. so_far new s) (λ s. Moved old new work from s) expected r
 
 -- ---- a record, built in an array
 -- the most bytes of a term's record: its length, its kind, the numbers in the kind, its arguments
 abbrev pub key_bytes : ℕ
 key_bytes = 142
-
--- the bytes of the numbers in a kind
-unfoldable pub front_size : ℕ → ℕ
-front_size k = cond (eqb k 10 || eqb k 30 || eqb k 58) 2 (cond (eqb k 11 || eqb k 57) 4 (cond (eqb k 12) 10 0))
 
 -- the record of a term stands at the start of the array
 pub record Encoded (key : Bytes) (o : Op) (ks : List ℕ) (size : ℕ) : Type 0 where

@@ -1,4 +1,4 @@
 // Terms and steps put into the memory for a job, each term once.
-#![tactic(auto)]
+#![tactic(auto, using(crate::proofs::Sets::laws))]
 
 pub mod places;

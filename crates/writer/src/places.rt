@@ -1,46 +1,42 @@
 // Where the job stands in the memory for it, and terms put there.
-ghost use Rattle.std.specs.Prelude.{true, ◌≡◌, ◌+◌, ◌≤◌, ◌<◌, length, take};
+ghost use Rattle.std.specs.Prelude.{◌≡◌, ◌+◌, ◌≤◌, ◌<◌, length};
 ghost use Rattle.std.proofs.lemmas.List.Edits.{sets};
 ghost use Rattle.theory.specs.Limit.{first_terms, number_bytes, max_terms, max_arguments};
 ghost use Rattle.theory.specs.Record.{kind_of, step_kind};
-ghost use Rattle.theory.specs.Codes.{all_below};
-ghost use Rattle.text.specs.Reading.{number_end};
 ghost use Rattle.text.specs.Writing.{Lone, kept, place_from, front_bytes, keep, put_term, put_step, placed, placed_all};
-ghost use Rattle.words.specs.Tables.{told_place};
 ghost use Rattle.names.specs.Kinds.{op_of, Known};
-ghost use Rattle.writer.specs.Places.{so_far, Ready, Longer, Grows, Puts, Steps, Encoded, key_bytes, front_size};
+ghost use Rattle.writer.specs.Places.{so_far, Ready, Longer, Grows, Puts, Steps, Encoded, key_bytes};
 
-use names::kinds::Kind;
+use names::kinds::{Indices, Kind, family};
 use rows::bytes::put_number;
+use rows::layout::OFFSET_BYTES;
 use rows::{FIRST_PLACE, MISSING};
 use table::{Added, add_as, find_record};
-use terms::{Frame, Term};
-use words::tables::Found;
+use terms::Term;
 use words::tokens::same;
 
-// The bytes of an array that is long enough for any term's record.
-const KEY_BYTES: usize = 142;
+// The bytes of an array that is long enough for any term's record: a constant's kind has the
+// most bytes of numbers.
+const KEY_BYTES: usize = Term::BODY_AT
+    + Term::NUMBER_BYTES
+    + Term::VALUE_BYTES
+    + Term::NUMBER_BYTES * Term::MAX_ARGUMENTS;
 
-// Where the kind stands in a record.
-const KIND_AT: usize = Term::NUMBER_BYTES;
+// A step's body is the rule's number and the literals, here one ..
+const LITERAL_AT: usize = Term::BODY_AT + Term::NUMBER_BYTES;
 
-// Where the body stands.
-const BODY_AT: usize = 2 * Term::NUMBER_BYTES;
-
-// The bytes of a step with one literal.
-const STEP_BYTES: usize = 8;
+// .. so that it has so many bytes.
+const STEP_BYTES: usize = LITERAL_AT + Term::NUMBER_BYTES;
 
 // The kind of a step.
 const STEP: u32 = 100;
 
-// The first number that a record's two bytes can't hold.
-const NUMBER_END: usize = 65536;
+// The longest part of a job that rows can cover, in bytes: the offset in a row has three.
+const MAX_COVERED: usize = 1 << (8 * OFFSET_BYTES);
 
-// The longest part of a job that rows can cover: an offset has three bytes.
-const MAX_COVERED: usize = 16777216;
-
-// Where the job stands: its bytes and its terms, `true` and `false` not counted; how many of these, the first ones, have a row in the
-// work memory, and the bytes of the job up to the last of them.
+// Where the job stands: its bytes and its terms, `true` and `false` not counted; how many of
+// these, the first ones, have a row in the work memory, and the bytes of the job up to the last
+// of them.
 #[derive(Clone, Copy)]
 pub struct Spot {
     pub done: usize,
@@ -49,83 +45,62 @@ pub struct Spot {
     pub covered: usize,
 }
 
-// A term that was put: its number, and where the job stands then; or it does not fit.
+// A term that was put: its number, and where the job stands then.
 #[derive(Clone, Copy)]
-pub enum Put {
-    Full,
-    At(usize, Spot),
+pub struct Put {
+    pub number: usize,
+    pub spot: Spot,
 }
 
-// The number of the term whose record equals `wanted`, the first of the job having the number `first`: a walk over the records, in which
-// steps have no number.
-#[tactic(auto, using(crate::proofs::PlaceLaws::walk_start, crate::proofs::PlaceLaws::walk_missing, crate::proofs::PlaceLaws::walk_fits, crate::proofs::PlaceLaws::walk_step, crate::proofs::PlaceLaws::walk_found, crate::proofs::PlaceLaws::walk_on))]
-fn walk_records(job: &[u8], first: usize, wanted: &[u8]) -> Found
+// The number of the term whose record equals `wanted`, the first of the job having the number
+// `first`: a walk over the records, in which steps have no number.
+fn walk_records(job: &[u8], first: usize, wanted: &[u8]) -> Option<usize>
     requires { first ≤ max_terms number_bytes }
-    ensures { told_place result ≡ place_from first wanted.now (kept job.now) }
+    ensures { result ≡ place_from first wanted.now (kept job.now) }
 {
     let mut at: usize = 0;
     let mut place = first;
-    loop {
-        let Frame::Whole(size) = Term::frame(job, at) else {
-            break Found::Missing;
-        };
+    while let Some(size) = Term::frame(job, at) {
         let start = at;
-        at = start + size;
-        if Term::number(job, start + KIND_AT) == STEP {
+        at += size;
+        if Term::number(job, start + Term::KIND_AT) == STEP {
             continue;
         }
         if same(wanted, &job[start..at]) {
-            break Found::At(place);
+            return Some(place);
         }
         place += 1;
     }
+    None
 }
 
-// The number of the term whose record equals `wanted`: by the table over the rows, then by a walk over the records after those that have one.
-fn find_term(wanted: &[u8], out: &[u8], work: &[u8], spot: Spot) -> Found
+// The number of the term whose record equals `wanted`: by the table over the rows, then by a walk
+// over the records after those that have one.
+fn find_term(wanted: &[u8], out: &[u8], work: &[u8], spot: Spot) -> Option<usize>
     requires { Ready out.now work.now spot }
-    ensures { told_place result
-        ≡ place_from first_terms wanted.now (kept (so_far out.now spot)) }
+    ensures { result ≡ place_from first_terms wanted.now (kept (so_far out.now spot)) }
 {
     let covered = spot.covered;
-    let done = spot.done;
     let place = find_record(&out[..covered], work, Term::NUMBER_BYTES, spot.rows, wanted);
     if place != MISSING {
-        return Found::At(place as usize);
+        return Some(place as usize);
     }
-    walk_records(&out[covered..done], spot.rows + FIRST_PLACE, wanted)
+    walk_records(&out[covered..spot.done], spot.rows + FIRST_PLACE, wanted)
 }
 
-// Copies bytes to `at`.
-#[tactic(auto, using(crate::proofs::PlaceLaws::copy_turn, crate::proofs::PlaceLaws::copy_end))]
-fn copy(out: &mut [u8], at: usize, bytes: &[u8])
-    requires { at + length bytes.now ≤ length out.old }
-    ensures { out.new ≡ sets out.old at bytes.now }
-{
-    let mut i: usize = 0;
-    while i < bytes.len() {
-        out[at + i] = bytes[i];
-        i += 1;
-    }
-}
-
-// Where the job stands with the term whose record is put at its end, up to `end`. It gets a row where every term before it has one, there
-// is room for it, and its offset fits into a row.
-#[tactic(auto, using(crate::proofs::CoverLaws::unchanged, crate::proofs::PlaceLaws::grows_plain, crate::proofs::PlaceLaws::grows_row, crate::proofs::PlaceLaws::add_ready, crate::proofs::PlaceLaws::add_ends), unfolding(rows::specs::Layout::link_bytes))]
+// Where the job stands with the term whose record is put at its end, up to `end`. It gets a row
+// where every term before it has one, there is room for it, and its offset fits into a row.
 fn cover(out: &[u8], work: &mut [u8], spot: Spot, end: usize) -> Spot
     requires { Longer out.now work.old spot end }
     ensures { Grows out.now work.new end result }
 {
-    let done = spot.done;
-    let rows = spot.rows;
     let terms = spot.terms + 1;
     let plain = Spot {
         done: end,
-        terms: terms,
-        rows: rows,
-        covered: spot.covered,
+        terms,
+        ..spot
     };
-    if rows != spot.terms {
+    if spot.rows != spot.terms {
         return plain;
     }
     if MAX_COVERED < end {
@@ -135,168 +110,155 @@ fn cover(out: &[u8], work: &mut [u8], spot: Spot, end: usize) -> Spot
         &out[..end],
         work,
         Term::NUMBER_BYTES,
-        rows,
+        spot.rows,
         Term::MAX_TERMS,
-        done,
+        spot.done,
         0,
     );
-    if let Added::New(_) = added {
-        return Spot {
+    match added {
+        Added::New(_) => Spot {
             done: end,
-            terms: terms,
+            terms,
             rows: terms,
             covered: end,
-        };
+        },
+        _ => plain,
     }
-    plain
 }
 
-// Puts a term's record at the end, unless an equal one is there.
-#[tactic(auto, using(words::proofs::TableLaws::place_said, words::proofs::TableLaws::place_not, crate::proofs::PlaceLaws::keep_there, crate::proofs::PlaceLaws::keep_full, crate::proofs::PlaceLaws::keep_longer, crate::proofs::PlaceLaws::keep_put))]
-fn keep(bytes: &[u8], out: &mut [u8], work: &mut [u8], spot: Spot) -> Put
-    requires { Ready out.old work.old spot × Lone bytes.now × (kind_of bytes.now < step_kind) }
+// Puts a term's record at the end, unless an equal one is there; none where it does not fit.
+fn keep(bytes: &[u8], out: &mut [u8], work: &mut [u8], spot: Spot) -> Option<Put>
+    requires ready { Ready out.old work.old spot }
+    requires lone { Lone bytes.now }
+    requires low { kind_of bytes.now < step_kind }
     ensures { Puts out.old out.new work.new spot
         (keep (length out.old) bytes.now (so_far out.old spot)) result }
 {
-    let found = find_term(bytes, out, work, spot);
-    if let Found::At(k) = found {
-        return Put::At(k, spot);
+    if let Some(number) = find_term(bytes, out, work, spot) {
+        return Some(Put { number, spot });
     }
     let done = spot.done;
     if out.len() - done < bytes.len() {
-        return Put::Full;
+        return None;
     }
-    copy(out, done, bytes);
-    Put::At(spot.terms + 2, cover(out, work, spot, done + bytes.len()))
+    let end = done + bytes.len();
+    out[done..end].copy_from_slice(bytes);
+    Some(Put {
+        number: spot.terms + FIRST_PLACE,
+        spot: cover(out, work, spot, end),
+    })
 }
 
 // The bytes of the numbers in a kind.
-#[tactic(auto, unfolding(crate::specs::Places::front_size))]
-fn front_size(k: u32) -> usize
-    ensures { result ≡ front_size k }
+fn front_size(kind: Kind) -> usize
+    requires { Known kind }
+    ensures { result ≡ length (front_bytes (op_of kind)) }
 {
-    if k == 10 {
-        return 2;
+    match family(kind.number) {
+        Some(Indices::Indexed) => Term::NUMBER_BYTES,
+        Some(Indices::TwiceIndexed) => 2 * Term::NUMBER_BYTES,
+        Some(Indices::Valued) => Term::NUMBER_BYTES + Term::VALUE_BYTES,
+        _ => 0,
     }
-    if k == 30 {
-        return 2;
-    }
-    if k == 58 {
-        return 2;
-    }
-    if k == 11 {
-        return 4;
-    }
-    if k == 57 {
-        return 4;
-    }
-    if k == 12 {
-        return 10;
-    }
-    0
 }
 
 // Stores the numbers in a kind.
-#[tactic(auto, using(rows::proofs::RowLaws::sets_append, crate::proofs::PlaceLaws::no_front, crate::proofs::PlaceLaws::one_front, crate::proofs::PlaceLaws::two_front, crate::proofs::PlaceLaws::value_front))]
 fn put_front(kind: Kind, key: &mut [u8])
-    requires { (length key.old ≡ key_bytes) × Known kind }
+    requires sized { length key.old ≡ key_bytes }
+    requires known { Known kind }
     ensures { key.new ≡ sets key.old 4 (front_bytes (op_of kind)) }
 {
-    let size = front_size(kind.number);
-    if size == 0 {
-        return;
+    let x = kind.x as usize;
+    let y = kind.y as usize;
+    let second = Term::BODY_AT + Term::NUMBER_BYTES;
+    match family(kind.number) {
+        Some(Indices::Indexed) => put_number(key, Term::BODY_AT, Term::NUMBER_BYTES, x),
+        Some(Indices::TwiceIndexed) => {
+            put_number(key, Term::BODY_AT, Term::NUMBER_BYTES, x);
+            put_number(key, second, Term::NUMBER_BYTES, y);
+        }
+        Some(Indices::Valued) => {
+            put_number(key, Term::BODY_AT, Term::NUMBER_BYTES, x);
+            put_number(key, second, Term::VALUE_BYTES, y);
+        }
+        _ => {}
     }
-    put_number(key, BODY_AT, Term::NUMBER_BYTES, kind.x as usize);
-    if size == 2 {
-        return;
-    }
-    if size == 4 {
-        put_number(
-            key,
-            BODY_AT + Term::NUMBER_BYTES,
-            Term::NUMBER_BYTES,
-            kind.y as usize,
-        );
-        return;
-    }
-    put_number(
-        key,
-        BODY_AT + Term::NUMBER_BYTES,
-        Term::VALUE_BYTES,
-        kind.y as usize,
-    );
 }
 
 // Stores the record of a term, and returns its size.
-#[tactic(auto, using(crate::proofs::PlaceLaws::fill_turn, crate::proofs::PlaceLaws::fill_end, crate::proofs::PlaceLaws::size_few, crate::proofs::PlaceLaws::size_of_front))]
-fn encode(kind: Kind, numbers: [u16; Term::MAX_ARGUMENTS], count: usize, key: &mut [u8]) -> usize
-    requires { (length key.old ≡ key_bytes) × Known kind × (count ≤ max_arguments) }
-    ensures { Encoded key.new (op_of kind) (take count numbers) result }
+fn encode(kind: Kind, numbers: &[u16], key: &mut [u8]) -> usize
+    requires sized { length key.old ≡ key_bytes }
+    requires known { Known kind }
+    requires few { length numbers.now ≤ max_arguments }
+    ensures { Encoded key.new (op_of kind) numbers.now result }
 {
-    let front = front_size(kind.number);
-    let size = BODY_AT + front + Term::NUMBER_BYTES * count;
+    let front = front_size(kind);
+    let size = Term::BODY_AT + front + Term::NUMBER_BYTES * numbers.len();
     put_number(key, 0, Term::NUMBER_BYTES, size - Term::NUMBER_BYTES);
-    put_number(key, KIND_AT, Term::NUMBER_BYTES, kind.number as usize);
+    put_number(key, Term::KIND_AT, Term::NUMBER_BYTES, kind.number as usize);
     put_front(kind, key);
-    let mut at = BODY_AT + front;
-    let mut i: usize = 0;
-    while i < count {
-        put_number(key, at, Term::NUMBER_BYTES, numbers[i] as usize);
+    let mut at = Term::BODY_AT + front;
+    for &number in numbers {
+        put_number(key, at, Term::NUMBER_BYTES, number as usize);
         at += Term::NUMBER_BYTES;
-        i += 1;
     }
     size
 }
 
-// Puts a term of that kind, whose arguments are the first `count` numbers, unless an equal one is there.
-#[tactic(auto, using(crate::proofs::PutLaws::term_lone, crate::proofs::PutLaws::term_low, crate::proofs::PutLaws::put_low, crate::proofs::PutLaws::puts_here, crate::proofs::PutLaws::take_few, crate::proofs::PutLaws::puts_record))]
+// Puts a term of that kind with these arguments, unless an equal one is there; none where it does
+// not fit.
 pub fn put_term(
     kind: Kind,
-    numbers: [u16; Term::MAX_ARGUMENTS],
-    count: usize,
+    numbers: &[u16],
     out: &mut [u8],
     work: &mut [u8],
     spot: Spot,
-) -> Put
-    requires { Ready out.old work.old spot × Known kind × (count ≤ max_arguments)
-        × (all_below number_end (take count numbers) ≡ true) }
+) -> Option<Put>
+    requires ready { Ready out.old work.old spot }
+    requires known { Known kind }
+    requires few { length numbers.now ≤ max_arguments }
     ensures { Puts out.old out.new work.new spot
         (put_term (length out.old) (op_of kind)
-        (placed_all (take count numbers) (so_far out.old spot))) result }
+        (placed_all numbers.now (so_far out.old spot))) result }
 {
-    if kind.number < 2 {
-        return Put::At(kind.number as usize, spot);
+    let number = kind.number as usize;
+    if number < FIRST_PLACE {
+        return Some(Put { number, spot });
     }
     let mut key = [0u8; KEY_BYTES];
-    let size = encode(kind, numbers, count, &mut key);
+    let size = encode(kind, numbers, &mut key);
     keep(&key[..size], out, work, spot)
 }
 
-// Puts a step with one literal; the number returned is the rule's.
-#[tactic(auto, using(crate::proofs::StepLaws::step_over, crate::proofs::StepLaws::step_full, crate::proofs::StepLaws::step_put, crate::proofs::StepLaws::step_row))]
-pub fn put_step(rule: u32, literal: usize, out: &mut [u8], work: &mut [u8], spot: Spot) -> Put
+// Puts a step with one literal, and returns where the job stands then; none where it does not fit,
+// or where the literal's number has more than two bytes.
+pub fn put_step(
+    rule: u32,
+    literal: usize,
+    out: &mut [u8],
+    work: &mut [u8],
+    spot: Spot,
+) -> Option<Spot>
     requires { Ready out.old work.old spot }
     ensures { Steps out.old out.new work.new spot
         (put_step (length out.old) rule (placed literal (so_far out.old spot))) result }
 {
-    if NUMBER_END <= literal {
-        return Put::Full;
-    }
+    let number = u16::try_from(literal).ok()?;
     let done = spot.done;
     if out.len() - done < STEP_BYTES {
-        return Put::Full;
+        return None;
     }
-    put_number(out, done, Term::NUMBER_BYTES, 6);
-    put_number(out, done + 2, Term::NUMBER_BYTES, STEP as usize);
-    put_number(out, done + 4, Term::NUMBER_BYTES, rule as usize);
-    put_number(out, done + 6, Term::NUMBER_BYTES, literal);
-    Put::At(
-        rule as usize,
-        Spot {
-            done: done + STEP_BYTES,
-            terms: spot.terms,
-            rows: spot.rows,
-            covered: spot.covered,
-        },
-    )
+    put_number(
+        out,
+        done,
+        Term::NUMBER_BYTES,
+        STEP_BYTES - Term::NUMBER_BYTES,
+    );
+    put_number(out, done + Term::KIND_AT, Term::NUMBER_BYTES, STEP as usize);
+    put_number(out, done + Term::BODY_AT, Term::NUMBER_BYTES, rule as usize);
+    put_number(out, done + LITERAL_AT, Term::NUMBER_BYTES, number as usize);
+    Some(Spot {
+        done: done + STEP_BYTES,
+        ..spot
+    })
 }

@@ -1,32 +1,31 @@
-use mathlib.Core.Path.{sym, ◌∙◌}
-use lib.Seq.{length-take-le}
-use Rattle.names.proofs.MarkLaws.{passed_is, passed_not}
-use Rattle.convert.proofs.TakeLaws.{line_1, line_2, line_3, line_4, line_begun, line_undeclared, lined_bad, step_none, declare_none, lined_step, lined_declared}
+use mathlib.Core.Path.{◌∙◌}
+use Rattle.words.proofs.ReadLaws.{read_none, read_some, reads_none}
+use Rattle.convert.proofs.TakeLaws.{line_1, line_2, line_3, line_4, line_begun, line_undeclared, lined_step, lined_declared}
 use Rattle.convert.proofs.line.take_line.Goals as goal
 
-pub returns-then-a-eq0 : goal.returns-then-a-eq0
-returns-then-a-eq0 c = lined_bad c.refused.ensures (line_1 _ _ _ (passed_not c.left_after-a.ensures c.if-a-eq0.true))
-
-pub returns-then-b-eq0 : goal.returns-then-b-eq0
-returns-then-b-eq0 c = lined_bad c.refused-then-b-eq0.ensures (line_2 _ _ _ (passed_is c.left_after-a.ensures c.if-a-eq0.false) (passed_not c.word_after.ensures c.if-word_after-eq0.true) (passed_not c.word_after-b.ensures c.if-b-eq0.true))
-
-pub slice_bounds-take_step-end : goal.slice_bounds-take_step-end
-slice_bounds-take_step-end c = sym (length-take-le _ _ c.requires.3.within)
-
-pub returns-in_default : goal.returns-in_default
-returns-in_default c = lined_bad c.refused-in_default.ensures (line_3 _ _ _ (passed_is c.left_after-a.ensures c.if-a-eq0.false) (passed_not c.word_after.ensures c.if-word_after-eq0.true) (passed_is c.word_after-b.ensures c.if-b-eq0.false) ∙ step_none c.take_step.ensures c.in_default.is c.args.s.begun)
-
-pub returns-then-word_after-eq0 : goal.returns-then-word_after-eq0
-returns-then-word_after-eq0 c = lined_step c.requires.0 c.requires.1 c.requires.2 c.requires.3 c.take_step.ensures c.in-At.is (line_3 _ _ _ (passed_is c.left_after-a.ensures c.if-a-eq0.false) (passed_not c.word_after.ensures c.if-word_after-eq0.true) (passed_is c.word_after-b.ensures c.if-b-eq0.false))
+pub returns-in_err-a : goal.returns-in_err-a
+returns-in_err-a c = rw c.from_residual.ensures (reads_none (line_1 _ _ _ (read_none c.left_after.ensures c.in_err-a.was)))
 
 pub returns-then-s : goal.returns-then-s
-returns-then-s c = lined_bad c.refused-then-s.ensures (line_begun _ _ _ _ c.if-s.true (passed_is c.left_after-a.ensures c.if-a-eq0.false) (passed_is c.word_after.ensures c.if-word_after-eq0.false))
+returns-then-s c = reads_none (line_begun _ _ _ _ c.if-s.true (read_some c.left_after.ensures c.in_ok-a.was) (read_some c.word_after.ensures c.in-Some.is))
 
-pub slice_bounds-declare-end : goal.slice_bounds-declare-end
-slice_bounds-declare-end c = sym (length-take-le _ _ c.requires.3.within)
+pub returns-in_err-spot : goal.returns-in_err-spot
+returns-in_err-spot c = rw c.from_residual-in_err-spot.ensures (reads_none (line_undeclared _ _ _ _ c.if-s.false (read_some c.left_after.ensures c.in_ok-a.was) (read_some c.word_after.ensures c.in-Some.is) (read_none c.declare.ensures c.in_err-spot.was)))
 
-pub returns-in_default-declare : goal.returns-in_default-declare
-returns-in_default-declare c = lined_bad c.refused-in_default-declare.ensures (line_undeclared _ _ _ _ c.if-s.false (passed_is c.left_after-a.ensures c.if-a-eq0.false) (passed_is c.word_after.ensures c.if-word_after-eq0.false) (declare_none c.declare.ensures c.in_default-declare.is))
+pub returns-in-Some : goal.returns-in-Some
+returns-in-Some c = lined_declared c.requires.inside c.requires.ends c.requires.goes_on c.requires.between c.if-s.false c.declare.ensures c.in_ok-spot.was (line_4 _ _ _ (read_some c.left_after.ensures c.in_ok-a.was) (read_some c.word_after.ensures c.in-Some.is))
+
+pub returns-in_err-b : goal.returns-in_err-b
+returns-in_err-b c = rw c.from_residual-in_err-b.ensures (reads_none (line_2 _ _ _ (read_some c.left_after.ensures c.in_ok-a.was) (read_none c.word_after.ensures c.in_default.is) (read_none c.word_after-2.ensures c.in_err-b.was)))
+
+pub returns-in_err-after : goal.returns-in_err-after
+returns-in_err-after c =
+    rw c.from_residual-in_err-after.ensures
+    (reads_none
+    (line_3 _ _ _ (read_some c.left_after.ensures c.in_ok-a.was) (read_none c.word_after.ensures c.in_default.is) (read_some c.word_after-2.ensures c.in_ok-b.was)
+    ∙ read_none (c.take_step.ensures c.args.s.begun) c.in_err-after.was))
 
 pub returns : goal.returns
-returns c = lined_declared c.requires.0 c.requires.1 c.requires.2 c.requires.3 c.if-s.false c.declare.ensures c.in-At-declare.is (line_4 _ _ _ (passed_is c.left_after-a.ensures c.if-a-eq0.false) (passed_is c.word_after.ensures c.if-word_after-eq0.false))
+returns c =
+    lined_step c.requires.inside c.requires.ends c.requires.goes_on c.requires.between c.take_step.ensures c.in_ok-after.was
+    (line_3 _ _ _ (read_some c.left_after.ensures c.in_ok-a.was) (read_none c.word_after.ensures c.in_default.is) (read_some c.word_after-2.ensures c.in_ok-b.was))

@@ -1,63 +1,68 @@
-use borrow.Author.Rules.{rules}
 use native.Mathlib.Omega.{arith}
-use mathlib.Core.Path.{ap}
-use borrow.Author.Tests.{not-true, not-false}
-use Rattle.reader.specs.Reader.{fitting}
+use mathlib.Core.Path.{refl, ap, ◌∙◌}
+use Rattle.std.specs.Prelude as rust
+use Rattle.words.proofs.ReadLaws.{read_none, read_some, reads_none, reads_as}
+use Rattle.writer.proofs.StepLaws.{two_bytes}
 use Rattle.reader.proofs.ReaderLaws.{no_head, at_leaf}
-use Rattle.reader.proofs.TermLaws.{begin_leaf, begin_branch, begin_bad, list_said, list_bad, read_none, reads_as, at_zero, at_none, branch_reads}
-use Rattle.reader.proofs.LoopLaws.{goes, goes_on, goes_out, goes_over, goes_bad, goes_large, refused, close_said, close_not}
+use Rattle.reader.proofs.TermLaws.{at_zero, at_none, branch_reads}
+use Rattle.reader.proofs.LoopLaws.{not_two_bytes, goes_on, goes_out, goes_over, goes_bad, goes_large}
 use Rattle.reader.proofs.reading.+read_arguments_read_term.Goals as goal
 
-pub read_arguments-loop-end-init : goal.read_arguments-loop-end-init
-read_arguments-loop-end-init t c = let p = c.requires in
-    goes p.1 p.0 (search rules)
+pub read_arguments-returns-in-Some : goal.read_arguments-returns-in-Some
+read_arguments-returns-in-Some t c = goes_out c.loop-count.invariant (read_some c.right_after.ensures c.in-Some.is) (c.right_after.ensures.fits _ c.in-Some.is) refl
 
-pub read_arguments-returns-in-After : goal.read_arguments-returns-in-After
-read_arguments-returns-in-After t c = let said = close_said c.closing-closed.ensures c.in-After.is in
-    goes_out c.loop-end.invariant said.0 said.1
+pub read_arguments-returns-in_err-term : goal.read_arguments-returns-in_err-term
+read_arguments-returns-in_err-term t c =
+    rw c.from_residual.ensures
+    (reads_none (goes_bad c.loop-count.invariant (read_none c.right_after.ensures c.in_default.is) c.loop-count-test.true c.read_term.ensures c.in_err-term.was))
 
-pub read_arguments-loop-end-preserved : goal.read_arguments-loop-end-preserved
-read_arguments-loop-end-preserved t c = goes_on c.loop-end.invariant (close_not c.closing-closed.ensures c.in_default.is) c.if-count-eq-MAX_ARGUMENTS.false c.read_term.ensures c.in-Term.is c.if-k-ge-NUMBER_END.false c.read_term.auto.out c.read_term.auto.work
+pub read_arguments-returns-in_err-number : goal.read_arguments-returns-in_err-number
+read_arguments-returns-in_err-number t c =
+    let large = not_two_bytes _ _ c.try_from.ensures c.ok.ensures.value c.in_err-number.was in
+    rw c.from_residual-in_err-number.ensures
+    (reads_none (goes_large c.loop-count.invariant (read_none c.right_after.ensures c.in_default.is) c.loop-count-test.true c.read_term.ensures c.in_ok-term.was (omega (arith, large))))
 
-pub read_arguments-returns-then-count-eq-MAX_ARGUMENTS : goal.read_arguments-returns-then-count-eq-MAX_ARGUMENTS
-read_arguments-returns-then-count-eq-MAX_ARGUMENTS t c = refused (ap fitting (goes_over c.loop-end.invariant (close_not c.closing-closed.ensures c.in_default.is) c.if-count-eq-MAX_ARGUMENTS.true))
+pub read_arguments-loop-count-preserved : goal.read_arguments-loop-count-preserved
+read_arguments-loop-count-preserved t c = goes_on c.loop-count.invariant (read_none c.right_after.ensures c.in_default.is) c.loop-count-test.true c.read_term.ensures c.in_ok-term.was (two_bytes _ c.try_from.ensures c.ok.ensures.value c.in_ok-number.was) c.read_term.auto.out c.read_term.auto.work
 
-pub read_arguments-returns-in_default-read_term : goal.read_arguments-returns-in_default-read_term
-read_arguments-returns-in_default-read_term t c = refused (ap fitting (goes_bad c.loop-end.invariant (close_not c.closing-closed.ensures c.in_default.is) c.if-count-eq-MAX_ARGUMENTS.false c.read_term.ensures c.in_default-read_term.is))
+pub read_arguments-returns-in_err-next : goal.read_arguments-returns-in_err-next
+read_arguments-returns-in_err-next t c =
+    let few = c.loop-count.invariant.few in
+    rw c.from_residual-in_err-next.ensures (reads_none (goes_over c.loop-count.invariant (read_none c.right_after-2.ensures c.in_err-next.was) (omega arith)))
 
-pub read_arguments-returns-then-k-ge-NUMBER_END : goal.read_arguments-returns-then-k-ge-NUMBER_END
-read_arguments-returns-then-k-ge-NUMBER_END t c = refused (goes_large c.loop-end.invariant (close_not c.closing-closed.ensures c.in_default.is) c.if-count-eq-MAX_ARGUMENTS.false c.read_term.ensures c.in-Term.is c.if-k-ge-NUMBER_END.true)
+pub read_arguments-returns : goal.read_arguments-returns
+read_arguments-returns t c =
+    let few = c.loop-count.invariant.few in
+    goes_out c.loop-count.invariant (read_some c.right_after-2.ensures c.in_ok-next.was) (c.right_after-2.ensures.fits _ c.in_ok-next.was) (omega arith)
 
-pub read_term-finish_leaf-requires : goal.read_term-finish_leaf-requires
-read_term-finish_leaf-requires t c = let b = begin_leaf c.begin-begun.ensures c.in-Leaf.is in
-    (b.1, c.requires.1, b.2)
+pub read_term-returns-in_err-kind : goal.read_term-returns-in_err-kind
+read_term-returns-in_err-kind t c = rw c.from_residual.ensures (reads_none (no_head _ _ _ _ _ (read_none c.begin.ensures c.in_err-kind.was)))
+
+pub read_term-finish_leaf-requires-clause-inside : goal.read_term-finish_leaf-requires-clause-inside
+read_term-finish_leaf-requires-clause-inside t c = (c.begin.ensures.fits _ (c.in_ok-kind.was ∙ ap rust.Some c.in-Leaf.is)).0
+
+pub read_term-finish_leaf-requires-clause-known : goal.read_term-finish_leaf-requires-clause-known
+read_term-finish_leaf-requires-clause-known t c = (c.begin.ensures.fits _ (c.in_ok-kind.was ∙ ap rust.Some c.in-Leaf.is)).1
 
 pub read_term-returns-then-nesting-eq0 : goal.read_term-returns-then-nesting-eq0
-read_term-returns-then-nesting-eq0 t c = let b = begin_branch c.begin-begun.ensures c.in-Branch.is in
-    read_none (at_zero _ _ _ _ _ _ _ c.if-nesting-eq0.true b.0)
+read_term-returns-then-nesting-eq0 t c = reads_none (at_zero _ _ _ _ _ _ _ c.if-nesting-eq0.true (read_some c.begin.ensures (c.in_ok-kind.was ∙ ap rust.Some c.in-Branch.is)))
 
-pub read_term-read_arguments-l-requires : goal.read_term-read_arguments-l-requires
-read_term-read_arguments-l-requires t c = let b = begin_branch c.begin-begun.ensures c.in-Branch.is in
-    let p = c.requires in
+pub read_term-read_arguments-requires : goal.read_term-read_arguments-requires
+read_term-read_arguments-requires t c =
     let f = c.if-nesting-eq0.false in
-    (omega (arith, c.decreases, f), (b.1, p.1))
+    (omega (arith, c.decreases, f), ((c.begin.ensures.fits _ (c.in_ok-kind.was ∙ ap rust.Some c.in-Branch.is)).0, c.requires.ready))
 
-pub read_term-returns-then-not-l : goal.read_term-returns-then-not-l
-read_term-returns-then-not-l t c = let b = begin_branch c.begin-begun.ensures c.in-Branch.is in
-    read_none (at_none _ _ _ _ _ _ _ c.if-nesting-eq0.false b.0 (list_bad c.read_arguments-l.ensures (not-true _ c.if-not-l.true)))
+pub read_term-returns-in_err-list-in-Branch : goal.read_term-returns-in_err-list-in-Branch
+read_term-returns-in_err-list-in-Branch t c =
+    rw c.from_residual-in_err-list-in-Branch.ensures
+    (reads_none (at_none _ _ _ _ _ _ _ c.if-nesting-eq0.false (read_some c.begin.ensures (c.in_ok-kind.was ∙ ap rust.Some c.in-Branch.is)) (read_none c.read_arguments.ensures c.in_err-list-in-Branch.was)))
 
-pub read_term-finish-requires : goal.read_term-finish-requires
-read_term-finish-requires t c = let l = list_said c.read_arguments-l.ensures (not-false _ c.if-not-l.false) in
-    let b = begin_branch c.begin-begun.ensures c.in-Branch.is in
-    (l.inside, l.moved.ready, b.2, l.few, l.fit)
-
-pub read_term-returns-in-Bad : goal.read_term-returns-in-Bad
-read_term-returns-in-Bad t c = read_none (no_head _ _ _ _ _ (begin_bad c.begin-begun.ensures c.in-Bad.is))
+pub read_term-finish-requires-clause-known : goal.read_term-finish-requires-clause-known
+read_term-finish-requires-clause-known t c = (c.begin.ensures.fits _ (c.in_ok-kind.was ∙ ap rust.Some c.in-Branch.is)).1
 
 pub read_term-returns-in-Leaf : goal.read_term-returns-in-Leaf
-read_term-returns-in-Leaf t c = reads_as c.finish_leaf.ensures (at_leaf _ _ _ _ _ _ _ (begin_leaf c.begin-begun.ensures c.in-Leaf.is).0)
+read_term-returns-in-Leaf t c = reads_as c.finish_leaf.ensures (at_leaf _ _ _ _ _ _ _ (read_some c.begin.ensures (c.in_ok-kind.was ∙ ap rust.Some c.in-Leaf.is)))
 
-pub read_term-returns-else-not-l : goal.read_term-returns-else-not-l
-read_term-returns-else-not-l t c = let l = list_said c.read_arguments-l.ensures (not-false _ c.if-not-l.false) in
-    let b = begin_branch c.begin-begun.ensures c.in-Branch.is in
-    branch_reads _ _ _ _ _ c.if-nesting-eq0.false b.0 l c.read_arguments-l.auto.out c.finish.ensures
+pub read_term-returns-in_ok-list-in-Branch : goal.read_term-returns-in_ok-list-in-Branch
+read_term-returns-in_ok-list-in-Branch t c =
+    branch_reads _ _ _ _ _ c.if-nesting-eq0.false (read_some c.begin.ensures (c.in_ok-kind.was ∙ ap rust.Some c.in-Branch.is)) c.read_arguments.ensures c.in_ok-list-in-Branch.was c.read_arguments.auto.out c.finish.ensures

@@ -1,5 +1,18 @@
-use Rattle.writer.proofs.PutLaws.{term_lone, term_low, take_few}
+use Prim.Native.Nat.{◌≤◌}
+use native.Mathlib.Omega.{arith}
+use Rattle.theory.specs.Limit.{first_terms}
+use Rattle.theory.specs.Kind.{kind}
+use Rattle.names.specs.Kinds.{op_of}
+use Rattle.writer.proofs.PutLaws.{term_lone, term_low, puts_record}
 use Rattle.writer.proofs.places.put_term.Goals as goal
 
-pub keep-requires : goal.keep-requires
-keep-requires c = let few = take_few _ _ c.requires.2 in (c.requires.0, term_lone _ _ few c.encode-size.ensures.is, term_low _ _ few c.encode-size.ensures.is)
+pub keep-requires-clause-lone : goal.keep-requires-clause-lone
+keep-requires-clause-lone c = term_lone _ _ c.requires.few c.encode-size.ensures.is
+
+pub keep-requires-clause-low : goal.keep-requires-clause-low
+keep-requires-clause-low c = term_low _ _ c.requires.few c.encode-size.ensures.is
+
+pub returns : goal.returns
+returns c =
+    let high : first_terms ≤ kind (op_of c.args.kind) = omega (arith, c.requires.known.same) in
+    puts_record _ _ _ _ high c.type_inv.numbers c.encode-size.ensures.is c.keep.ensures
