@@ -5,8 +5,9 @@ ghost use Rattle.convert.specs.Text.{told, text_call};
 
 use convert::{Converted, convert};
 
-// Reads a text of declarations and steps, and writes a job with a step for each step line, for a host. Where a line is refused, the job's
-// memory is all zero. The work memory makes lookups faster and changes no result; it may be of any length, hold anything, and is all zero afterwards.
+// Reads a text of declarations and steps, and writes a job with a step for each step line, for a
+// host. Where a line is refused, the job's memory is all zero. The work memory makes lookups faster
+// and changes no result; it may be of any length, hold anything, and is all zero afterwards.
 pub fn bb_text(text: &[u8], work: &mut [u8], job: &mut [u8]) -> Converted
     ensures result { told result ≡ (text_call text work job).result }
     ensures work { work.new ≡ (text_call text work job).work_memory }

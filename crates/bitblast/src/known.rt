@@ -49,8 +49,9 @@ fn known_job(
     }
 }
 
-// Runs a job and writes the bits of the term of that number, bit 0 first, for a host. A byte is 0, 1, or 2 for a bit that
-// is not known; `inputs` has one for each bit of the variables that stand in the term, the lowest number first.
+// Runs a job and writes the bits of the term of that number, bit 0 first, for a host. A byte is 0,
+// 1, or 2 for a bit that is not known; `inputs` has one for each bit of the variables that stand in
+// the term, the lowest number first.
 pub fn bb_known(
     job: &[u8],
     work: &mut [u8],

@@ -1,5 +1,5 @@
-// What hosts call: the check of a job, what is asked of its final store, a text converted into a job, and the tally. The crate bitblast_c exports
-// the same to C.
+// What hosts call: the check of a job, what is asked of its final store, a text converted into a
+// job, and the tally. The crate bitblast_c exports the same to C.
 #![tactic(auto)]
 
 pub mod alethe;
@@ -20,11 +20,13 @@ use intern::Limits;
 use runs::{Outcome, check_job, lend};
 use terms::Term;
 
-// The number of the interface. It grows with each change of an exported function, or of a struct that one takes or returns.
+// The number of the interface. It grows with each change of an exported function, or of a struct
+// that one takes or returns.
 pub const VERSION: u32 = 8;
 
-// Checks a job, for a host, under a width limit and a limit of the number of terms, `true` and `false` counted; a limit above the rack's is
-// the rack's. The answers stand at the start of their memory, and the work memory is all zero: nothing of the job stays in it.
+// Checks a job, for a host, under a width limit and a limit of the number of terms, `true` and
+// `false` counted; a limit above the rack's is the rack's. The answers stand at the start of their
+// memory, and the work memory is all zero: nothing of the job stays in it.
 pub fn bb_job_within(
     job: &[u8],
     work: &mut [u8],
@@ -32,7 +34,8 @@ pub fn bb_job_within(
     width_limit: u32,
     term_limit: u32,
 ) -> Outcome
-    ensures result { told result ≡ (job_call (stated width_limit term_limit) job work answers).result }
+    ensures result { told result
+        ≡ (job_call (stated width_limit term_limit) job work answers).result }
     ensures answers { answers.new
         ≡ (job_call (stated width_limit term_limit) job work answers).answer_memory }
     ensures work { work.new

@@ -10,7 +10,8 @@ use runs::{Outcome, lend};
 use sweeper::sweep_number;
 use terms::refusal;
 
-// What a sweep comes to: a code, how many assignments there were, on how many the sides differ, and the job's own outcome.
+// What a sweep comes to: a code, how many assignments there were, on how many the sides differ, and
+// the job's own outcome.
 #[repr(C)]
 #[derive(Clone, Copy)]
 pub struct Swept {
@@ -51,7 +52,8 @@ fn sweep_job(
     }
 }
 
-// Runs a job and sweeps the equality of that number: on how many assignments of its variables the two sides differ, for a host.
+// Runs a job and sweeps the equality of that number: on how many assignments of its variables the
+// two sides differ, for a host.
 pub fn bb_sweep(
     job: &[u8],
     work: &mut [u8],

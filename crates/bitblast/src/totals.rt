@@ -3,15 +3,13 @@ ghost use Rattle.std.specs.Prelude.{◌≡◌};
 ghost use Rattle.theory.specs.Tally.{tally_after};
 ghost use Rattle.tally.specs.Counted.{as_tally, answers_in};
 
-use tally::{FORM_ONLY, HELD, REFUSED, Tally, count_up, up};
+use tally::Tally;
 
-// One more job, with its first `count` answers by their codes; where the memory is shorter, the answers that it has whole.
+// One more job, with its first `count` answers by their codes; where the memory is shorter, the
+// answers that it has whole.
 pub fn bb_tally(tally: &mut Tally, answers: &[u8], count: u32)
     ensures { as_tally tally.new
         ≡ tally_after (as_tally tally.old) (answers_in count answers.now) }
 {
-    tally.jobs = up(tally.jobs, 1);
-    tally.held = count_up(tally.held, answers, count, HELD);
-    tally.form_only = count_up(tally.form_only, answers, count, FORM_ONLY);
-    tally.refused = count_up(tally.refused, answers, count, REFUSED);
+    tally.add(answers, count);
 }

@@ -7,8 +7,9 @@ ghost use Rattle.bitblast.specs.Asking.{known_call};
 
 use bitblast::known::Known;
 
-// Runs a job and writes the bits of the term of that number, bit 0 first, for a host. A byte is 0, 1, or 2 for a bit that
-// is not known; `inputs` has one for each bit of the variables that stand in the term, the lowest number first.
+// Runs a job and writes the bits of the term of that number, bit 0 first, for a host. A byte is 0,
+// 1, or 2 for a bit that is not known; `inputs` has one for each bit of the variables that stand in
+// the term, the lowest number first.
 #[unsafe(no_mangle)]
 pub extern "C" fn bb_known(
     job: &[u8],

@@ -1,5 +1,5 @@
-// What C calls: each of the library's functions for hosts under its own name, with its promises and no condition on the caller. include/bitblast.h
-// declares them.
+// What C calls: each of the library's functions for hosts under its own name, with its promises and
+// no condition on the caller. include/bitblast.h declares them.
 #![tactic(auto)]
 
 pub mod alethe;
@@ -18,8 +18,9 @@ ghost use Rattle.runs.specs.Walking.{told, job_call};
 
 use runs::Outcome;
 
-// Checks a job, for a host, under a width limit and a limit of the number of terms, `true` and `false` counted; a limit above the rack's is
-// the rack's. The answers stand at the start of their memory, and the work memory is all zero: nothing of the job stays in it.
+// Checks a job, for a host, under a width limit and a limit of the number of terms, `true` and
+// `false` counted; a limit above the rack's is the rack's. The answers stand at the start of their
+// memory, and the work memory is all zero: nothing of the job stays in it.
 #[unsafe(no_mangle)]
 pub extern "C" fn bb_job_within(
     job: &[u8],
@@ -28,7 +29,8 @@ pub extern "C" fn bb_job_within(
     width_limit: u32,
     term_limit: u32,
 ) -> Outcome
-    ensures result { told result ≡ (job_call (stated width_limit term_limit) job work answers).result }
+    ensures result { told result
+        ≡ (job_call (stated width_limit term_limit) job work answers).result }
     ensures answers { answers.new
         ≡ (job_call (stated width_limit term_limit) job work answers).answer_memory }
     ensures work { work.new

@@ -7,7 +7,8 @@ ghost use Rattle.bitblast.specs.Asking.{as_swept, sweep_call};
 
 use bitblast::sweep::Swept;
 
-// Runs a job and sweeps the equality of that number: on how many assignments of its variables the two sides differ, for a host.
+// Runs a job and sweeps the equality of that number: on how many assignments of its variables the
+// two sides differ, for a host.
 #[unsafe(no_mangle)]
 pub extern "C" fn bb_sweep(
     job: &[u8],

@@ -5,7 +5,8 @@ ghost use Rattle.tally.specs.Counted.{as_tally, answers_in};
 
 use tally::Tally;
 
-// One more job, with its first `count` answers by their codes; where the memory is shorter, the answers that it has whole.
+// One more job, with its first `count` answers by their codes; where the memory is shorter, the
+// answers that it has whole.
 #[unsafe(no_mangle)]
 pub extern "C" fn bb_tally(tally: &mut Tally, answers: &[u8], count: u32)
     ensures { as_tally tally.new

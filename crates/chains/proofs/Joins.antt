@@ -2,7 +2,7 @@
 use mathlib.Core.Path.{◌≡◌, refl, sym, ap, ap₂, subst, ◌∙◌}
 use mathlib.Core.Bool.{Bool, true, false, ◌&&◌, and-false}
 use mathlib.Core.List.{List, [], ◌∷◌, map}
-use mathlib.Core.Option.{Option, none, some}
+use Rattle.std.specs.Prelude.{Option, None as none, Some as some, option_map, IfSome}
 use Prim.Native.Nat.{ℕ, zero, suc, ◌+◌, ◌≤◌, ◌<◌}
 use native.Mathlib.Numerals.{add-one}
 use native.Mathlib.Omega.{arith}
@@ -25,31 +25,21 @@ use Rattle.theory.proofs.Places.{tree_at, tree_of, more_below}
 use Rattle.theory.proofs.Distinct.{trees_distinct}
 use Rattle.terms.specs.declared.Head.{Head}
 use Rattle.terms.specs.declared.Term.{Term as Decoded}
+use Rattle.terms.specs.declared.Args.{Args}
 use Rattle.terms.specs.declared.Operands.{Operands}
 use Rattle.terms.specs.declared.Operands.TheVariants as O
-use Rattle.terms.specs.Decoded.{op_of, head_of, operands_of, numbers_of, arguments_of}
+use Rattle.terms.specs.Decoded.{op_of, head_of, operands_of, numbers_of, arguments_of, words_in}
 use Rattle.terms.proofs.Lists.{words_in_length}
 use Rattle.terms.proofs.Parts.{both}
 use Rattle.store.specs.Sorts.{count_of}
 use Rattle.theory.specs.Codes.{all_below}
+use Rattle.store.specs.KeptTerms.{kept_terms, kept_term}
 use Rattle.store.specs.Store.{Store, listed}
 use Rattle.store.specs.Terms.{TermAt}
-use Rattle.operand_rules.specs.Rules.{tree}
+use Rattle.operand_rules.proofs.Forms.{tree}
+use Rattle.chains.specs.declared.premises.Past.{Past}
 use Rattle.chains.specs.Premises.{sides_in, is_equality, leads_in, argued, joins_in}
-
--- ---- loops over premises
--- a path of premises: what is left of it from i on leads from where it has come to
-pub record Leading (job work : Bytes) (n : ℕ) (xs : List (Option Sides)) (l r at i : ℕ) : Type 0 where
-  pub passed : i ≤ length xs
-  pub kept : at < first_terms + n
-  pub rest : leads_in (tree job work n l) xs (tree job work n r) ≡ leads_in (tree job work n at) (drop i xs) (tree job work n r)
-
--- arguments, one premise for each: what is left from i on decides
-pub record Arguing (job work : Bytes) (n : ℕ) (ps : List (Option Sides)) (xs ys : List ℕ) (i : ℕ) : Type 0 where
-  pub passed : i ≤ length ps
-  pub left : length xs ≡ length ps
-  pub right : length ys ≡ length ps
-  pub rest : argued (listed job work n) ps xs ys ≡ argued (listed job work n) (drop i ps) (drop i xs) (drop i ys)
+use Rattle.chains.specs.Told.{earlier_told, sides_of, sides_told, all_sides_told, Joining, Arguing}
 
 -- ---- arguments
 -- as many numbers as the code counts
@@ -75,19 +65,10 @@ args_below {job} {work} {n} {p} {t} s h ops e =
 
 -- ---- kinds
 module _ (s t : Decoded) {a b : Head} (ea : a ≡ head_of s) (eb : b ≡ head_of t) where
-  kinds_are : same_op (op_of s) (op_of t) ≡ (eqb a.kind b.kind && (eqb a.first b.first && eqb a.second b.second))
+  pub kinds_are : same_op (op_of s) (op_of t) ≡ (eqb a.kind b.kind && (eqb a.first b.first && eqb a.second b.second))
   kinds_are =
       same_op_two (op_of s) (op_of t)
       ∙ ap₂ (λ (x y : Head). eqb x.kind y.kind && (eqb x.first y.first && eqb x.second y.second)) (sym ea) (sym eb)
-
-  pub kinds_differ : (a.kind ≡ b.kind → ⊥) → false ≡ same_op (op_of s) (op_of t)
-  kinds_differ f = sym (kinds_are ∙ rw (ne_eqb a.kind b.kind f))
-
-  pub firsts_differ : a.kind ≡ b.kind → (a.first ≡ b.first → ⊥) → false ≡ same_op (op_of s) (op_of t)
-  firsts_differ e f = sym (kinds_are ∙ rw (eq-eqb a.kind b.kind e, ne_eqb a.first b.first f))
-
-  pub seconds_tell : a.kind ≡ b.kind → a.first ≡ b.first → eqb a.second b.second ≡ same_op (op_of s) (op_of t)
-  seconds_tell e f = sym (kinds_are ∙ rw (eq-eqb a.kind b.kind e, eq-eqb a.first b.first f))
 
 -- ---- numbers for terms
 module _ {job work : Bytes} {n : ℕ} (s : Store job work n) where
@@ -105,68 +86,6 @@ module _ {job work : Bytes} {n : ℕ} (s : Store job work n) where
     equality_is : is_equality (tree job work n l) (tree job work n r) q ≡ (eqb a l && eqb b r)
     equality_is =
         ap (is_equality (tree job work n l) (tree job work n r)) (sym e) ∙ ap₂ (λ (x y : Bool). x && y) (same_places a l ha hl) (same_places b r hb hr)
-
-    pub left_differs : (a ≡ l → ⊥) → false ≡ is_equality (tree job work n l) (tree job work n r) q
-    left_differs f = sym (equality_is ∙ rw (ne_eqb a l f))
-
-    pub right_tells : a ≡ l → eqb b r ≡ is_equality (tree job work n l) (tree job work n r) q
-    right_tells f = sym (equality_is ∙ rw (eq-eqb a l f))
-
-  module _ {xs : List (Option Sides)} {l r : ℕ} (hr : r < first_terms + n) where
-    pub lead_start : l < first_terms + n → Leading job work n xs l r l 0
-    lead_start h = record { passed = omega arith; kept = h; rest = refl }
-
-    module _ {at i : ℕ} (p : Leading job work n xs l r at i) where
-      pub lead_end : length xs ≤ i → eqb at r ≡ leads_in (tree job work n l) xs (tree job work n r)
-      lead_end h = sym (p.rest ∙ rw (drop_of_length-le xs {i = i} h) (same_places at r p.kept hr))
-
-      module _ (h : i < length xs) where
-        here : leads_in (tree job work n l) xs (tree job work n r) ≡ leads_in (tree job work n at) (get_or xs i none ∷ drop (suc i) xs) (tree job work n r)
-        here = p.rest ∙ ap (λ (ys : List (Option Sides)). leads_in (tree job work n at) ys (tree job work n r)) (drop-cons xs i none h)
-
-        pub lead_none : none ≡ get_or xs i none → false ≡ leads_in (tree job work n l) xs (tree job work n r)
-        lead_none e = sym (here ∙ ap (λ (q : Option Sides). leads_in (tree job work n at) (q ∷ drop (suc i) xs) (tree job work n r)) (sym e))
-
-        module _ {a b : ℕ} (ha : a < first_terms + n) (hb : b < first_terms + n) (e : some (tree job work n a, tree job work n b) ≡ get_or xs i none) where
-          on : leads_in (tree job work n l) xs (tree job work n r) ≡ (eqb at a && leads_in (tree job work n b) (drop (suc i) xs) (tree job work n r))
-          on =
-              here ∙ ap (λ (q : Option Sides). leads_in (tree job work n at) (q ∷ drop (suc i) xs) (tree job work n r)) (sym e)
-              ∙ ap (λ (x : Bool). x && leads_in (tree job work n b) (drop (suc i) xs) (tree job work n r)) (same_places at a p.kept ha)
-
-          pub lead_off : (a ≡ at → ⊥) → false ≡ leads_in (tree job work n l) xs (tree job work n r)
-          lead_off f = sym (on ∙ rw (ne_eqb at a (λ g. f (sym g))))
-
-          pub lead_turn : a ≡ at → Leading job work n xs l r b (i + 1)
-          lead_turn f = record { passed = omega arith; kept = hb; rest = on ∙ rw (eq-eqb at a (sym f), add-one) }
-
-  module _ {ps : List (Option Sides)} {xs ys : List ℕ} where
-    pub argue_start : length xs ≡ length ps → length ys ≡ length ps → Arguing job work n ps xs ys 0
-    argue_start h k = record { passed = omega arith; left = h; right = k; rest = refl }
-
-    module _ {i : ℕ} (p : Arguing job work n ps xs ys i) where
-      pub argue_end : length ps ≤ i → true ≡ argued (listed job work n) ps xs ys
-      argue_end h =
-          let a = p.left in
-          let b = p.right in
-          let k : length xs ≤ i = omega arith in
-          let m : length ys ≤ i = omega arith in
-          sym (p.rest ∙ rw (drop_of_length-le ps {i = i} h, drop_of_length-le xs {i = i} k, drop_of_length-le ys {i = i} m))
-
-      module _ (h : i < length ps) where
-        on_argue : argued (listed job work n) ps xs ys
-            ≡ (is_equality (tree job work n (get_or xs i 0)) (tree job work n (get_or ys i 0)) (get_or ps i none) && argued (listed job work n) (drop (suc i) ps) (drop (suc i) xs) (drop (suc i) ys))
-        on_argue =
-            let a = p.left in
-            let b = p.right in
-            let k : i < length xs = omega arith in
-            let m : i < length ys = omega arith in
-            p.rest ∙ rw (drop-cons ps i none h, drop-cons xs i 0 k, drop-cons ys i 0 m)
-
-        pub argue_fails : is_equality (tree job work n (get_or xs i 0)) (tree job work n (get_or ys i 0)) (get_or ps i none) ≡ false → false ≡ argued (listed job work n) ps xs ys
-        argue_fails e = sym (on_argue ∙ rw e)
-
-        pub argue_turn : is_equality (tree job work n (get_or xs i 0)) (tree job work n (get_or ys i 0)) (get_or ps i none) ≡ true → Arguing job work n ps xs ys (i + 1)
-        argue_turn e = record { passed = omega arith; left = p.left; right = p.right; rest = on_argue ∙ rw (e, add-one) }
 
 -- as many of each
 pub argued_left : (list : Plain) (ps : List (Option Sides)) (xs ys : List ℕ) → (length xs ≡ length ps → ⊥) → false ≡ argued list ps xs ys
@@ -331,3 +250,142 @@ unfolding joins_in joins
 symm_one earlier list [] l r h = absurd (omega arith)
 symm_one earlier list (k ∷ []) l r h = sym (turned_all l r (sides_in earlier list k))
 symm_one earlier list (j ∷ k ∷ ks) l r h = absurd (omega arith)
+
+-- ---- loops over the premises of a chain
+-- a path of premises: what is left of it from i on leads from where it has come to
+pub record Leading (p : Past) (premises : Args) (l r at i : ℕ) : Type 0 where
+  pub kept : at < first_terms + p.terms.rows
+  pub rest : leads_in (kept_term p.terms l) (all_sides_told p premises) (kept_term p.terms r)
+      ≡ leads_in (kept_term p.terms at) (drop i (all_sides_told p premises)) (kept_term p.terms r)
+
+-- arguments, one premise for each: what is left from i on decides
+pub record Comparing (p : Past) (premises : Args) (xs ys : List ℕ) (i : ℕ) : Type 0 where
+  pub rest : argued (kept_terms p.terms) (all_sides_told p premises) xs ys
+      ≡ argued (kept_terms p.terms) (drop i (all_sides_told p premises)) (drop i xs) (drop i ys)
+
+module _ (p : Past) (premises : Args) where
+  -- as many sides as premises
+  pub told_length : length (all_sides_told p premises) ≡ premises.count
+  told_length =
+      found_length (earlier_told p) (kept_terms p.terms) (words_in p.terms.job.now premises) ∙ words_in_length p.terms.job.now premises
+
+  told_at : (i : ℕ) → i < premises.count → sides_told p premises i ≡ get_or (all_sides_told p premises) i none
+  told_at i h =
+      found_at (earlier_told p) (kept_terms p.terms) (words_in p.terms.job.now premises) i (let l = words_in_length p.terms.job.now premises in omega arith)
+
+  -- the sides that the code reads of premise i
+  module _ {l r : ℕ} (h : Joining p premises l r) (s : Option (ℕ × ℕ)) (i : ℕ)
+      (below : IfSome s (λ q. (q.0 < first_terms + p.terms.rows) × (q.1 < first_terms + p.terms.rows)))
+      (e : option_map (sides_of p) s ≡ sides_told p premises i) where
+    pub shows_none : s ≡ none → false ≡ is_equality (kept_term p.terms l) (kept_term p.terms r) (sides_told p premises i)
+    shows_none f = ap (is_equality (kept_term p.terms l) (kept_term p.terms r)) (ap (option_map (sides_of p)) (sym f) ∙ e)
+
+    module _ {a b : ℕ} (f : s ≡ some (a, b)) where
+      sides_are : some (kept_term p.terms a, kept_term p.terms b) ≡ sides_told p premises i
+      sides_are = ap (option_map (sides_of p)) (sym f) ∙ e
+
+      both_below : (a < first_terms + p.terms.rows) × (b < first_terms + p.terms.rows)
+      both_below = subst (λ (q : Option (ℕ × ℕ)). IfSome q (λ x. (x.0 < first_terms + p.terms.rows) × (x.1 < first_terms + p.terms.rows))) f below
+
+      pub left_differs : (a ≡ l → ⊥) → false ≡ is_equality (kept_term p.terms l) (kept_term p.terms r) (sides_told p premises i)
+      left_differs g = sym (equality_is p.noted.store both_below.0 both_below.1 h.left h.right sides_are ∙ rw (ne_eqb a l g))
+
+      pub right_tells : a ≡ l → eqb b r ≡ is_equality (kept_term p.terms l) (kept_term p.terms r) (sides_told p premises i)
+      right_tells g = sym (equality_is p.noted.store both_below.0 both_below.1 h.left h.right sides_are ∙ rw (eq-eqb a l g))
+
+    module _ {at : ℕ} (v : Leading p premises l r at i) (t : i < premises.count) where
+      here : leads_in (kept_term p.terms l) (all_sides_told p premises) (kept_term p.terms r)
+          ≡ leads_in (kept_term p.terms at) (sides_told p premises i ∷ drop (suc i) (all_sides_told p premises)) (kept_term p.terms r)
+      here =
+          v.rest
+          ∙ ap (λ (ys : List (Option Sides)). leads_in (kept_term p.terms at) ys (kept_term p.terms r))
+          (drop-cons (all_sides_told p premises) i none (let m = told_length in omega arith)
+          ∙ ap (λ (q : Option Sides). q ∷ drop (suc i) (all_sides_told p premises)) (sym (told_at i t)))
+
+      pub lead_none : s ≡ none → false ≡ leads_in (kept_term p.terms l) (all_sides_told p premises) (kept_term p.terms r)
+      lead_none f =
+          sym (here
+          ∙ ap (λ (q : Option Sides). leads_in (kept_term p.terms at) (q ∷ drop (suc i) (all_sides_told p premises)) (kept_term p.terms r))
+          (sym e ∙ ap (option_map (sides_of p)) f))
+
+      module _ {a b : ℕ} (f : s ≡ some (a, b)) where
+        on : leads_in (kept_term p.terms l) (all_sides_told p premises) (kept_term p.terms r)
+            ≡ (eqb at a && leads_in (kept_term p.terms b) (drop (suc i) (all_sides_told p premises)) (kept_term p.terms r))
+        on =
+            here
+            ∙ ap (λ (q : Option Sides). leads_in (kept_term p.terms at) (q ∷ drop (suc i) (all_sides_told p premises)) (kept_term p.terms r)) (sym (sides_are f))
+            ∙ ap (λ (x : Bool). x && leads_in (kept_term p.terms b) (drop (suc i) (all_sides_told p premises)) (kept_term p.terms r))
+            (same_places p.noted.store at a v.kept (both_below f).0)
+
+        pub lead_off : (a ≡ at → ⊥) → false ≡ leads_in (kept_term p.terms l) (all_sides_told p premises) (kept_term p.terms r)
+        lead_off g = sym (on ∙ rw (ne_eqb at a (λ z. g (sym z))))
+
+        pub lead_turn : a ≡ at → Leading p premises l r b (i + 1)
+        lead_turn g = record { kept = (both_below f).1; rest = on ∙ rw (eq-eqb at a (sym g), add-one) }
+
+  pub lead_end : {l r at i : ℕ} → Joining p premises l r → Leading p premises l r at i → premises.count ≤ i
+      → eqb at r ≡ leads_in (kept_term p.terms l) (all_sides_told p premises) (kept_term p.terms r)
+  lead_end {l} {r} {at} {i} h v t =
+      sym (v.rest
+      ∙ rw (drop_of_length-le (all_sides_told p premises) {i = i} (let m = told_length in omega arith)) (same_places p.noted.store at r v.kept h.right))
+
+  -- the arguments of two terms, as many as premises
+  module _ {xs ys : Operands} (h : Arguing p premises xs ys) where
+    pub other_left : (count_of xs ≡ premises.count → ⊥)
+        → false ≡ argued (kept_terms p.terms) (all_sides_told p premises) (numbers_of p.terms.job.now xs) (numbers_of p.terms.job.now ys)
+    other_left f =
+        argued_left (kept_terms p.terms) (all_sides_told p premises) (numbers_of p.terms.job.now xs) (numbers_of p.terms.job.now ys)
+        (λ e. f (sym (count_length p.terms.job.now xs) ∙ e ∙ told_length))
+
+    pub other_right : (count_of ys ≡ premises.count → ⊥)
+        → false ≡ argued (kept_terms p.terms) (all_sides_told p premises) (numbers_of p.terms.job.now xs) (numbers_of p.terms.job.now ys)
+    other_right f =
+        argued_right (kept_terms p.terms) (all_sides_told p premises) (numbers_of p.terms.job.now xs) (numbers_of p.terms.job.now ys)
+        (λ e. f (sym (count_length p.terms.job.now ys) ∙ e ∙ told_length))
+
+    module _ (left : count_of xs ≡ premises.count) (right : count_of ys ≡ premises.count) {i : ℕ} where
+      -- the arguments at place i are kept
+      pub arguments_join : i < premises.count → {x y : ℕ} → x ≡ get_or (numbers_of p.terms.job.now xs) i 0 → y ≡ get_or (numbers_of p.terms.job.now ys) i 0
+          → Joining p premises x y
+      arguments_join t {x} {y} e f =
+          let m = count_length p.terms.job.now xs in
+          let n = count_length p.terms.job.now ys in
+          let a = number_below (first_terms + p.terms.rows) (numbers_of p.terms.job.now xs) i h.left_below (omega arith) in
+          let b = number_below (first_terms + p.terms.rows) (numbers_of p.terms.job.now ys) i h.right_below (omega arith) in
+          record { inside = h.inside; left = omega (arith, a, e); right = omega (arith, b, f) }
+
+      module _ (v : Comparing p premises (numbers_of p.terms.job.now xs) (numbers_of p.terms.job.now ys) i) where
+        pub argue_end : premises.count ≤ i
+            → true ≡ argued (kept_terms p.terms) (all_sides_told p premises) (numbers_of p.terms.job.now xs) (numbers_of p.terms.job.now ys)
+        argue_end t =
+            let o = told_length in
+            let m = count_length p.terms.job.now xs in
+            let n = count_length p.terms.job.now ys in
+            let k : length (all_sides_told p premises) ≤ i = omega arith in
+            let a : length (numbers_of p.terms.job.now xs) ≤ i = omega arith in
+            let b : length (numbers_of p.terms.job.now ys) ≤ i = omega arith in
+            sym (v.rest
+            ∙ rw (drop_of_length-le (all_sides_told p premises) {i = i} k, drop_of_length-le (numbers_of p.terms.job.now xs) {i = i} a, drop_of_length-le (numbers_of p.terms.job.now ys) {i = i} b))
+
+        module _ (t : i < premises.count) {x y : ℕ} (e : x ≡ get_or (numbers_of p.terms.job.now xs) i 0) (f : y ≡ get_or (numbers_of p.terms.job.now ys) i 0)
+            {c : Bool} (shown : c ≡ is_equality (kept_term p.terms x) (kept_term p.terms y) (sides_told p premises i)) where
+          on_argue : argued (kept_terms p.terms) (all_sides_told p premises) (numbers_of p.terms.job.now xs) (numbers_of p.terms.job.now ys)
+              ≡ (c && argued (kept_terms p.terms) (drop (suc i) (all_sides_told p premises)) (drop (suc i) (numbers_of p.terms.job.now xs)) (drop (suc i) (numbers_of p.terms.job.now ys)))
+          on_argue =
+              let o = told_length in
+              let m = count_length p.terms.job.now xs in
+              let n = count_length p.terms.job.now ys in
+              let k : i < length (all_sides_told p premises) = omega arith in
+              let a : i < length (numbers_of p.terms.job.now xs) = omega arith in
+              let b : i < length (numbers_of p.terms.job.now ys) = omega arith in
+              v.rest
+              ∙ rw (drop-cons (all_sides_told p premises) i none k, drop-cons (numbers_of p.terms.job.now xs) i 0 a, drop-cons (numbers_of p.terms.job.now ys) i 0 b)
+              (ap (λ (z : Bool). z && argued (kept_terms p.terms) (drop (suc i) (all_sides_told p premises)) (drop (suc i) (numbers_of p.terms.job.now xs)) (drop (suc i) (numbers_of p.terms.job.now ys)))
+              (ap₂ (λ (w z : ℕ). is_equality (kept_term p.terms w) (kept_term p.terms z) (get_or (all_sides_told p premises) i none)) (sym e) (sym f)
+              ∙ ap (is_equality (kept_term p.terms x) (kept_term p.terms y)) (sym (told_at i t)) ∙ sym shown))
+
+          pub argue_fails : c ≡ false → false ≡ argued (kept_terms p.terms) (all_sides_told p premises) (numbers_of p.terms.job.now xs) (numbers_of p.terms.job.now ys)
+          argue_fails g = sym (on_argue ∙ rw g)
+
+          pub argue_turn : c ≡ true → Comparing p premises (numbers_of p.terms.job.now xs) (numbers_of p.terms.job.now ys) (i + 1)
+          argue_turn g = record { rest = on_argue ∙ rw (g, add-one) }

@@ -2,15 +2,17 @@
 use mathlib.Core.Path.{◌≡◌, refl, sym, ap, subst, ◌∙◌}
 use mathlib.Core.Bool.{Bool, true, false, cond}
 use mathlib.Core.List.{List, [], ◌∷◌, map}
-use mathlib.Core.Option.{Option, none, some}
-use Prim.Native.Nat.{ℕ, zero, suc, ◌+◌, ◌-◌, ◌≤◌, ◌<◌}
+use Rattle.std.specs.Prelude.{Option, None as none, Some as some}
+use Prim.Native.Nat.{ℕ, zero, suc, ◌+◌, ◌-◌, ◌*◌, ◌≤◌, ◌<◌}
+use native.Mathlib.Nat.{le_trans, mul-le-mul_left}
 use native.Mathlib.Numerals.{add-one}
 use native.Mathlib.Omega.{arith}
 use lib.Dec.{leb, ltb, eqb}
-use lib.ListN.{length, drop, get_or, get_elem?, length-map, drop_of_length-le}
+use lib.ListN.{length, drop, get_or, length-map, drop_of_length-le}
+use Rattle.std.specs.Prelude.{slice_get as get_elem?}
 use lib.Seq.{drop-cons}
 use borrow.Author.Tests.{eq-eqb, ne_eqb, le-leb}
-use Rattle.theory.specs.Limit.{first_terms}
+use Rattle.theory.specs.Limit.{first_terms, answer_bytes}
 use Rattle.theory.specs.Term.{Term}
 use Rattle.theory.specs.Optional.{either, is_some, cons_some}
 use Rattle.theory.specs.Record.{Bytes, read, claim_of, number_length}
@@ -22,19 +24,20 @@ use Rattle.theory.proofs.Places.{tree_at, at_place_is}
 use Rattle.theory.proofs.Origins.{Mark, before, standing, all_standing}
 use Rattle.terms.specs.declared.Item.{Item}
 use Rattle.terms.specs.declared.Item.TheVariants as I
+use Rattle.terms.specs.Bodies.{Length}
 use Rattle.terms.specs.Framing.{record_at}
 use Rattle.terms.specs.declared.Args.{Args}
 use Rattle.terms.specs.Decoded.{item_of, words_in}
 use Rattle.terms.proofs.Lists.{words_in_length}
+use Rattle.terms.proofs.Numbers.{length_of}
 use Rattle.rows.specs.Layout.{link_size, offset_at}
 use Rattle.rows.specs.Rows.{column, offsets}
 use Rattle.rows.proofs.RowLaws.{get_or_column, length_column}
 use Rattle.store.specs.Store.{Store, listed}
-use Rattle.operand_rules.specs.Rules.{tree}
+use Rattle.operand_rules.proofs.Forms.{tree}
 use Rattle.steps.specs.Answering.{step_place, step_code}
-use Rattle.chains.specs.declared.premises.Premise.{Premise}
-use Rattle.chains.specs.declared.premises.Premise.TheVariants as P
-use Rattle.chains.specs.Premises.{claimed_at, left_at, mark_at, marks_in, origins, earlier_in, origin_before, literal_of, sides_in}
+use Rattle.chains.specs.declared.premises.Past.{Past}
+use Rattle.chains.specs.Premises.{claimed_at, left_at, mark_at, marks_in, origins, earlier_in, origin_before, sides_in}
 
 -- ---- the literal that a record claims
 -- by the item that was read there
@@ -209,31 +212,42 @@ module _ (job work memory : Bytes) (n answered : ℕ) where
       go (some (some m)) f d = marks_below (marks_in job memory answered) k p (f ∙ ap some d)
 
   -- what the code read of the premise with the number `arg`, which is `number`
-  module _ (s : Store job work n) (arg number : ℕ) (x : Premise) (read_is : literal_of x ≡ premise_place E arg) (same : arg ≡ number) where
-    place_is : premise_place E number ≡ literal_of x
+  module _ (s : Store job work n) (arg number : ℕ) (x : Option ℕ) (read_is : x ≡ premise_place E arg) (same : arg ≡ number) where
+    place_is : premise_place E number ≡ x
     place_is = ap (premise_place E) (sym same) ∙ sym read_is
 
     -- none
-    pub broken_tree : x ≡ P.Broken → premise_at E (listed job work n) number ≡ none
-    broken_tree e = ap (either none (at_place (listed job work n))) (place_is ∙ ap literal_of e)
+    pub broken_tree : x ≡ none → premise_at E (listed job work n) number ≡ none
+    broken_tree e = ap (either none (at_place (listed job work n))) (place_is ∙ e)
 
-    pub broken_sides : x ≡ P.Broken → none ≡ sides_in E (listed job work n) number
+    pub broken_sides : x ≡ none → none ≡ sides_in E (listed job work n) number
     unfolding sides_in
     broken_sides e = sym (ap (either none sides) (broken_tree e))
 
-    module _ {p : ℕ} (e : x ≡ P.Literal p) where
+    module _ {p : ℕ} (e : x ≡ some p) where
       pub literal_below : p < first_terms + n
-      literal_below = premise_below number p (place_is ∙ ap literal_of e)
+      literal_below = premise_below number p (place_is ∙ e)
 
       pub standing_tree : premise_at E (listed job work n) number ≡ some (tree_at (listed job work n) p)
       standing_tree =
           let c = s.count in
           let b = literal_below in
-          ap (either none (at_place (listed job work n))) (place_is ∙ ap literal_of e) ∙ at_place_is (listed job work n) p (omega arith)
+          ap (either none (at_place (listed job work n))) (place_is ∙ e) ∙ at_place_is (listed job work n) p (omega arith)
 
       pub standing_sides : {q : Option Sides} → sides (tree job work n p) ≡ q → q ≡ sides_in E (listed job work n) number
       unfolding sides_in
       standing_sides f = sym (ap (either none sides) standing_tree ∙ f)
+
+-- ---- the answer to a step that is there
+module _ (p : Past) (number : ℕ) {b : ℕ} (e : b ≡ number_length p.terms.job.now) where
+  pub answer_lies : number - 1 < p.count → Length b × (answer_bytes b * suc (number - 1) ≤ length p.answers.now)
+  answer_lies h = rw e (length_of p.terms.job.now, le_trans (mul-le-mul_left (answer_bytes (number_length p.terms.job.now)) h) p.noted.roomy)
+
+  pub code_told : {c : ℕ} → c ≡ step_code b p.answers.now (number - 1) → c ≡ step_code (number_length p.terms.job.now) p.answers.now (number - 1)
+  code_told f = f ∙ ap (λ (k : ℕ). step_code k p.answers.now (number - 1)) e
+
+  pub place_told : {c : ℕ} → c ≡ step_place b p.answers.now (number - 1) → c ≡ step_place (number_length p.terms.job.now) p.answers.now (number - 1)
+  place_told f = f ∙ ap (λ (k : ℕ). step_place k p.answers.now (number - 1)) e
 
 -- ---- all premises of a list: the test is that of what is left from i on
 abbrev pub all_there : Earlier → Plain → List ℕ → Bool

@@ -2,19 +2,19 @@
 use mathlib.Core.Path.{◌≡◌, refl, sym, ap, ap₂, ◌∙◌}
 use mathlib.Core.Bool.{Bool, true, false, cond}
 use mathlib.Core.List.{List, [], ◌∷◌, map}
-use mathlib.Core.Option.{Option, none, some}
+use Rattle.std.specs.Prelude.{Option, None as none, Some as some}
 use Prim.Native.Nat.{ℕ, zero, suc, ◌-◌, ◌≤◌}
 use native.Mathlib.Omega.{arith}
 use lib.Dec.{leb}
 use borrow.Author.Tests.{leb-true}
-use lib.ListN.{get_elem?}
+use Rattle.std.specs.Prelude.{slice_get as get_elem?}
 use borrow.Enum.Refused.{Among}
 use denote.Enum.Declared.{tag_of}
 use Rattle.theory.specs.Kind.{Equals}
 use Rattle.theory.specs.Term.{Term}
 use Rattle.theory.specs.Optional.{either, is_some, cons_some, collect}
 use Rattle.theory.specs.Verdict.{held, wrong_form, premise_broken}
-use Rattle.theory.specs.RuleTable.{ChainRule, by_symm, by_trans, by_cong, chain_rules, chain_rule_at}
+use Rattle.theory.specs.RuleTable.{ChainRule, by_cong, chain_rules, chain_rule_at}
 use Rattle.theory.specs.Rule.{form}
 use Rattle.theory.specs.Record.{Bytes}
 use Rattle.theory.specs.Plain.{Plain}
@@ -25,8 +25,7 @@ use Rattle.terms.specs.declared.Term.TheVariants as D
 use Rattle.terms.specs.Decoded.{op_of, operands_of}
 use Rattle.terms.specs.contracts.Term as E
 use Rattle.store.specs.Terms.{TermAt}
-use Rattle.operand_rules.specs.Rules.{tree}
-use Rattle.operand_rules.proofs.Forms.{others, no_case, two_form}
+use Rattle.operand_rules.proofs.Forms.{tree, others, no_case, two_form}
 use Rattle.chains.specs.Premises.{sides_in, joins_in}
 
 -- ---- the sides of premises
@@ -92,12 +91,6 @@ module _ {job work : Bytes} {n p : ℕ} {t : Decoded} (s : TermAt job work n p t
           ∙ sym (two_form s Equals l r (ap op_of e) (ap operands_of e) (λ x y. form (collect (map sides ts)) (λ ps. cond (joins by ps x y) held wrong_form)))
 
 -- ---- the rule of a number
-pub rule_symm : {rule : ℕ} {by : ChainRule} → rule ≡ 31 → chain_rule_at rule ≡ some by → by_symm ≡ by
-rule_symm {rule} {by} e f = some_inj by_symm by (sym (ap chain_rule_at e) ∙ f)
-
-pub rule_trans : {rule : ℕ} {by : ChainRule} → rule ≡ 32 → chain_rule_at rule ≡ some by → by_trans ≡ by
-rule_trans {rule} {by} e f = some_inj by_trans by (sym (ap chain_rule_at e) ∙ f)
-
 pub rule_cong : {rule : ℕ} {by : ChainRule} → (rule ≡ 31 → ⊥) → (rule ≡ 32 → ⊥) → chain_rule_at rule ≡ some by → by_cong ≡ by
 rule_cong {rule} {by} g h f = go (leb 31 rule) (leb-true 31 rule) f
   where

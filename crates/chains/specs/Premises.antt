@@ -1,9 +1,9 @@
 -- Which earlier steps may be premises, as the memories say it: an answer holds the place of its step's record while the job runs, and a row
 -- the place of its term's record. What these come to is theory's list of earlier steps, by the law of origins (theory, proofs/Origins).
-use Rattle.std.specs.Prelude.{◌≡◌, Bool, true, false, ◌&&◌, cond, List, [], ◌∷◌, map, ℕ, suc, ◌+◌, ◌*◌, ◌≤◌, ◌<◌, leb, eqb, length, drop}
-use Rattle.std.proofs.Math.Option.{Option, none, some}
-use Rattle.std.proofs.Math.ListN.{get_elem?}
-use Rattle.theory.specs.Limit.{first_terms, answer_bytes}
+use Rattle.std.specs.Prelude.{◌≡◌, Bool, true, false, ◌&&◌, cond, List, [], ◌∷◌, map, ℕ, suc, ◌*◌, ◌≤◌, ◌<◌, leb, eqb, length, drop}
+use Rattle.std.specs.Prelude.{Option, None as none, Some as some}
+use Rattle.std.specs.Prelude.{slice_get as get_elem?}
+use Rattle.theory.specs.Limit.{answer_bytes}
 use Rattle.theory.specs.Term.{Term, same_term}
 use Rattle.theory.specs.Optional.{either, collect}
 use Rattle.theory.specs.RuleTable.{ChainRule}
@@ -11,22 +11,13 @@ use Rattle.theory.specs.Record.{Bytes, whole, read, claim_of, number_length}
 use Rattle.theory.specs.Plain.{Plain}
 use Rattle.theory.specs.Chain.{Earlier, premise_at, joins}
 use Rattle.theory.specs.Chain as C
-use Rattle.theory.specs.Codes.{all_below}
 use Rattle.theory.specs.Places.{tree_at}
 use Rattle.theory.specs.Origins.{Mark, all_standing}
-use Rattle.terms.specs.declared.Args.{Args}
 use Rattle.terms.specs.Framing.{record_at}
-use Rattle.terms.specs.declared.Operands.{Operands}
-use Rattle.terms.specs.Decoded.{Inside, OperandsPlaced, numbers_of}
 use Rattle.rows.specs.Layout.{link_size}
 use Rattle.rows.specs.Rows.{column, offsets}
 use Rattle.store.specs.Store.{Store}
-use Rattle.operand_rules.specs.Rules.{tree}
 use Rattle.steps.specs.Answering.{step_place, step_code}
-use Rattle.chains.specs.declared.premises.Premise.{Premise}
-use Rattle.chains.specs.declared.premises.Premise.TheVariants as P
-use Rattle.chains.specs.declared.premises.Sides.{Sides}
-use Rattle.chains.specs.declared.premises.Sides.TheVariants as S
 
 -- ---- what the memories hold
 -- the literal that the record at a place claims: the first, if it is a step of either kind that has one
@@ -63,44 +54,7 @@ pub record Noted (job work memory : Bytes) (n answered : ℕ) : Type 0 where
   pub roomy : answer_bytes (number_length job) * answered ≤ length memory
   pub places : (k : ℕ) → k < answered → whole (drop (step_place (number_length job) memory k) job) ≡ true
 
--- and the premises and the literal of a chain
-pub record Claimed (job work memory : Bytes) (n answered : ℕ) (premises : Args) (literal : ℕ) : Type 0 where
-  pub noted : Noted job work memory n answered
-  pub inside : Inside job premises
-  pub below : literal < first_terms + n
-
--- the sides of a claim too
-pub record Joining (job work memory : Bytes) (n answered : ℕ) (premises : Args) (l r : ℕ) : Type 0 where
-  pub noted : Noted job work memory n answered
-  pub inside : Inside job premises
-  pub left : l < first_terms + n
-  pub right : r < first_terms + n
-
--- and the arguments of both sides
-pub record Arguing (job work memory : Bytes) (n answered : ℕ) (premises : Args) (xs ys : Operands) : Type 0 where
-  pub noted : Noted job work memory n answered
-  pub inside : Inside job premises
-  pub left_placed : OperandsPlaced job xs
-  pub left_below : all_below (first_terms + n) (numbers_of job xs) ≡ true
-  pub right_placed : OperandsPlaced job ys
-  pub right_below : all_below (first_terms + n) (numbers_of job ys) ≡ true
-
--- ---- what the functions return
--- a premise's literal
-abbrev pub literal_of : Premise → Option ℕ
-literal_of (P.Literal p) = some p
-literal_of P.Broken = none
-
--- a premise's sides, as terms
-abbrev pub sides_of : Bytes → Bytes → ℕ → Sides → Option C.Sides
-sides_of job work n (S.Of l r) = some (tree job work n l, tree job work n r)
-sides_of job work n S.None = none
-
--- both are places below b
-abbrev pub sides_below : ℕ → Sides → Type 0
-sides_below b (S.Of l r) = (l < b) × (r < b)
-sides_below b S.None = Unit {0}
-
+-- ---- what premises show
 -- the sides of the premise with that number
 unfoldable pub sides_in : Earlier → Plain → ℕ → Option C.Sides
 sides_in earlier list k = either none C.sides (premise_at earlier list k)

@@ -1,41 +1,59 @@
--- What contracts say of the memories that a chain's check is lent. `job`, `work` and `answers` are the references as a contract names them,
--- and the memories are meant as they are when the function is called, with n rows and the answers to so many steps.
-use Rattle.std.specs.Prelude.{Bool, List, map, ℕ, get_or}
-use Rattle.std.proofs.Math.Option.{Option}
-use Rattle.std.specs.Borrow.{Bor}
-use denote.Triple.Both.{Both}
+-- What contracts say of the past of a chain `p`: its kept terms, and the steps that were answered.
+use Rattle.std.specs.Prelude.{◌≡◌, Bool, true, List, map, ℕ, ◌+◌, ◌<◌, get_or}
+use Rattle.std.specs.Prelude.{Option}
+use Rattle.theory.specs.Limit.{first_terms}
 use Rattle.theory.specs.Term.{Term}
 use Rattle.theory.specs.RuleTable.{ChainRule}
-use Rattle.theory.specs.Record.{Bytes}
 use Rattle.theory.specs.Chain.{Earlier, premises_at}
 use Rattle.theory.specs.Chain as C
+use Rattle.theory.specs.Codes.{all_below}
 use Rattle.terms.specs.declared.Args.{Args}
-use Rattle.store.specs.Lent.{kept_terms, kept_term, words_of}
-use Rattle.chains.specs.declared.premises.Sides.{Sides}
-use Rattle.chains.specs.Premises.{earlier_in, sides_of, sides_in, joins_in}
+use Rattle.terms.specs.declared.Operands.{Operands}
+use Rattle.terms.specs.Decoded.{Inside, OperandsPlaced, words_in, numbers_of}
+use Rattle.store.specs.KeptTerms.{kept_terms, kept_term}
+use Rattle.chains.specs.declared.premises.Past.{Past}
+use Rattle.chains.specs.Premises.{earlier_in, origin_before, sides_in, joins_in}
 
--- the sides that a function returns, as terms
-abbrev pub kept_sides : {X Y : Type 0} → Both (Bor Bytes) X → Both (Bor Bytes) Y → ℕ → Sides → Option C.Sides
-kept_sides job work n s = sides_of job.entry.now work.entry.now n s
+-- a term is at that place, and its origin is not after `at`
+abbrev pub is_before : Past → ℕ → ℕ → Bool
+is_before p = origin_before p.terms.job.now p.terms.work.now p.terms.rows
 
-module _ {X Y Z : Type 0} (job : Both (Bor Bytes) X) (work : Both (Bor Bytes) Y) (answers : Both (Bor Bytes) Z) (n answered : ℕ) where
-  -- the earlier steps
-  abbrev pub earlier_told : Earlier
-  earlier_told = earlier_in job.entry.now work.entry.now answers.entry.now n answered
+-- the earlier steps
+abbrev pub earlier_told : Past → Earlier
+earlier_told p = earlier_in p.terms.job.now p.terms.work.now p.answers.now p.terms.rows p.count
 
-  -- the literals of the premises, if all of them stand
-  abbrev pub premises_told : Args → Option (List Term)
-  premises_told premises = premises_at earlier_told (kept_terms job work n) (words_of job premises)
+-- the literals of the premises, if all of them stand
+abbrev pub premises_told : Past → Args → Option (List Term)
+premises_told p premises = premises_at (earlier_told p) (kept_terms p.terms) (words_in p.terms.job.now premises)
 
-  -- the sides of premise i, if it stands and is an equality
-  abbrev pub sides_told : Args → ℕ → Option C.Sides
-  sides_told premises i = sides_in earlier_told (kept_terms job work n) (get_or (words_of job premises) i 0)
+-- two sides, as terms
+abbrev pub sides_of : Past → ℕ × ℕ → C.Sides
+sides_of p s = (kept_term p.terms s.0, kept_term p.terms s.1)
 
-  -- the sides of each premise
-  abbrev pub all_sides_told : Args → List (Option C.Sides)
-  all_sides_told premises = map (sides_in earlier_told (kept_terms job work n)) (words_of job premises)
+-- the sides of premise i, if it stands and is an equality
+abbrev pub sides_told : Past → Args → ℕ → Option C.Sides
+sides_told p premises i = sides_in (earlier_told p) (kept_terms p.terms) (get_or (words_in p.terms.job.now premises) i 0)
 
-  -- the premises join to the equality of the terms at l and r
-  abbrev pub joins_told : ChainRule → Args → ℕ → ℕ → Bool
-  joins_told rule premises l r =
-      joins_in rule earlier_told (kept_terms job work n) (words_of job premises) (kept_term job work n l) (kept_term job work n r)
+-- the sides of each premise
+abbrev pub all_sides_told : Past → Args → List (Option C.Sides)
+all_sides_told p premises = map (sides_in (earlier_told p) (kept_terms p.terms)) (words_in p.terms.job.now premises)
+
+-- the premises join to the equality of the terms at l and r
+abbrev pub joins_told : Past → ChainRule → Args → ℕ → ℕ → Bool
+joins_told p rule premises l r =
+    joins_in rule (earlier_told p) (kept_terms p.terms) (words_in p.terms.job.now premises) (kept_term p.terms l) (kept_term p.terms r)
+
+-- ---- what is granted
+-- the premises of a chain, and the two sides of its claim
+pub record Joining (p : Past) (premises : Args) (l r : ℕ) : Type 0 where
+  pub inside : Inside p.terms.job.now premises
+  pub left : l < first_terms + p.terms.rows
+  pub right : r < first_terms + p.terms.rows
+
+-- and the arguments of both sides
+pub record Arguing (p : Past) (premises : Args) (xs ys : Operands) : Type 0 where
+  pub inside : Inside p.terms.job.now premises
+  pub left_placed : OperandsPlaced p.terms.job.now xs
+  pub left_below : all_below (first_terms + p.terms.rows) (numbers_of p.terms.job.now xs) ≡ true
+  pub right_placed : OperandsPlaced p.terms.job.now ys
+  pub right_below : all_below (first_terms + p.terms.rows) (numbers_of p.terms.job.now ys) ≡ true

@@ -3,32 +3,22 @@ ghost use Rattle.std.specs.Prelude.{◌≡◌, ◌<◌};
 ghost use Rattle.theory.specs.Term.{same_op};
 ghost use Rattle.theory.specs.RuleTable.{by_symm, by_trans, by_cong};
 ghost use Rattle.terms.specs.Decoded.{op_of, numbers_of};
-ghost use Rattle.store.specs.Lent.{kept_terms, kept_term};
-ghost use Rattle.chains.specs.Premises.{is_equality, leads_in, argued, Joining, Arguing};
-ghost use Rattle.chains.specs.Told.{sides_told, all_sides_told, joins_told};
+ghost use Rattle.store.specs.KeptTerms.{kept_terms, kept_term};
+ghost use Rattle.chains.specs.Premises.{is_equality, leads_in, argued};
+ghost use Rattle.chains.specs.Told.{sides_told, all_sides_told, joins_told, Joining, Arguing};
 
-use crate::premises::{Sides, sides_at};
+use crate::premises::Past;
 use intern::arguments::{count, operand};
-use store::terms_at::term_at;
 use terms::{Args, Operands, Term};
 
 // Is premise i the equality of these two?
-fn shows(
-    job: &[u8],
-    work: &[u8],
-    answers: &[u8],
-    n: usize,
-    answered: usize,
-    premises: Args,
-    i: usize,
-    l: u32,
-    r: u32,
-) -> bool
-    requires { Joining job.now work.now answers.now n answered premises l r × (i < premises.count) }
-    ensures { result ≡ is_equality (kept_term job work n l) (kept_term job work n r)
-        (sides_told job work answers n answered premises i) }
+fn shows(past: &Past, premises: Args, i: usize, l: u32, r: u32) -> bool
+    requires joining { Joining past.now premises l r }
+    requires there { i < premises.count }
+    ensures { result ≡ is_equality (kept_term past.now.terms l) (kept_term past.now.terms r)
+        (sides_told past.now premises i) }
 {
-    let Sides::Of(a, b) = sides_at(job, work, answers, n, answered, premises, i) else {
+    let Some((a, b)) = past.sides_at(premises, i) else {
         return false;
     };
     if a != l {
@@ -38,160 +28,86 @@ fn shows(
 }
 
 // symm: one premise, with the sides of the claim turned round.
-pub fn symm(
-    job: &[u8],
-    work: &[u8],
-    answers: &[u8],
-    n: usize,
-    answered: usize,
-    premises: Args,
-    l: u32,
-    r: u32,
-) -> bool
-    requires { Joining job.now work.now answers.now n answered premises l r }
-    ensures { result ≡ joins_told job work answers n answered by_symm premises l r }
+pub fn symm(past: &Past, premises: Args, l: u32, r: u32) -> bool
+    requires { Joining past.now premises l r }
+    ensures { result ≡ joins_told past.now by_symm premises l r }
 {
     if premises.count != 1 {
         return false;
     }
-    shows(job, work, answers, n, answered, premises, 0, r, l)
+    shows(past, premises, 0, r, l)
 }
 
 // Do the premises lead from l to r?
-fn leads(
-    job: &[u8],
-    work: &[u8],
-    answers: &[u8],
-    n: usize,
-    answered: usize,
-    premises: Args,
-    l: u32,
-    r: u32,
-) -> bool
-    requires { Joining job.now work.now answers.now n answered premises l r }
-    ensures { result ≡ leads_in (kept_term job work n l)
-        (all_sides_told job work answers n answered premises) (kept_term job work n r) }
+fn leads(past: &Past, premises: Args, l: u32, r: u32) -> bool
+    requires { Joining past.now premises l r }
+    ensures { result ≡ leads_in (kept_term past.now.terms l) (all_sides_told past.now premises)
+        (kept_term past.now.terms r) }
 {
-    let end = premises.count;
     let mut at = l;
-    let mut i: usize = 0;
-    while i < end {
-        let Sides::Of(a, b) = sides_at(job, work, answers, n, answered, premises, i) else {
+    for i in 0..premises.count {
+        let Some((a, b)) = past.sides_at(premises, i) else {
             return false;
         };
         if a != at {
             return false;
         }
         at = b;
-        i += 1;
     }
     at == r
 }
 
 // trans: two premises or more, each beginning where the one before it ends.
-pub fn trans(
-    job: &[u8],
-    work: &[u8],
-    answers: &[u8],
-    n: usize,
-    answered: usize,
-    premises: Args,
-    l: u32,
-    r: u32,
-) -> bool
-    requires { Joining job.now work.now answers.now n answered premises l r }
-    ensures { result ≡ joins_told job work answers n answered by_trans premises l r }
+pub fn trans(past: &Past, premises: Args, l: u32, r: u32) -> bool
+    requires { Joining past.now premises l r }
+    ensures { result ≡ joins_told past.now by_trans premises l r }
 {
     if premises.count < 2 {
         return false;
     }
-    leads(job, work, answers, n, answered, premises, l, r)
+    leads(past, premises, l, r)
 }
 
 // Are the two terms of one kind, with the same numbers in it?
+#[tactic(auto, using(std::proofs::lemmas::Bool::Decides::nat_tests, crate::proofs::Joins::kinds_are))]
 fn same_kind(s: Term, t: Term) -> bool
     ensures { result ≡ same_op (op_of s) (op_of t) }
 {
     let a = s.head();
     let b = t.head();
-    if a.kind != b.kind {
-        return false;
-    }
-    if a.first != b.first {
-        return false;
-    }
-    a.second == b.second
+    a.kind == b.kind && a.first == b.first && a.second == b.second
 }
 
 // Is each premise the equality of the arguments at its place?
-fn argument_wise(
-    job: &[u8],
-    work: &[u8],
-    answers: &[u8],
-    n: usize,
-    answered: usize,
-    premises: Args,
-    xs: Operands,
-    ys: Operands,
-) -> bool
-    requires { Arguing job.now work.now answers.now n answered premises xs ys }
-    ensures { result ≡ argued (kept_terms job work n) (all_sides_told job work answers n answered premises)
-        (numbers_of job.now xs) (numbers_of job.now ys) }
+fn argument_wise(past: &Past, premises: Args, xs: Operands, ys: Operands) -> bool
+    requires { Arguing past.now premises xs ys }
+    ensures { result ≡ argued (kept_terms past.now.terms) (all_sides_told past.now premises)
+        (numbers_of past.now.terms.job.now xs) (numbers_of past.now.terms.job.now ys) }
 {
-    let end = premises.count;
-    if count(xs) != end {
+    if count(xs) != premises.count {
         return false;
     }
-    if count(ys) != end {
+    if count(ys) != premises.count {
         return false;
     }
-    let mut i: usize = 0;
-    while i < end {
-        if !shows(
-            job,
-            work,
-            answers,
-            n,
-            answered,
-            premises,
-            i,
-            operand(job, xs, i),
-            operand(job, ys, i),
-        ) {
+    let job = past.terms.job;
+    for i in 0..premises.count {
+        if !shows(past, premises, i, operand(job, xs, i), operand(job, ys, i)) {
             return false;
         }
-        i += 1;
     }
     true
 }
 
 // cong: one premise for each argument of one operation.
-pub fn cong(
-    job: &[u8],
-    work: &[u8],
-    answers: &[u8],
-    n: usize,
-    answered: usize,
-    premises: Args,
-    l: u32,
-    r: u32,
-) -> bool
-    requires { Joining job.now work.now answers.now n answered premises l r }
-    ensures { result ≡ joins_told job work answers n answered by_cong premises l r }
+pub fn cong(past: &Past, premises: Args, l: u32, r: u32) -> bool
+    requires { Joining past.now premises l r }
+    ensures { result ≡ joins_told past.now by_cong premises l r }
 {
-    let s = term_at(job, work, n, l);
-    let t = term_at(job, work, n, r);
+    let s = past.terms.term_on(l);
+    let t = past.terms.term_on(r);
     if !same_kind(s, t) {
         return false;
     }
-    argument_wise(
-        job,
-        work,
-        answers,
-        n,
-        answered,
-        premises,
-        s.operands(),
-        t.operands(),
-    )
+    argument_wise(past, premises, s.operands(), t.operands())
 }

@@ -1,25 +1,25 @@
-// Chains: steps that join the equalities of earlier steps. A premise is an earlier step that is held and whose literal has not been dropped since.
+// Chains: steps that join the equalities of earlier steps. A premise is an earlier step that is
+// held and whose literal has not been dropped since.
 #![tactic(auto)]
 
 mod joining;
 pub mod premises;
 
-ghost use Rattle.std.specs.Prelude.{◌≡◌, cond};
-ghost use Rattle.std.proofs.Math.Option.{some};
+ghost use Rattle.std.specs.Prelude.{◌≡◌, ◌+◌, ◌<◌, cond};
+ghost use Rattle.std.specs.Prelude.{Some as some};
+ghost use Rattle.theory.specs.Limit.{first_terms};
 ghost use Rattle.theory.specs.Optional.{is_some};
 ghost use Rattle.theory.specs.Verdict.{wrong_form, premise_broken};
 ghost use Rattle.theory.specs.RuleTable.{ChainRule, chain_rule_at};
 ghost use Rattle.theory.specs.Chain.{joined};
 ghost use Rattle.terms.specs.Decoded.{Inside};
-ghost use Rattle.store.specs.Lent.{kept_term};
+ghost use Rattle.store.specs.KeptTerms.{kept_term};
 ghost use Rattle.operand_rules.specs.Rules.{verdict_of};
-ghost use Rattle.chains.specs.Premises.{Noted, Claimed, Joining};
-ghost use Rattle.chains.specs.Told.{premises_told, joins_told};
+ghost use Rattle.chains.specs.Told.{premises_told, joins_told, Joining};
 
 use crate::joining::{cong, symm, trans};
-use crate::premises::all_stand;
+use crate::premises::Past;
 use operand_rules::Verdict;
-use store::terms_at::term_at;
 use terms::{Args, Term};
 
 // The numbers of the rules; cong is the third.
@@ -28,70 +28,44 @@ const SYMM: u32 = 31;
 const TRANS: u32 = 32;
 
 // Do the premises join to the claim (= l r), by the rule with that number?
-fn joins_by(
-    job: &[u8],
-    work: &[u8],
-    answers: &[u8],
-    n: usize,
-    answered: usize,
-    rule: u32,
-    premises: Args,
-    l: u32,
-    r: u32,
-) -> bool
-    requires { Joining job.now work.now answers.now n answered premises l r }
+fn joins_by(past: &Past, rule: u32, premises: Args, l: u32, r: u32) -> bool
+    requires { Joining past.now premises l r }
     ensures { (by : ChainRule) → chain_rule_at rule ≡ some by
-        → result ≡ joins_told job work answers n answered by premises l r }
+        → result ≡ joins_told past.now by premises l r }
 {
-    if rule == SYMM {
-        return symm(job, work, answers, n, answered, premises, l, r);
+    match rule {
+        SYMM => symm(past, premises, l, r),
+        TRANS => trans(past, premises, l, r),
+        _ => cong(past, premises, l, r),
     }
-    if rule == TRANS {
-        return trans(job, work, answers, n, answered, premises, l, r);
-    }
-    cong(job, work, answers, n, answered, premises, l, r)
 }
 
 // Why a chain is not held: a premise is broken, or else its form is wrong.
-fn refused(
-    job: &[u8],
-    work: &[u8],
-    answers: &[u8],
-    n: usize,
-    answered: usize,
-    premises: Args,
-) -> Verdict
-    requires { Noted job.now work.now answers.now n answered × Inside job.now premises }
+fn refused(past: &Past, premises: Args) -> Verdict
+    requires { Inside past.now.terms.job.now premises }
     ensures { verdict_of result
-        ≡ cond (is_some (premises_told job work answers n answered premises)) wrong_form premise_broken }
+        ≡ cond (is_some (premises_told past.now premises)) wrong_form premise_broken }
 {
-    if all_stand(job, work, answers, n, answered, premises) {
+    if past.all_stand(premises) {
         Verdict::WrongForm
     } else {
         Verdict::PremiseBroken
     }
 }
 
-// The verdict of a chain's rule on its literal. Premises that join all stand, so whether they do is asked only where the joining fails.
-pub fn chain_verdict(
-    job: &[u8],
-    work: &[u8],
-    answers: &[u8],
-    n: usize,
-    answered: usize,
-    rule: u32,
-    premises: Args,
-    literal: u32,
-) -> Verdict
-    requires { Claimed job.now work.now answers.now n answered premises literal }
+// The verdict of a chain's rule on its literal. Premises that join all stand, so whether they do is
+// asked only where the joining fails.
+pub fn chain_verdict(past: &Past, rule: u32, premises: Args, literal: u32) -> Verdict
+    requires inside { Inside past.now.terms.job.now premises }
+    requires below { literal < first_terms + past.now.terms.rows }
     ensures { (by : ChainRule) → chain_rule_at rule ≡ some by → verdict_of result
-        ≡ joined by (premises_told job work answers n answered premises) (kept_term job work n literal) }
+        ≡ joined by (premises_told past.now premises) (kept_term past.now.terms literal) }
 {
-    let Term::Equals(l, r) = term_at(job, work, n, literal) else {
-        return refused(job, work, answers, n, answered, premises);
+    let Term::Equals(l, r) = past.terms.term_on(literal) else {
+        return refused(past, premises);
     };
-    if joins_by(job, work, answers, n, answered, rule, premises, l, r) {
+    if joins_by(past, rule, premises, l, r) {
         return Verdict::Held;
     }
-    refused(job, work, answers, n, answered, premises)
+    refused(past, premises)
 }

@@ -1,160 +1,120 @@
 // Which earlier steps may be premises, and what they show.
-ghost use Rattle.std.specs.Prelude.{◌≡◌, true, ◌+◌, ◌*◌, ◌≤◌, ◌<◌, length, drop};
+ghost use Rattle.std.specs.Prelude.{◌≡◌, true, ◌+◌, ◌<◌, IfSome, option_map, drop};
+ghost use Rattle.std.proofs.Math.Bool.{Bool-set};
+ghost use Rattle.std.proofs.Math.Dec.{T_prop};
 ghost use Rattle.theory.specs.Limit.{first_terms};
-ghost use Rattle.rows.specs.Layout.{link_size, row_size};
 ghost use Rattle.theory.specs.Optional.{is_some};
 ghost use Rattle.theory.specs.Record.{whole};
 ghost use Rattle.theory.specs.Chain.{premise_place};
+ghost use Rattle.theory.proofs.Facts.{kept_facts};
 ghost use Rattle.terms.specs.Decoded.{Inside};
-ghost use Rattle.chains.specs.Premises.{claimed_at, literal_of, origin_before, sides_below, Noted};
-ghost use Rattle.chains.specs.Told.{earlier_told, premises_told, sides_told, kept_sides};
+ghost use Rattle.chains.specs.Premises.{claimed_at, Noted};
 
 use rows::{FIRST_PLACE, offset_at};
 use steps::answers::{code_at, place_at};
-use store::terms_at::term_at;
+use store::shelf::Terms;
 use terms::{Args, Item, Term};
 
-// The place of a premise's literal, or that there is no such premise.
-#[derive(Clone, Copy)]
-pub enum Premise {
-    Literal(u32),
-    Broken,
-}
-
-// The two sides of a premise, or that there are none.
-#[derive(Clone, Copy)]
-pub enum Sides {
-    Of(u32, u32),
-    None,
-}
-
 // The literal that the whole record at `at` claims: the first of a step, the only one of a chain.
-fn claimed(job: &[u8], at: usize) -> Premise
+fn claimed(job: &[u8], at: usize) -> Option<u32>
     requires { whole (drop at job.now) ≡ true }
-    ensures { literal_of result ≡ claimed_at job.now at }
+    ensures { result ≡ claimed_at job.now at }
 {
     let item = Term::read(job, at);
     match item {
         Item::Step(_, literals) => {
             if literals.count == 0 {
-                return Premise::Broken;
+                return None;
             }
-            Premise::Literal(Term::argument(job, literals, 0))
+            Some(Term::argument(job, literals, 0))
         }
-        Item::Chain(_, _, literal) => Premise::Literal(literal),
-        Item::Term(_) => Premise::Broken,
-        Item::Back(_) => Premise::Broken,
-        Item::Unknown => Premise::Broken,
-        Item::Misfit => Premise::Broken,
+        Item::Chain(_, _, literal) => Some(literal),
+        Item::Term(_) => None,
+        Item::Back(_) => None,
+        Item::Unknown => None,
+        Item::Misfit => None,
     }
 }
 
-// Is there a term at that place, and does its record stand before the place `at` of the job? `true` and `false` are there from the start.
-fn kept_before(job: &[u8], work: &[u8], n: usize, place: u32, at: usize) -> bool
-    requires { n * row_size (link_size job.now) ≤ length work.now }
-    ensures { result ≡ origin_before job.now work.now n place at }
-{
-    let p = place as usize;
-    if p < FIRST_PLACE {
-        return true;
-    }
-    if n <= p - FIRST_PLACE {
-        return false;
-    }
-    offset_at(job, work, p - FIRST_PLACE) < at
+// What a chain knows of the steps before it: the kept terms, and so many answers, each of which
+// holds the place of its step's record.
+#[derive(Clone, Copy)]
+pub struct Past<'a> {
+    pub terms: Terms<'a>,
+    pub answers: &'a [u8],
+    pub count: usize,
+    pub ghost noted: { Noted terms.job.now terms.work.now answers.now terms.rows count } by { Prim.hlevel (kept_facts, Bool-set, T_prop) },
 }
 
-// The literal of the earlier step with that number, counted from 1, where the step is held and the literal not dropped since.
-pub fn premise_at(
-    job: &[u8],
-    work: &[u8],
-    answers: &[u8],
-    n: usize,
-    answered: usize,
-    number: u32,
-) -> Premise
-    requires { Noted job.now work.now answers.now n answered }
-    ensures { literal_of result ≡ premise_place (earlier_told job work answers n answered) number }
-{
-    if number == 0 {
-        return Premise::Broken;
-    }
-    let k = number as usize - 1;
-    if answered <= k {
-        return Premise::Broken;
-    }
-    let bytes = Term::number_length(job);
-    if code_at(answers, bytes, k) != 0 {
-        return Premise::Broken;
-    }
-    let at = place_at(answers, bytes, k);
-    let Premise::Literal(p) = claimed(job, at) else {
-        return Premise::Broken;
-    };
-    if kept_before(job, work, n, p, at) {
-        Premise::Literal(p)
-    } else {
-        Premise::Broken
-    }
-}
+impl<'a> Past<'a> {
+    ghost use Rattle.chains.specs.Told.{earlier_told, is_before, premises_told};
+    ghost use Rattle.chains.specs.Told.{sides_told, sides_of};
 
-// May each of these be a premise?
-pub fn all_stand(
-    job: &[u8],
-    work: &[u8],
-    answers: &[u8],
-    n: usize,
-    answered: usize,
-    premises: Args,
-) -> bool
-    requires { Noted job.now work.now answers.now n answered × Inside job.now premises }
-    ensures { result ≡ is_some (premises_told job work answers n answered premises) }
-{
-    let count = premises.count;
-    let mut i: usize = 0;
-    while i < count {
-        let Premise::Literal(_) = premise_at(
-            job,
-            work,
-            answers,
-            n,
-            answered,
-            Term::argument(job, premises, i),
-        ) else {
+    // Is there a term at that place, and does its record stand before the place `at` of the job?
+    // `true` and `false` are there from the start.
+    fn kept_before(&self, place: u32, at: usize) -> bool
+        ensures { result ≡ is_before self.now place at }
+    {
+        let p = place as usize;
+        if p < FIRST_PLACE {
+            return true;
+        }
+        if self.terms.rows <= p - FIRST_PLACE {
             return false;
-        };
-        i += 1;
+        }
+        offset_at(self.terms.job, self.terms.work, p - FIRST_PLACE) < at
     }
-    true
-}
 
-// The sides of premise i of a list.
-pub fn sides_at(
-    job: &[u8],
-    work: &[u8],
-    answers: &[u8],
-    n: usize,
-    answered: usize,
-    premises: Args,
-    i: usize,
-) -> Sides
-    requires { Noted job.now work.now answers.now n answered
-        × Inside job.now premises × (i < premises.count) }
-    ensures below { sides_below (first_terms + n) result }
-    ensures sides { kept_sides job work n result ≡ sides_told job work answers n answered premises i }
-{
-    let Premise::Literal(p) = premise_at(
-        job,
-        work,
-        answers,
-        n,
-        answered,
-        Term::argument(job, premises, i),
-    ) else {
-        return Sides::None;
-    };
-    let Term::Equals(l, r) = term_at(job, work, n, p) else {
-        return Sides::None;
-    };
-    Sides::Of(l, r)
+    // The literal of the earlier step with that number, counted from 1, where the step is held and
+    // the literal not dropped since.
+    pub fn premise_at(&self, number: u32) -> Option<u32>
+        ensures { result ≡ premise_place (earlier_told self.now) number }
+    {
+        if number == 0 {
+            return None;
+        }
+        let k = number as usize - 1;
+        if self.count <= k {
+            return None;
+        }
+        let bytes = Term::number_length(self.terms.job);
+        if code_at(self.answers, bytes, k) != 0 {
+            return None;
+        }
+        let at = place_at(self.answers, bytes, k);
+        let p = claimed(self.terms.job, at)?;
+        if self.kept_before(p, at) {
+            Some(p)
+        } else {
+            None
+        }
+    }
+
+    // May each of these be a premise?
+    pub fn all_stand(&self, premises: Args) -> bool
+        requires { Inside self.now.terms.job.now premises }
+        ensures { result ≡ is_some (premises_told self.now premises) }
+    {
+        for i in 0..premises.count {
+            let Some(_) = self.premise_at(Term::argument(self.terms.job, premises, i)) else {
+                return false;
+            };
+        }
+        true
+    }
+
+    // The sides of premise i of a list, where it may be one and is an equality.
+    pub fn sides_at(&self, premises: Args, i: usize) -> Option<(u32, u32)>
+        requires inside { Inside self.now.terms.job.now premises }
+        requires there { i < premises.count }
+        ensures below { IfSome result (λ s. (s.0 < first_terms + self.now.terms.rows)
+            × (s.1 < first_terms + self.now.terms.rows)) }
+        ensures sides { option_map (sides_of self.now) result ≡ sides_told self.now premises i }
+    {
+        let p = self.premise_at(Term::argument(self.terms.job, premises, i))?;
+        let Term::Equals(l, r) = self.terms.term_on(p) else {
+            return None;
+        };
+        Some((l, r))
+    }
 }

@@ -17,11 +17,12 @@ use terms::{ANSWER_BYTES, Term};
 // The bytes lent for the job, for work memory and for answers.
 const MEMORY: usize = 65536;
 
-// The space for the text of any such job: it has no more answers than fit into their memory, of which none is shorter than ten bytes.
+// The space for the text of any such job: it has no more answers than fit into their memory, of
+// which none is shorter than ten bytes.
 const TEXT_SPACE: usize = HEAD_SPACE + MEMORY / ANSWER_BYTES * LINE_SPACE;
 
-// Writes what `bbcheck` prints for an input, and answers how many bytes that is. Nothing is written where `out` has not the space for any
-// such text.
+// Writes what `bbcheck` prints for an input, and answers how many bytes that is. Nothing is written
+// where `out` has not the space for any such text.
 pub fn bbcheck_text(input: &[u8], out: &mut [u8]) -> usize
     ensures memory { out.new
         ≡ written (shown input.now (length out.old)) out.old }
@@ -41,9 +42,10 @@ pub fn bbcheck_text(input: &[u8], out: &mut [u8]) -> usize
     report::report(o.stop, o.terms, o.repeats, o.answers, &answers, bytes, out)
 }
 
-// Reads the input, of which one byte more than is lent for a job tells that it is too long, prints the text, and answers how many bytes
-// that is. Where a reader's and a writer's bytes are known, what is written is the text of all that there is to read. The first read or write
-// that fails ends it; nothing is written where a read failed.
+// Reads the input, of which one byte more than is lent for a job tells that it is too long, prints
+// the text, and answers how many bytes that is. Where a reader's and a writer's bytes are known,
+// what is written is the text of all that there is to read. The first read or write that fails ends
+// it; nothing is written where a read failed.
 pub fn check_input<R: Read, W: Write>(input: &mut R, output: &mut W) -> io::Result<usize>
     ensures printed { IfOk result Printed }
     ensures text { OnOk result (IfSome (R.remaining input.old)

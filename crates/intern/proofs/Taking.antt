@@ -2,14 +2,15 @@
 use mathlib.Core.Path.{◌≡◌, refl, sym, ap, ap₂, subst, ◌∙◌}
 use mathlib.Core.Bool.{Bool, true, false, ◌&&◌, ◌||◌, cond}
 use mathlib.Core.List.{List, [], ◌∷◌, ◌++◌, map, map-append}
-use mathlib.Core.Option.{some}
+use Rattle.std.specs.Prelude.{Some as some}
 use Prim.Native.Nat.{ℕ, zero, suc, ◌+◌, ◌-◌, ◌*◌, ◌^◌, ◌<◌, ◌≤◌, min}
 use native.Mathlib.Nat.{pow-le-pow_right}
 use native.Mathlib.Omega.{arith}
 use native.Mathlib.Decide.{ℕ_discrete, dec_le}
 use lib.Dec.{T, leb, ltb, eqb, leb→le}
 use lib.Ieee.Fits.{and_r}
-use lib.ListN.{length, take, drop, get_or, get_elem?, length-take, length-append, length-drop, get_or-append}
+use lib.ListN.{length, take, drop, get_or, length-take, length-append, length-drop, get_or-append}
+use Rattle.std.specs.Prelude.{slice_get as get_elem?}
 use lib.Seq.{take-take, get_or-append_seam, get_or-take, drop-append-le, drop-drop}
 use borrow.Author.Tests.{eqb-true, eqb-false, le-leb, lt-leb}
 use Rattle.theory.specs.Limit.{number_bytes, Limits, capped, first_terms, max_width, term_bytes}

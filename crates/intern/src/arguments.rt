@@ -10,8 +10,9 @@ ghost use Rattle.intern.specs.Kinds.{deepest_bool};
 ghost use Rattle.intern.specs.Lent.{argument_term, argument_sorts, deepest_argument};
 
 use super::guards::{of_width, same_sort};
-use store::shelf::bool_depth;
-use store::sorts::{Sort, depth_at, sort_at, width_of};
+use store::gates::Kept;
+use store::shelf::Terms;
+use store::sorts::{Sort, width_of};
 use terms::{Operands, Term};
 
 // How many arguments there are.
@@ -52,7 +53,8 @@ pub fn operand_sort(job: &[u8], work: &[u8], n: usize, ops: Operands, i: usize) 
     ensures { sort_read result ≡ sort_of (argument_term job work n ops i) }
 {
     let x = operand(job, ops, i);
-    sort_at(job, work, n, x)
+    let kept = Kept::new(job, work, n);
+    kept.sort_at(x)
 }
 
 // The depth of argument i.
@@ -61,7 +63,8 @@ pub fn operand_depth(job: &[u8], work: &[u8], n: usize, ops: Operands, i: usize)
     ensures { Bounded result (depth (argument_term job work n ops i)) place_end }
 {
     let x = operand(job, ops, i);
-    depth_at(job, work, n, x)
+    let kept = Kept::new(job, work, n);
+    kept.depth_at(x)
 }
 
 // The sort of the first argument, Bad where there is none.
@@ -172,11 +175,12 @@ pub fn deepest_bool(job: &[u8], work: &[u8], n: usize, ops: Operands) -> u32
     ensures { result ≡ deepest_bool (kept_terms job work n)
         (numbers_of job.now ops) }
 {
+    let kept = Terms::new(job, work, n);
     let end = count(ops);
     let mut most: u32 = 0;
     let mut i: usize = 0;
     while i < end {
-        let d = bool_depth(job, work, n, operand(job, ops, i));
+        let d = kept.bool_depth(operand(job, ops, i));
         if d == rows::MISSING {
             return rows::MISSING;
         }

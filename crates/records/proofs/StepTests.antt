@@ -5,7 +5,8 @@ use mathlib.Core.List.{List, [], ◌∷◌}
 use Prim.Native.Nat.{ℕ, zero, suc, ◌+◌, ◌-◌, ◌*◌, ◌<◌, ◌≤◌}
 use native.Mathlib.Omega.{arith}
 use lib.Dec.{leb}
-use lib.ListN.{length, drop, get_elem?}
+use lib.ListN.{length, drop}
+use Rattle.std.specs.Prelude.{slice_get as get_elem?}
 use borrow.Author.Tests.{eq-eqb, ne_eqb, le-leb, lt-leb, lt-ltb, le-ltb}
 use Rattle.theory.specs.Limit.{answer_bytes}
 use Rattle.theory.specs.Optional.{is_some}

@@ -1,8 +1,8 @@
 -- What became of a record, by what it was read as.
-use mathlib.Core.Path.{◌≡◌, refl, sym, ap, subst, ◌∙◌}
+use mathlib.Core.Path.{◌≡◌, refl, sym, ap, ap₂, subst, ◌∙◌}
 use mathlib.Core.Bool.{Bool, true, false, cond}
 use mathlib.Core.List.{List, [], ◌∷◌, ◌++◌, map}
-use mathlib.Core.Option.{Option, none, some}
+use Rattle.std.specs.Prelude.{Option, None as none, Some as some}
 use Prim.Native.Nat.{ℕ, zero, suc, ◌+◌, ◌-◌, ◌<◌, ◌≤◌}
 use native.Mathlib.Omega.{arith}
 use lib.ListN.{length, take, drop}
@@ -30,20 +30,24 @@ use Rattle.terms.specs.declared.Item.{Item}
 use Rattle.terms.specs.declared.Item.TheVariants as I
 use Rattle.terms.specs.declared.Term.{Term}
 use Rattle.terms.specs.Framing.{record_at}
-use Rattle.terms.specs.Decoded.{Placed, item_of, op_of, arguments_of, words_in}
+use Rattle.terms.specs.Decoded.{Inside, Placed, item_of, op_of, arguments_of, words_in}
 use Rattle.rows.specs.Rows.{offsets}
+use Rattle.store.specs.declared.shelf.Terms.{Terms}
+use Rattle.store.specs.KeptTerms.{Holds, kept_terms, kept_term}
 use Rattle.store.specs.Store.{Store, listed}
 use Rattle.intern.specs.Interning.{CutBack, Offered, Taken, code_of, rows_after, list_after, offsets_after, bytes_after, with_term, answer_for}
 use Rattle.intern.specs.declared.Interned.{Interned}
 use Rattle.intern.specs.declared.Interned.TheVariants as N
 use Rattle.steps.specs.declared.answers.Reply.{Reply}
 use Rattle.records.specs.declared.Turn.{Turn}
+use Rattle.store.specs.declared.gates.Kept.{Kept}
+use Rattle.store.specs.Lookup.{Finds}
 use Rattle.steps.specs.Answering.{given, equation_depth, with_notes, Literals, Judged}
 use Rattle.steps.proofs.Equations.{accepted_depth}
 use Rattle.steps.proofs.Judging.{judged_is}
 use Rattle.rows.specs.Layout.{link_size, place_end}
 use Rattle.rows.proofs.RowLaws.{rows_small}
-use Rattle.chains.specs.Premises.{earlier_in, origins, Noted, Claimed}
+use Rattle.chains.specs.Premises.{earlier_in, origins}
 use Rattle.records.specs.Turning.{passed, turn, repeats_in, Reading, answers_at, origins_at, memory_item, memory_at, Turned}
 use Rattle.steps.proofs.Writing.{none_written}
 use Rattle.theory.proofs.Basics.{T_true}
@@ -288,16 +292,17 @@ module _ (limits : Limits) (place : ℕ) {job work : Bytes} {rows at rule : ℕ}
   step_right z = step_passed place (number_length job) limits (length work) (length answers) (listed job work rows) answered (record_at job at) rule (words_in job literals) (sym same_code ∙ z)
 
   -- so they may be answered
-  pub step_literals : c ≡ 0 → Literals job work rows literals × (is_some (rule_at rule) ≡ true)
-  step_literals z =
-      let p = step_right z in (
-        record {
-          store = g.store;
-          inside = g.placed;
-          below = ap (λ (n : ℕ). all_below n (words_in job literals)) (sym g.store.count) ∙ T_true _ p.below;
-        },
-        ap is_some p.rule_is,
-      )
+  pub step_literals : c ≡ 0 → (k : Kept) → Finds k.lookup job work rows → Literals k literals
+  step_literals z k h =
+      let p = step_right z in record {
+        inside = subst (λ (j : Bytes). Inside j literals) (sym h.job_is) g.placed;
+        below = ap (λ (j : Bytes). all_below (first_terms + k.lookup.rows) (words_in j literals)) h.job_is ∙ ap (λ (r : ℕ). all_below (first_terms + r) (words_in job literals)) h.rows_are
+            ∙ ap (λ (n : ℕ). all_below n (words_in job literals)) (sym g.store.count) ∙ T_true _ p.below;
+      }
+
+  -- and there is such a rule
+  pub step_ruled : c ≡ 0 → is_some (rule_at rule) ≡ true
+  step_ruled z = ap is_some (step_right z).rule_is
 
   -- its answer is written
   pub step_turned : c ≡ 0 → {reply : Reply} {after : Bytes}
@@ -327,13 +332,19 @@ unfolding chain_verdict
 joined_depth by none t a = absurd (let z : ◌≡◌ {A = ℕ} 0 1 = cc in omega arith)
 joined_depth by (some ts) t a = accepted_depth t (λ l r. form (collect (map sides ts)) (λ ps. cond (joins by ps l r) held wrong_form)) a
 
-module _ (limits : Limits) (place : ℕ) {job work : Bytes} {rows at rule literal : ℕ} {premises : Args} (g : Reading job work rows at (I.Chain rule premises literal)) (answers : Bytes) (answered : ℕ) {c : ℕ}
-    (f : c ≡ first_fault (step_tests (number_length job) (rows + first_terms) (length answers) answered (is_some (chain_rule_at rule)) (literal ∷ []))) where
+-- its verdict, by the terms that were read
+pub verdict_told : (t : Terms) {job work : Bytes} {rows : ℕ} → Holds t job work rows → (answers : Bytes) (answered : ℕ) (premises : Args) (literal : ℕ) (by : ChainRule)
+    → joined by (premises_at (earlier_in t.job.now t.work.now answers t.rows answered) (kept_terms t) (words_in t.job.now premises)) (kept_term t literal)
+    ≡ joined by (premises_at (earlier_in job work answers rows answered) (listed job work rows) (words_in job premises)) (tree_at (listed job work rows) literal)
+verdict_told t h answers answered premises literal by = rw (h.job_is, h.work_is, h.rows_are) refl
+
+module _ (limits : Limits) (place : ℕ) {job work : Bytes} {rows at rule literal : ℕ} {premises : Args} (g : Reading job work rows at (I.Chain rule premises literal)) (answers : Bytes) (answered : ℕ) {b c : ℕ} (d : b ≡ number_length job)
+    (f : c ≡ first_fault (step_tests b (rows + first_terms) (length answers) answered (is_some (chain_rule_at rule)) (literal ∷ []))) where
   chain_code : c ≡ code limits place g answers answered
   chain_code =
       let n = g.store.count in
       let e : rows + first_terms ≡ length (listed job work rows) = omega arith in
-      f ∙ ap (λ (k : ℕ). first_fault (step_tests (number_length job) k (length answers) answered (is_some (chain_rule_at rule)) (literal ∷ []))) e
+      f ∙ ap₂ (λ (m k : ℕ). first_fault (step_tests m k (length answers) answered (is_some (chain_rule_at rule)) (literal ∷ []))) d e
 
   -- a test fails
   pub chain_stopped : (c ≡ 0 → ⊥) → Turned limits place job work answers rows answered at work answers (turn c answered rows 0)
@@ -344,15 +355,15 @@ module _ (limits : Limits) (place : ℕ) {job work : Bytes} {rows at rule litera
   chain_right z = chain_passed place (number_length job) limits (length work) (length answers) (listed job work rows) answered (record_at job at) rule (words_in job premises) literal (sym chain_code ∙ z)
 
   -- so its literal is kept
-  pub chain_claimed : c ≡ 0 → Noted job work answers rows answered → Claimed job work answers rows answered premises literal
-  chain_claimed z n = record { noted = n; inside = g.placed; below = let p = (chain_right z).below in let q = g.store.count in omega arith }
+  pub chain_below : c ≡ 0 → literal < first_terms + rows
+  chain_below z = let p = (chain_right z).below in let q = g.store.count in omega arith
 
   -- its answer is written
   pub chain_turned : c ≡ 0 → {v : Said} {reply : Reply} {after : Bytes}
       → ((by : ChainRule) → chain_rule_at rule ≡ some by → v ≡ joined by (premises_at (earlier_in job work answers rows answered) (listed job work rows) (words_in job premises)) (tree_at (listed job work rows) literal))
       → Judged v (tree_at (listed job work rows) literal) reply
       → after ≡ with_notes (number_length job) answers answered at (given rule reply ∷ []) → {u : Turn} → u ≡ turn 0 (answered + 1) rows 0 → Turned limits place job work answers rows answered at work after u
-  chain_turned z {v} {reply} {after} says j wrote d =
+  chain_turned z {v} {reply} {after} says j wrote o =
       let p = chain_right z in
       let q = premises_at (earlier_in job work answers rows answered) (listed job work rows) (words_in job premises) in
       let t = tree_at (listed job work rows) literal in
@@ -360,7 +371,7 @@ module _ (limits : Limits) (place : ℕ) {job work : Bytes} {rows at rule litera
       let one : answers_at job work answers rows answered at ≡ given rule reply ∷ []
       = sym (answers_are g answers answered) ∙ chain_answer (number_length job) (earlier_in job work answers rows answered) (length answers) (listed job work rows) answered rule literal (words_in job premises) p
       ∙ ap (λ (a : Answer). a ∷ []) (sym (judged_is rule j (λ a. joined_depth p.rule q t (ap accepted (sym e) ∙ a)) ∙ ap (λ (w : Said). judged rule w t) e)) in
-      subst (Turned limits place job work answers rows answered at work after) (sym d)
+      subst (Turned limits place job work answers rows answered at work after) (sym o)
       (record {
         code_is = sym z ∙ chain_code ∙ fault_is limits place g answers answered;
         memory_is = memory_same g answers answered;

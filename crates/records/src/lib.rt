@@ -19,10 +19,13 @@ ghost use Rattle.chains.specs.Premises.{Noted};
 ghost use Rattle.records.specs.Turning.{repeats_in, turn, Reading, Turned};
 
 use chains::chain_verdict;
+use chains::premises::Past;
 use intern::{Interned, Limits, back, intern};
 use rows::FIRST_PLACE;
 use steps::answers::{Reply, put_answer};
 use steps::{answer, judge};
+use store::gates::Kept;
+use store::shelf::Terms;
 use terms::{Args, DEPTH_AT, Item, Term, stop};
 
 // The number of the last rule; the first is 1.
@@ -192,7 +195,8 @@ fn step_record(
             repeats: 0,
         };
     }
-    let reply = answer(job, work, rows, rule, literals);
+    let kept = Kept::new(job, work, rows);
+    let reply = answer(&kept, rule, literals);
     answered_turn(answers, bytes, rows, answered, at, rule, reply)
 }
 
@@ -249,8 +253,14 @@ fn chain_record(
             repeats: 0,
         };
     }
-    let v = chain_verdict(job, work, answers, rows, answered, rule, premises, literal);
-    let reply = judge(job, work, rows, literal, v);
+    let past = Past {
+        terms: Terms::new(job, work, rows),
+        answers,
+        count: answered,
+    };
+    let v = chain_verdict(&past, rule, premises, literal);
+    let kept = Kept::new(job, work, rows);
+    let reply = judge(&kept, literal, v);
     answered_turn(answers, bytes, rows, answered, at, rule, reply)
 }
 

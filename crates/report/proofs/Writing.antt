@@ -2,10 +2,9 @@
 use mathlib.Core.Path.{◌≡◌, refl, sym, ap, ap₂, subst, ◌∙◌}
 use mathlib.Core.List.{[], ◌∷◌, ◌++◌, append_assoc}
 use Prim.Native.Nat.{ℕ, ◌+◌, ◌≤◌, ◌<◌}
-use native.Mathlib.Numerals.{add-one}
 use native.Mathlib.Omega.{arith}
-use lib.ListN.{length, take, drop, set, get_or, length-set, length-append, length-drop}
-use lib.Seq.{take_at, drop_at, drop-drop, length-take-le, sets-eq, take-length, paste, paste-zero, paste-suc}
+use lib.ListN.{length, take, drop, set, length-append, length-drop}
+use lib.Seq.{take_at, drop_at, drop-drop, length-take-le, sets-eq, paste-zero}
 use Rattle.theory.specs.Record.{Bytes}
 use Rattle.report.specs.Text.{Wrote, written}
 
@@ -53,37 +52,6 @@ wrote_byte old at x h = record { fits = omega arith; now_is = sets-eq (x ∷ [])
 
 pub wrote_same : {old text text' new : Bytes} {at end : ℕ} → Wrote old at text new end → text ≡ text' → Wrote old at text' new end
 wrote_same {old} {text} {text'} {new} {at} {end} w e = subst (λ (t : Bytes). Wrote old at t new end) e w
-
--- the first i bytes of a text are copied
-pub record Copied (old : Bytes) (at : ℕ) (text now : Bytes) (i : ℕ) : Type 0 where
-  pub within : i ≤ length text
-  pub fit : at + length text ≤ length old
-  pub same : length now ≡ length old
-  pub is : now ≡ paste old at text i
-
-module _ {old text : Bytes} {at : ℕ} where
-  pub copied_start : at + length text ≤ length old → Copied old at text old 0
-  copied_start h = record { within = omega arith; fit = h; same = refl; is = paste-zero old at text }
-
-  pub copied_turn : {now : Bytes} {i : ℕ} → i < length text → Copied old at text now i → Copied old at text (set now (at + i) (get_or text i 0)) (i + 1)
-  copied_turn {now} {i} h c =
-      let f = c.fit in
-      record {
-        within = omega arith;
-        fit = f;
-        same = length-set now (at + i) (get_or text i 0) ∙ c.same;
-        is = ap (λ (b : Bytes). set b (at + i) (get_or text i 0)) c.is ∙ paste-suc old at text i 0 (omega arith) h ∙ ap (paste old at text) (sym (add-one i));
-      }
-
-  pub copied_end : {now : Bytes} {i : ℕ} → length text ≤ i → Copied old at text now i → Wrote old at text now (at + length text)
-  copied_end {now} {i} h c =
-      let w = c.within in
-      let e : i ≡ length text = omega arith in
-      record {
-        fits = c.fit;
-        now_is = c.is ∙ ap (paste old at text) e ∙ ap (λ (t : Bytes). take at old ++ t ++ drop (at + length text) old) (take-length text);
-        end_is = refl;
-      }
 
 -- where a text of two parts ends
 pub end_two : (a b : Bytes) {old new : Bytes} {at p : ℕ} → Wrote old at (a ++ b) new p → p ≡ at + length a + length b

@@ -17,21 +17,18 @@ pub const HEAD_SPACE: usize = 80;
 // No line of an answer is longer than this.
 pub const LINE_SPACE: usize = 34;
 
-// The digit 0.
-const ZERO: u32 = 48;
-
 // A space.
-const SPACE: u32 = 32;
+const SPACE: u8 = b' ';
 
 // The end of a line.
-const NEWLINE: u32 = 10;
+const NEWLINE: u8 = b'\n';
 
-// Writes one byte at `at`. This function and the next ones answer the place after what they wrote.
-fn put_byte(x: u32, out: &mut [u8], at: usize) -> usize
-    requires { (x < 256) × (at < length out.old) }
+// Writes one byte at `at`. This function and the next ones return the place after what they wrote.
+fn put_byte(x: u8, out: &mut [u8], at: usize) -> usize
+    requires { at < length out.old }
     ensures { WroteAt out at (x ∷ []) result }
 {
-    out[at] = x as u8;
+    out[at] = x;
     at + 1
 }
 
@@ -40,11 +37,9 @@ fn put_text(text: &[u8], out: &mut [u8], at: usize) -> usize
     requires { at + length text.now ≤ length out.old }
     ensures { WroteAt out at text.now result }
 {
-    let n = text.len();
-    for i in 0..n {
-        out[at + i] = text[i];
-    }
-    at + n
+    let end = at + text.len();
+    out[at..end].copy_from_slice(text);
+    end
 }
 
 // Writes a number in decimal: what stands before its last digit, then that digit.
@@ -53,25 +48,28 @@ fn put_number(n: u32, out: &mut [u8], at: usize) -> usize
     ensures { WroteAt out at (decimal n) result }
 {
     if n < 10 {
-        return put_byte(ZERO + n, out, at);
+        return put_byte(b'0' + n as u8, out, at);
     }
     let last = put_number(n / 10, out, at);
-    put_byte(ZERO + n % 10, out, last)
+    put_byte(b'0' + (n % 10) as u8, out, last)
 }
 
 // Writes a number, and the byte that ends it.
-fn put_ended(n: u32, end: u32, out: &mut [u8], at: usize) -> usize
-    requires { (end < 256) × (at + length (decimal n) < length out.old) }
-    ensures { WroteAt out at (decimal n ++ (end ∷ [])) result × (result ≤ at + 11) }
+fn put_ended(n: u32, end: u8, out: &mut [u8], at: usize) -> usize
+    requires { at + length (decimal n) < length out.old }
+    ensures wrote { WroteAt out at (decimal n ++ (end ∷ [])) result }
+    ensures short { result ≤ at + 11 }
 {
     let after = put_number(n, out, at);
     put_byte(end, out, after)
 }
 
 // Writes the two-byte number at i of `s`, and the byte that ends it.
-fn put_field(s: &[u8], i: usize, end: u32, out: &mut [u8], at: usize) -> usize
-    requires { (i + 1 < length s.now) × (end < 256) × (at + 6 ≤ length out.old) }
-    ensures { WroteAt out at (decimal (word (drop i s.now)) ++ (end ∷ [])) result × (result ≤ at + 6) }
+fn put_field(s: &[u8], i: usize, end: u8, out: &mut [u8], at: usize) -> usize
+    requires there { i + 1 < length s.now }
+    requires space { at + 6 ≤ length out.old }
+    ensures wrote { WroteAt out at (decimal (word (drop i s.now)) ++ (end ∷ [])) result }
+    ensures short { result ≤ at + 6 }
 {
     put_ended(Term::number(s, i), end, out, at)
 }
@@ -79,7 +77,8 @@ fn put_field(s: &[u8], i: usize, end: u32, out: &mut [u8], at: usize) -> usize
 // Writes a text, and a number after it.
 fn put_total(text: &[u8], n: u32, out: &mut [u8], at: usize) -> usize
     requires { at + length text.now + 10 ≤ length out.old }
-    ensures { WroteAt out at (text.now ++ decimal n) result × (result ≤ at + length text.now + 10) }
+    ensures wrote { WroteAt out at (text.now ++ decimal n) result }
+    ensures short { result ≤ at + length text.now + 10 }
 {
     let after = put_text(text, out, at);
     put_number(n, out, after)
@@ -88,7 +87,8 @@ fn put_total(text: &[u8], n: u32, out: &mut [u8], at: usize) -> usize
 // Writes the first line, `steps N terms T repeats R stop C`.
 fn put_head(steps: u32, terms: u32, repeats: u32, stop: u32, out: &mut [u8]) -> usize
     requires { head_space ≤ length out.old }
-    ensures { WroteAt out 0 (head steps terms repeats stop) result × (result ≤ head_space) }
+    ensures wrote { WroteAt out 0 (head steps terms repeats stop) result }
+    ensures short { result ≤ head_space }
 {
     let a = put_total(b"steps ", steps, out, 0);
     let b = put_total(b" terms ", terms, out, a);
@@ -99,11 +99,13 @@ fn put_head(steps: u32, terms: u32, repeats: u32, stop: u32, out: &mut [u8]) -> 
 
 // Writes the line of answer k, counted from 0: its place from 1, rule, code and depth, which has so many bytes.
 fn put_line(answers: &[u8], bytes: usize, k: u32, out: &mut [u8], at: usize) -> usize
-    requires { (k < 4294967295) × Length bytes × (k * answer_bytes bytes + answer_bytes bytes ≤ length answers.now)
-        × (at + line_space ≤ length out.old) }
-    ensures { WroteAt out at
-        (line (k + 1) (decode_answer bytes (drop (k * answer_bytes bytes) answers.now))) result
-        × (result ≤ at + line_space) }
+    requires small { k < 4294967295 }
+    requires sized { Length bytes }
+    requires there { k * answer_bytes bytes + answer_bytes bytes ≤ length answers.now }
+    requires space { at + line_space ≤ length out.old }
+    ensures wrote { WroteAt out at
+        (line (k + 1) (decode_answer bytes (drop (k * answer_bytes bytes) answers.now))) result }
+    ensures short { result ≤ at + line_space }
 {
     let i = k as usize * (DEPTH_AT + bytes);
     let a = put_ended(k + 1, SPACE, out, at);
@@ -115,8 +117,9 @@ fn put_line(answers: &[u8], bytes: usize, k: u32, out: &mut [u8], at: usize) -> 
 
 // Writes the lines of the first `count` answers.
 fn put_lines(answers: &[u8], bytes: usize, count: u32, out: &mut [u8], at: usize) -> usize
-    requires { Length bytes × (count * answer_bytes bytes ≤ length answers.now)
-        × (at + count * line_space ≤ length out.old) }
+    requires sized { Length bytes }
+    requires there { count * answer_bytes bytes ≤ length answers.now }
+    requires space { at + count * line_space ≤ length out.old }
     ensures { WroteAt out at (answer_lines 1 (decode_answers bytes count answers.now)) result }
 {
     let mut next = at;

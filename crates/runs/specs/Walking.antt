@@ -1,12 +1,12 @@
 -- Where a job stands between two records, what the next record does to it, and what the job comes to.
 use Rattle.std.specs.Prelude.{◌≡◌, true, false, cond, ℕ, zero, suc, ◌+◌, ◌-◌, ◌*◌, ◌≤◌, ◌<◌, leb, length, take, drop}
+use Rattle.std.specs.Prelude.{None}
 use Rattle.std.specs.Borrow.{Bor, MutBor}
 use denote.Triple.Both.{Both}
 use Rattle.theory.specs.Limit.{Limits, first_terms, max_job, answer_bytes}
 use Rattle.theory.specs.Record.{Bytes, extent, whole, records_of, total_length, number_length}
 use Rattle.theory.specs.Plain.{plain_after}
 use Rattle.theory.specs.Job.{Returned, returned, Call, call, run, answers_after}
-use Rattle.terms.specs.declared.Frame.TheVariants.{Broken}
 use Rattle.terms.specs.Framing.{frame_code}
 use Rattle.steps.specs.Answering.{sealed}
 use Rattle.chains.specs.Premises.{Noted}
@@ -51,7 +51,7 @@ moved size s t =
 -- no whole record was there, so code 3 stops the job; or one was there, and it was taken
 pub data Next (limits : Limits) (job work answers : Bytes) (s : State) (work' answers' : Bytes) (s' : State) : Type 0 where
   broken : whole (drop s.at job) ≡ false → work' ≡ work → answers' ≡ answers
-      → s' ≡ state s.at (frame_code Broken) s.records s.answers s.rows s.repeats
+      → s' ≡ state s.at (frame_code None) s.records s.answers s.rows s.repeats
       → Next limits job work answers s work' answers' s'
   taken : whole (drop s.at job) ≡ true → (t : Turn)
       → Turned limits s.records job work answers s.rows s.answers s.at work' answers' t

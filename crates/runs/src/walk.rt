@@ -6,7 +6,7 @@ ghost use Rattle.runs.specs.Walking.{Standing, Next, Walked};
 
 use intern::Limits;
 use records::take_record;
-use terms::{Frame, Term, stop};
+use terms::{Term, stop};
 
 // Where a job stands: the place of the next record, the code that stopped the job or 0, the records done, the answers written, the rows kept,
 // the repeats.
@@ -27,7 +27,7 @@ fn next(job: &[u8], work: &mut [u8], answers: &mut [u8], limits: Limits, s: Stat
         work.new answers.new result }
 {
     let at = s.at;
-    let Frame::Whole(size) = Term::frame(job, at) else {
+    let Some(size) = Term::frame(job, at) else {
         return State {
             at: at,
             stop: stop::CUT,

@@ -5,12 +5,24 @@ use Rattle.theory.specs.Record.{Bytes, word}
 use Rattle.theory.specs.Answer.{Answer, decode_answers}
 use Rattle.theory.specs.Tally.{Tally}
 use Rattle.tally.specs.declared.Tally.{Tally as Lent}
+use Rattle.tally.specs.declared.Class.{Class}
+use Rattle.tally.specs.declared.Class.TheVariants.{Held, FormOnly, Refused}
 
 -- its four numbers
 abbrev pub as_tally : Lent → Tally
 as_tally t = record { jobs = t.jobs; held = t.held; form_only = t.form_only; refused = t.refused }
 
--- the codes of a class: 0 is code 0, 1 is code 1, any other is the codes from 2 on
+-- the class of a code
+abbrev pub class_of : ℕ → Class
+class_of code = cond (eqb code 0) Held (cond (eqb code 1) FormOnly Refused)
+
+-- the codes of a class
+abbrev pub belongs : Class → ℕ → Bool
+belongs Held code = eqb code 0
+belongs FormOnly code = eqb code 1
+belongs Refused code = leb 2 code
+
+-- the codes of a class by its number: 0 is code 0, 1 is code 1, any other is the codes from 2 on
 abbrev pub in_class : ℕ → ℕ → Bool
 in_class class code = cond (ltb class 2) (eqb code class) (leb 2 code)
 

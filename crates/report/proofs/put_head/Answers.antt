@@ -7,4 +7,7 @@ pub returns : goal.returns
 returns c =
     let a = c.args in
     let e = c.put_byte.ensures.end_is in
-    (head_written a.steps a.terms a.repeats a.stop c.put_total-a.ensures.0 c.put_total-b.ensures.0 c.put_total-c.ensures.0 c.put_total-d.ensures.0 c.put_byte.ensures, omega arith)
+    record {
+      wrote = head_written a.steps a.terms a.repeats a.stop c.put_total-a.ensures.wrote c.put_total-b.ensures.wrote c.put_total-c.ensures.wrote c.put_total-d.ensures.wrote c.put_byte.ensures;
+      short = omega arith;
+    }

@@ -7,15 +7,15 @@ use Rattle.report.proofs.put_line.Goals as goal
 
 pub put_ended-a-requires : goal.put_ended-a-requires
 put_ended-a-requires c = let n = c.args.k + 1 in
-    (omega arith, omega (arith, decimal_short n (let h : n < 4294967296 = omega arith in h)))
+    omega (arith, decimal_short n (let h : n < 4294967296 = omega arith in h))
 
 pub put_ended-requires : goal.put_ended-requires
 put_ended-requires c = let n = c.place-depth.result in
-    (omega arith, omega (arith, decimal_short n (let h : n < 4294967296 = omega arith in h)))
+    omega (arith, decimal_short n (let h : n < 4294967296 = omega arith in h))
 
 pub returns : goal.returns
-returns c = let a = c.args in (
-  line_written a.bytes a.answers.now a.k _ c.put_ended-a.ensures.0 c.put_field-b.ensures.0 c.put_field-c.ensures.0 c.place-depth.ensures
-      c.put_ended.ensures.0,
-  omega arith,
-)
+returns c = let a = c.args in record {
+  wrote = line_written a.bytes a.answers.now a.k _ c.put_ended-a.ensures.wrote c.put_field-b.ensures.wrote c.put_field-c.ensures.wrote c.place-depth.ensures
+      c.put_ended.ensures.wrote;
+  short = omega arith;
+}

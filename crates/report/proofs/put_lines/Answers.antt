@@ -15,10 +15,10 @@ put_line-next-requires c = let l = c.loop-k.invariant in
     let n = l.near in
     let size = answer_bytes c.args.bytes in
     let less : suc c.loop-k.k * size ≤ c.args.count * size = mul-le-mul_right size c.loop-k-test.true in
-    (omega arith, c.requires.0, omega (arith, c.requires.1), omega arith)
+    record { small = omega arith; sized = c.requires.sized; there = omega (arith, c.requires.there); space = omega arith }
 
 pub loop-k-preserved : goal.loop-k-preserved
-loop-k-preserved c = lines_turn (omega arith) c.loop-k.invariant c.put_line-next.ensures
+loop-k-preserved c = lines_turn (omega arith) c.loop-k.invariant (c.put_line-next.ensures.wrote, c.put_line-next.ensures.short)
 
 pub shape_of-out : goal.shape_of-out
 shape_of-out c = wrote_length c.loop-k.invariant.wrote

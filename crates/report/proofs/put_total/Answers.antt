@@ -14,4 +14,4 @@ pub returns : goal.returns
 returns c = let n = c.args.n in
     let w = c.put_text-after.ensures in
     let v = c.put_number.ensures in
-    (wrote_more w v, (let e = w.end_is in let d = v.end_is in omega (arith, decimal_short n (let h : n < 4294967296 = omega arith in h))))
+    record { wrote = wrote_more w v; short = (let e = w.end_is in let d = v.end_is in omega (arith, decimal_short n (let h : n < 4294967296 = omega arith in h))) }

@@ -22,5 +22,5 @@ returns-then-out-n c = let a = c.args in
 
 pub returns : goal.returns
 returns c = let a = c.args in
-    let r = report_whole a.stop a.terms a.repeats a.count a.bytes a.answers.now a.out.now (omega arith) (omega arith) c.put_head-lines.ensures.0 c.put_lines.ensures in
+    let r = report_whole a.stop a.terms a.repeats a.count a.bytes a.answers.now a.out.now (omega arith) (omega arith) c.put_head-lines.ensures.wrote c.put_lines.ensures in
     record { memory = r.0; size = r.1 }

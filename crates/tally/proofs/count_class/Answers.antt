@@ -11,10 +11,10 @@ loop-k-init c = counted_start
 pub answer_code-requires : goal.answer_code-requires
 answer_code-requires c = let n = answer_bytes c.args.bytes in
     let less : suc c.loop-k.k * n ≤ c.args.count * n = mul-le-mul_right n c.loop-k-test.true in
-    (c.requires.0, omega (arith, c.requires.1))
+    record { sized = c.requires.sized; inside = omega (arith, c.requires.inside) }
 
 pub loop-k-preserved : goal.loop-k-preserved
-loop-k-preserved c = counted_turn (omega arith) c.answer_code.ensures c.one_if-n.ensures c.loop-k.invariant
+loop-k-preserved c = counted_turn (omega arith) c.answer_code.ensures (c.one_if-n.ensures.one, c.one_if-n.ensures.small) c.loop-k.invariant
 
 pub returns : goal.returns
 returns c = counted_end (let h : c.args.count ≤ c.loop-k.k = omega arith in h) c.loop-k.invariant

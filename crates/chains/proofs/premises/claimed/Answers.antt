@@ -8,9 +8,6 @@ use Rattle.chains.proofs.premises.claimed.Goals as goal
 pub returns-then-literals-eq0 : goal.returns-then-literals-eq0
 returns-then-literals-eq0 c = step_none _ _ _ c.read-item.ensures.says c.in-Step.is c.if-literals-eq0.true
 
-pub argument-requires : goal.argument-requires
-argument-requires c = (subst (Placed _) c.in-Step.is c.read-item.ensures.placed, omega (arith, c.if-literals-eq0.false))
-
 pub returns-else-literals-eq0 : goal.returns-else-literals-eq0
 returns-else-literals-eq0 c = step_first _ _ _ c.read-item.ensures.says c.in-Step.is c.if-literals-eq0.false c.argument.ensures
 
