@@ -43,13 +43,17 @@ def edits():
         yield path.split(os.sep)[-3], os.path.basename(path)[:-len('.edit')], path
 
 
+# An `impl` and its type: of a struct with lifetimes, and of a trait for a type, too.
+IMPL = r'^impl(?:<[^>]*>)? (?:[\w:]+(?:<[^>]*>)? for )?(\w+)(?:<[^>]*>)? \{.*?^\}'
+
+
 def public_functions():
     """(crate, function) of each `pub fn`: its module, the type whose `impl` it stands in, and its name."""
     for path in sorted(glob.glob(os.path.join(ROOT, 'crates', '*', 'src', '**', '*.rt'), recursive=True)):
         crate, inside = os.path.relpath(path, os.path.join(ROOT, 'crates')).split(os.sep + 'src' + os.sep)
         module = [] if inside in ('lib.rt', 'main.rt') else inside[:-len('.rt')].split(os.sep)
         text = re.sub(r'//[^\n]*', '', read(path))
-        blocks = [(m.start(), m.end(), m.group(1)) for m in re.finditer(r'^impl (\w+) \{.*?^\}', text, re.M | re.S)]
+        blocks = [(m.start(), m.end(), m.group(1)) for m in re.finditer(IMPL, text, re.M | re.S)]
         for m in re.finditer(r'\bpub\s+(extern\s+"C"\s+)?fn\s+(\w+)', text):
             kind = [name for start, end, name in blocks if start < m.start() < end]
             yield crate, '::'.join(module + kind + [m.group(2)])
