@@ -47,16 +47,23 @@ def edits():
 IMPL = r'^impl(?:<[^>]*>)? (?:[\w:]+(?:<[^>]*>)? for )?(\w+)(?:<[^>]*>)? \{.*?^\}'
 
 
-def public_functions():
-    """(crate, function) of each `pub fn`: its module, the type whose `impl` it stands in, and its name."""
+def sources():
+    """(crate, module, text without comments) of each source file."""
     for path in sorted(glob.glob(os.path.join(ROOT, 'crates', '*', 'src', '**', '*.rt'), recursive=True)):
         crate, inside = os.path.relpath(path, os.path.join(ROOT, 'crates')).split(os.sep + 'src' + os.sep)
         module = [] if inside in ('lib.rt', 'main.rt') else inside[:-len('.rt')].split(os.sep)
-        text = re.sub(r'//[^\n]*', '', read(path))
+        yield crate, module, re.sub(r'//[^\n]*', '', read(path))
+
+
+def public_functions():
+    """(crate, function) of each `pub fn`: the module, that of its type where it is a method, the type whose `impl` it stands in, and its name."""
+    homes = {(crate, name): module for crate, module, text in sources() for name in re.findall(r'^\s*(?:pub(?:\([^)]*\))? )?(?:struct|enum) (\w+)', text, re.M)}
+    for crate, module, text in sources():
         blocks = [(m.start(), m.end(), m.group(1)) for m in re.finditer(IMPL, text, re.M | re.S)]
         for m in re.finditer(r'\bpub\s+(extern\s+"C"\s+)?fn\s+(\w+)', text):
             kind = [name for start, end, name in blocks if start < m.start() < end]
-            yield crate, '::'.join(module + kind + [m.group(2)])
+            home = homes.get((crate, kind[0]), module) if kind else module
+            yield crate, '::'.join(home + kind + [m.group(2)])
 
 
 def first_in_log(log, crate, label):

@@ -5,10 +5,11 @@ ghost use Rattle.sweeps.specs.Calls.{values_after, written};
 ghost use Rattle.runs.specs.Walking.{told, job_call};
 ghost use Rattle.bitblast.specs.Asking.{known_call};
 
+use crate::count::code;
 use partial::number::known_number;
 use runs::finished::{outcome_of, run_job};
 use runs::{Outcome, lend};
-use terms::refusal;
+use terms::refusal::Refusal;
 
 // What it comes to: a code, and the job's own outcome.
 #[repr(C)]
@@ -18,40 +19,9 @@ pub struct Known {
     pub outcome: Outcome,
 }
 
-// A job and then the bits; 20 where the job stops early. The work memory is left as they used it.
-fn known_job(
-    job: &[u8],
-    work: &mut [u8],
-    answers: &mut [u8],
-    values: &mut [u8],
-    number: u32,
-    inputs: &[u8],
-    outputs: &mut [u8],
-) -> Known
-    ensures outcome { told result.outcome ≡ (job_call rack job work answers).result }
-    ensures answers { answers.new ≡ (job_call rack job work answers).answer_memory }
-    ensures code { result.code ≡ (known_call job work answers values number inputs outputs).code }
-    ensures outputs { outputs.new
-        ≡ written (known_call job work answers values number inputs outputs).bytes outputs.old }
-    ensures values { values.new ≡ values_after result.code values.old }
-{
-    let s = run_job(job, work, answers);
-    if s.stop != 0 {
-        return Known {
-            code: refusal::NOT_ASKED,
-            outcome: outcome_of(s),
-        };
-    }
-    let code = known_number(job, work, s.rows, values, number, inputs, outputs);
-    Known {
-        code: code,
-        outcome: outcome_of(s),
-    }
-}
-
 // Runs a job and writes the bits of the term of that number, bit 0 first, for a host. A byte is 0,
 // 1, or 2 for a bit that is not known; `inputs` has one for each bit of the variables that stand in
-// the term, the lowest number first.
+// the term, the lowest number first. If the job stops early, the code is 20.
 pub fn bb_known(
     job: &[u8],
     work: &mut [u8],
@@ -70,15 +40,15 @@ pub fn bb_known(
     ensures values { values.new ≡ values_after result.code values.old }
 {
     let n = lend(job.len(), work);
-    let r = known_job(
-        job,
-        &mut work[..n],
-        answers,
-        values,
-        number,
-        inputs,
-        outputs,
-    );
+    let lent = &mut work[..n];
+    let s = run_job(job, lent, answers);
+    let known = match s.stop {
+        None => known_number(job, lent, s.rows, values, number, inputs, outputs),
+        Some(_) => Err(Refusal::NotAsked),
+    };
     table::wipe(work);
-    r
+    Known {
+        code: code(known),
+        outcome: outcome_of(s),
+    }
 }

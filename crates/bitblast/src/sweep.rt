@@ -3,12 +3,13 @@ ghost use Rattle.std.specs.Prelude.{◌≡◌};
 ghost use Rattle.theory.specs.Limit.{rack};
 ghost use Rattle.sweeps.specs.Calls.{values_after};
 ghost use Rattle.runs.specs.Walking.{told, job_call};
+ghost use Rattle.sweeper.specs.Sweeping.{as_swept as swept_by};
 ghost use Rattle.bitblast.specs.Asking.{as_swept, sweep_call};
 
 use runs::finished::{outcome_of, run_job};
 use runs::{Outcome, lend};
 use sweeper::sweep_number;
-use terms::refusal;
+use terms::refusal::Refusal;
 
 // What a sweep comes to: a code, how many assignments there were, on how many the sides differ, and
 // the job's own outcome.
@@ -21,39 +22,33 @@ pub struct Swept {
     pub outcome: Outcome,
 }
 
-// A job and then the sweep; 20 where the job stops early. The work memory is left as they used it.
-fn sweep_job(
-    job: &[u8],
-    work: &mut [u8],
-    answers: &mut [u8],
-    values: &mut [u8],
-    number: u32,
-) -> Swept
-    ensures outcome { told result.outcome ≡ (job_call rack job work answers).result }
-    ensures answers { answers.new ≡ (job_call rack job work answers).answer_memory }
-    ensures result { as_swept result ≡ sweep_call job work answers values number }
-    ensures values { values.new ≡ values_after result.code values.old }
-{
-    let s = run_job(job, work, answers);
-    if s.stop != 0 {
-        return Swept {
-            code: refusal::NOT_ASKED,
-            assignments: 0,
-            differing: 0,
-            outcome: outcome_of(s),
-        };
-    }
-    let r = sweep_number(job, work, s.rows, values, number);
-    Swept {
-        code: r.code,
-        assignments: r.assignments,
-        differing: r.differing,
-        outcome: outcome_of(s),
+impl Swept {
+    ghost use Rattle.bitblast.specs.Asking.{as_swept};
+
+    // A refusal has counts of 0.
+    fn new(swept: Result<sweeper::Swept, Refusal>, outcome: Outcome) -> Swept
+        ensures numbers { as_swept result ≡ swept_by swept }
+        ensures outcome { result.outcome ≡ outcome }
+    {
+        match swept {
+            Ok(r) => Swept {
+                code: 0,
+                assignments: r.assignments,
+                differing: r.differing,
+                outcome,
+            },
+            Err(refusal) => Swept {
+                code: refusal.number(),
+                assignments: 0,
+                differing: 0,
+                outcome,
+            },
+        }
     }
 }
 
 // Runs a job and sweeps the equality of that number: on how many assignments of its variables the
-// two sides differ, for a host.
+// two sides differ, for a host. If the job stops early, the code is 20.
 pub fn bb_sweep(
     job: &[u8],
     work: &mut [u8],
@@ -68,7 +63,12 @@ pub fn bb_sweep(
     ensures values { values.new ≡ values_after result.code values.old }
 {
     let n = lend(job.len(), work);
-    let r = sweep_job(job, &mut work[..n], answers, values, number);
+    let lent = &mut work[..n];
+    let s = run_job(job, lent, answers);
+    let swept = match s.stop {
+        None => sweep_number(job, lent, s.rows, values, number),
+        Some(_) => Err(Refusal::NotAsked),
+    };
     table::wipe(work);
-    r
+    Swept::new(swept, outcome_of(s))
 }

@@ -2,7 +2,7 @@
 use mathlib.Core.Path.{◌≡◌, refl, sym, ap, subst, ◌∙◌}
 use mathlib.Core.Bool.{Bool, true, false, cond}
 use mathlib.Core.List.{List, [], ◌∷◌, map}
-use Rattle.std.specs.Prelude.{Option, None as none, Some as some}
+use Rattle.std.specs.Prelude.{Option, None as none, Some as some, Result, Ok, Err}
 use Prim.Native.Nat.{ℕ, zero, suc, ◌+◌, ◌-◌, ◌*◌, ◌≤◌, ◌<◌}
 use native.Mathlib.Nat.{le_trans, mul-le-mul_left}
 use native.Mathlib.Numerals.{add-one}
@@ -24,10 +24,12 @@ use Rattle.theory.proofs.Places.{tree_at, at_place_is}
 use Rattle.theory.proofs.Origins.{Mark, before, standing, all_standing}
 use Rattle.terms.specs.declared.Item.{Item}
 use Rattle.terms.specs.declared.Item.TheVariants as I
+use Rattle.terms.specs.declared.Fault.{Fault}
+use Rattle.terms.specs.declared.Fault.TheVariants as F
 use Rattle.terms.specs.Bodies.{Length}
 use Rattle.terms.specs.Framing.{record_at}
 use Rattle.terms.specs.declared.Args.{Args}
-use Rattle.terms.specs.Decoded.{item_of, words_in}
+use Rattle.terms.specs.Decoded.{read_of, words_in}
 use Rattle.terms.proofs.Lists.{words_in_length}
 use Rattle.terms.proofs.Numbers.{length_of}
 use Rattle.rows.specs.Layout.{link_size, offset_at}
@@ -40,16 +42,22 @@ use Rattle.chains.specs.declared.premises.Past.{Past}
 use Rattle.chains.specs.Premises.{claimed_at, left_at, mark_at, marks_in, origins, earlier_in, origin_before, sides_in}
 
 -- ---- the literal that a record claims
--- by the item that was read there
-pub claimed_is : (job : Bytes) (place : ℕ) (i : Item) → item_of job i ≡ read (number_length job) (record_at job place)
-    → either none (λ (c : ℕ × List ℕ). get_elem? c.1 0) (claim_of (item_of job i)) ≡ claimed_at job place
-unfolding claimed_at
-claimed_is job place i e = ap (λ (j : R.Item). either none (λ (c : ℕ × List ℕ). get_elem? c.1 0) (claim_of j)) e
+-- which item was read
+pub was_read : {r : Result Item Fault} {i j : Item} → r ≡ Ok i → i ≡ j → r ≡ Ok j
+was_read e f = cc
 
--- once it is known which item it is
-pub claims : (job : Bytes) (place : ℕ) (i j : Item) → item_of job i ≡ read (number_length job) (record_at job place) → i ≡ j
-    → either none (λ (c : ℕ × List ℕ). get_elem? c.1 0) (claim_of (item_of job j)) ≡ claimed_at job place
-claims job place i j e f = claimed_is job place j (ap (item_of job) (sym f) ∙ e)
+-- once it is known what was read there
+pub claims : (job : Bytes) (place : ℕ) {r : Result Item Fault} (q : Result Item Fault) → read_of job r ≡ read (number_length job) (record_at job place) → r ≡ q
+    → either none (λ (c : ℕ × List ℕ). get_elem? c.1 0) (claim_of (read_of job q)) ≡ claimed_at job place
+unfolding claimed_at
+claims job place q e f = ap (λ (j : R.Item). either none (λ (c : ℕ × List ℕ). get_elem? c.1 0) (claim_of j)) (ap (read_of job) (sym f) ∙ e)
+
+-- a record that says nothing claims nothing
+pub claims_none : (job : Bytes) (place : ℕ) (r : Result Item Fault) → ((i : Item) → r ≡ Ok i → ⊥) → read_of job r ≡ read (number_length job) (record_at job place)
+    → none ≡ claimed_at job place
+claims_none job place (Ok i) h e = absurd (h i refl)
+claims_none job place (Err F.Unknown) h e = claims job place (Err F.Unknown) e refl
+claims_none job place (Err F.Misfit) h e = claims job place (Err F.Misfit) e refl
 
 -- the first of a list
 pub first_of : (ks : List ℕ) → 0 < length ks → some (get_or ks 0 0) ≡ get_elem? ks 0
@@ -60,12 +68,12 @@ none_first [] h = refl
 none_first (k ∷ ks) h = absurd (omega arith)
 
 -- a step's
-module _ (job : Bytes) (place : ℕ) (i : Item) {rule : ℕ} {a : Args} (e : item_of job i ≡ read (number_length job) (record_at job place)) (f : i ≡ I.Step rule a) where
+module _ (job : Bytes) (place : ℕ) {r : Result Item Fault} {rule : ℕ} {a : Args} (e : read_of job r ≡ read (number_length job) (record_at job place)) (f : r ≡ Ok (I.Step rule a)) where
   pub step_none : a.count ≡ 0 → none ≡ claimed_at job place
-  step_none h = none_first (words_in job a) (words_in_length job a ∙ h) ∙ claims job place i (I.Step rule a) e f
+  step_none h = none_first (words_in job a) (words_in_length job a ∙ h) ∙ claims job place (Ok (I.Step rule a)) e f
 
   pub step_first : (a.count ≡ 0 → ⊥) → {x : ℕ} → x ≡ get_or (words_in job a) 0 0 → some x ≡ claimed_at job place
-  step_first h g = ap some g ∙ first_of (words_in job a) (let l = words_in_length job a in omega arith) ∙ claims job place i (I.Step rule a) e f
+  step_first h g = ap some g ∙ first_of (words_in job a) (let l = words_in_length job a in omega arith) ∙ claims job place (Ok (I.Step rule a)) e f
 
 -- ---- the origin of a term
 column_at : {A : Type 0} (f : ℕ → A) (d : A) (n k : ℕ) → k < n → get_elem? (column f n) k ≡ some (f k)

@@ -1,20 +1,16 @@
 -- The verdict of a chain: held where its premises join to the claim, and else why not.
 use mathlib.Core.Path.{◌≡◌, refl, sym, ap, ap₂, ◌∙◌}
-use mathlib.Core.Bool.{Bool, true, false, cond}
+use mathlib.Core.Bool.{Bool, false, cond}
 use mathlib.Core.List.{List, [], ◌∷◌, map}
 use Rattle.std.specs.Prelude.{Option, None as none, Some as some}
-use Prim.Native.Nat.{ℕ, zero, suc, ◌-◌, ◌≤◌}
-use native.Mathlib.Omega.{arith}
-use lib.Dec.{leb}
-use borrow.Author.Tests.{leb-true}
-use Rattle.std.specs.Prelude.{slice_get as get_elem?}
+use Prim.Native.Nat.{ℕ}
 use borrow.Enum.Refused.{Among}
 use denote.Enum.Declared.{tag_of}
 use Rattle.theory.specs.Kind.{Equals}
 use Rattle.theory.specs.Term.{Term}
 use Rattle.theory.specs.Optional.{either, is_some, cons_some, collect}
 use Rattle.theory.specs.Verdict.{held, wrong_form, premise_broken}
-use Rattle.theory.specs.RuleTable.{ChainRule, by_cong, chain_rules, chain_rule_at}
+use Rattle.theory.specs.RuleTable.{ChainRule}
 use Rattle.theory.specs.Rule.{form}
 use Rattle.theory.specs.Record.{Bytes}
 use Rattle.theory.specs.Plain.{Plain}
@@ -89,17 +85,3 @@ module _ {job work : Bytes} {n p : ℕ} {t : Decoded} (s : TermAt job work n p t
           by_test test (collect (map (sides_in earlier list) ks))
           ∙ ap (λ (xs : List (Option Sides)). form (collect xs) (λ ps. cond (test ps) held wrong_form)) (sides_are earlier list ks ts d)
           ∙ sym (two_form s Equals l r (ap op_of e) (ap operands_of e) (λ x y. form (collect (map sides ts)) (λ ps. cond (joins by ps x y) held wrong_form)))
-
--- ---- the rule of a number
-pub rule_cong : {rule : ℕ} {by : ChainRule} → (rule ≡ 31 → ⊥) → (rule ≡ 32 → ⊥) → chain_rule_at rule ≡ some by → by_cong ≡ by
-rule_cong {rule} {by} g h f = go (leb 31 rule) (leb-true 31 rule) f
-  where
-    by_place : (k : ℕ) → (k ≡ 0 → ⊥) → (k ≡ 1 → ⊥) → get_elem? chain_rules k ≡ some by → by_cong ≡ by
-    by_place zero a b d = absurd (a refl)
-    by_place (suc zero) a b d = absurd (b refl)
-    by_place (suc (suc zero)) a b d = some_inj by_cong by d
-    by_place (suc (suc (suc k))) a b d = absurd (none_some by d)
-
-    go : (b : Bool) → (b ≡ true → 31 ≤ rule) → cond b (get_elem? chain_rules (rule - 31)) none ≡ some by → by_cong ≡ by
-    go true l d = let m = l refl in by_place (rule - 31) (λ e. g (omega arith)) (λ e. h (omega arith)) d
-    go false l d = absurd (none_some by d)

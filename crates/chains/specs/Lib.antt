@@ -1,3 +1,4 @@
 -- What the contracts of `chains` cite.
 pub mod Premises
 pub mod Told
+pub mod Rules

@@ -69,13 +69,10 @@ pub fn trans(past: &Past, premises: Args, l: u32, r: u32) -> bool
 }
 
 // Are the two terms of one kind, with the same numbers in it?
-#[tactic(auto, using(std::proofs::lemmas::Bool::Decides::nat_tests, crate::proofs::Joins::kinds_are))]
 fn same_kind(s: Term, t: Term) -> bool
     ensures { result ≡ same_op (op_of s) (op_of t) }
 {
-    let a = s.head();
-    let b = t.head();
-    a.kind == b.kind && a.first == b.first && a.second == b.second
+    s.head() == t.head()
 }
 
 // Is each premise the equality of the arguments at its place?

@@ -5,16 +5,16 @@
 mod joining;
 pub mod premises;
 
-ghost use Rattle.std.specs.Prelude.{◌≡◌, ◌+◌, ◌<◌, cond};
-ghost use Rattle.std.specs.Prelude.{Some as some};
+ghost use Rattle.std.specs.Prelude.{◌≡◌, ◌+◌, ◌<◌, cond, option_map, Some as some};
 ghost use Rattle.theory.specs.Limit.{first_terms};
 ghost use Rattle.theory.specs.Optional.{is_some};
 ghost use Rattle.theory.specs.Verdict.{wrong_form, premise_broken};
-ghost use Rattle.theory.specs.RuleTable.{ChainRule, chain_rule_at};
+ghost use Rattle.theory.specs.RuleTable.{ChainRule as Rule, chain_rule_at};
 ghost use Rattle.theory.specs.Chain.{joined};
 ghost use Rattle.terms.specs.Decoded.{Inside};
 ghost use Rattle.store.specs.KeptTerms.{kept_term};
 ghost use Rattle.operand_rules.specs.Rules.{verdict_of};
+ghost use Rattle.chains.specs.Rules.{rule_of};
 ghost use Rattle.chains.specs.Told.{premises_told, joins_told, Joining};
 
 use crate::joining::{cong, symm, trans};
@@ -22,21 +22,39 @@ use crate::premises::Past;
 use operand_rules::Verdict;
 use terms::{Args, Term};
 
-// The numbers of the rules; cong is the third.
-const SYMM: u32 = 31;
+// How premises may join.
+#[derive(Clone, Copy)]
+pub enum ChainRule {
+    Symm,
+    Trans,
+    Cong,
+}
 
-const TRANS: u32 = 32;
+impl ChainRule {
+    ghost use Rattle.chains.specs.Rules.{rule_of};
 
-// Do the premises join to the claim (= l r), by the rule with that number?
-fn joins_by(past: &Past, rule: u32, premises: Args, l: u32, r: u32) -> bool
+    // The rule with that number, if there is one.
+    pub fn numbered(number: u32) -> Option<ChainRule>
+        ensures { option_map rule_of result ≡ chain_rule_at number }
+    {
+        match number {
+            31 => Some(ChainRule::Symm),
+            32 => Some(ChainRule::Trans),
+            33 => Some(ChainRule::Cong),
+            _ => None,
+        }
+    }
+}
+
+// Do the premises join to the claim (= l r) by that rule?
+fn joins_by(past: &Past, rule: ChainRule, premises: Args, l: u32, r: u32) -> bool
     requires { Joining past.now premises l r }
-    ensures { (by : ChainRule) → chain_rule_at rule ≡ some by
-        → result ≡ joins_told past.now by premises l r }
+    ensures { result ≡ joins_told past.now (rule_of rule) premises l r }
 {
     match rule {
-        SYMM => symm(past, premises, l, r),
-        TRANS => trans(past, premises, l, r),
-        _ => cong(past, premises, l, r),
+        ChainRule::Symm => symm(past, premises, l, r),
+        ChainRule::Trans => trans(past, premises, l, r),
+        ChainRule::Cong => cong(past, premises, l, r),
     }
 }
 
@@ -55,11 +73,11 @@ fn refused(past: &Past, premises: Args) -> Verdict
 
 // The verdict of a chain's rule on its literal. Premises that join all stand, so whether they do is
 // asked only where the joining fails.
-pub fn chain_verdict(past: &Past, rule: u32, premises: Args, literal: u32) -> Verdict
+pub fn verdict_by(past: &Past, rule: ChainRule, premises: Args, literal: u32) -> Verdict
     requires inside { Inside past.now.terms.job.now premises }
     requires below { literal < first_terms + past.now.terms.rows }
-    ensures { (by : ChainRule) → chain_rule_at rule ≡ some by → verdict_of result
-        ≡ joined by (premises_told past.now premises) (kept_term past.now.terms literal) }
+    ensures { verdict_of result ≡ joined (rule_of rule) (premises_told past.now premises)
+        (kept_term past.now.terms literal) }
 {
     let Term::Equals(l, r) = past.terms.term_on(literal) else {
         return refused(past, premises);
@@ -68,4 +86,18 @@ pub fn chain_verdict(past: &Past, rule: u32, premises: Args, literal: u32) -> Ve
         return Verdict::Held;
     }
     refused(past, premises)
+}
+
+// The same by the rule's number. Of a number that no rule has, nothing is promised.
+pub fn chain_verdict(past: &Past, number: u32, premises: Args, literal: u32) -> Verdict
+    requires inside { Inside past.now.terms.job.now premises }
+    requires below { literal < first_terms + past.now.terms.rows }
+    ensures { (by : Rule) → chain_rule_at number ≡ some by
+        → verdict_of result ≡ joined by (premises_told past.now premises)
+        (kept_term past.now.terms literal) }
+{
+    match ChainRule::numbered(number) {
+        Some(rule) => verdict_by(past, rule, premises, literal),
+        None => Verdict::WrongForm,
+    }
 }

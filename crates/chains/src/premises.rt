@@ -20,7 +20,9 @@ fn claimed(job: &[u8], at: usize) -> Option<u32>
     requires { whole (drop at job.now) ≡ true }
     ensures { result ≡ claimed_at job.now at }
 {
-    let item = Term::read(job, at);
+    let Ok(item) = Term::read(job, at) else {
+        return None;
+    };
     match item {
         Item::Step(_, literals) => {
             if literals.count == 0 {
@@ -29,10 +31,7 @@ fn claimed(job: &[u8], at: usize) -> Option<u32>
             Some(Term::argument(job, literals, 0))
         }
         Item::Chain(_, _, literal) => Some(literal),
-        Item::Term(_) => None,
-        Item::Back(_) => None,
-        Item::Unknown => None,
-        Item::Misfit => None,
+        Item::Term(_) | Item::Back(_) => None,
     }
 }
 

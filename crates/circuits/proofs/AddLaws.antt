@@ -1,49 +1,92 @@
 -- The adder's loop.
-use mathlib.Core.Path.{◌≡◌, refl, sym, ap, ap₂, ◌∙◌}
-use mathlib.Core.List.{List}
-use Prim.Native.Nat.{ℕ, zero, suc, ◌+◌, ◌-◌, ◌<◌, ◌≤◌}
-use native.Mathlib.Nat.{le_antisymm, le_refl, not-suc-le-zero}
-use native.Mathlib.Numerals.{add-one}
+use mathlib.Core.Path.{◌≡◌, refl, sym, ap, ◌∙◌}
+use mathlib.Core.List.{List, [], ◌∷◌, ◌++◌}
+use mathlib.Core.Logic.{◌⊎◌, inl, inr}
+use Prim.Native.Nat.{ℕ, ◌≤◌}
 use native.Mathlib.Omega.{arith}
-use lib.ListN.{length, take, get_or, set}
+use lib.ListN.{length}
+use Rattle.std.proofs.lemmas.List.{nil_from_length}
 use Rattle.theory.specs.Gates.{Gates}
-use Rattle.theory.specs.Circuit.{ripple_carry_adder, last_carry, sum_bit, next_carry}
-use Rattle.theory.specs.Move.{bits, bit_of}
-use Rattle.theory.specs.Alethe.{sum_at, carry_at}
-use Rattle.theory.proofs.Indexed.{adder_bits, last_carry_bits}
-use Rattle.circuits.proofs.FillLaws.{Filling, fill_turn, fill_end, front}
+use Rattle.theory.specs.Circuit.{ripple_carry_adder, last_carry, carry_out, sum_bit, next_carry}
+use Rattle.circuits.proofs.AppendLaws.{Appending, append_turn, append_end}
 
--- i bits are stored, c is the carry into bit i, and l the one into the bit before it
-pub record Adding (g : Gates ℕ) (xs ys : List ℕ) (n c₀ : ℕ) (out : List ℕ) (l c i : ℕ) : Type 0 where
-  pub fill : Filling (sum_at g c₀ (bit_of 0 xs) (bit_of 0 ys)) n out i
-  pub into : c ≡ carry_at g c₀ (bit_of 0 xs) (bit_of 0 ys) i
-  pub last : l ≡ carry_at g c₀ (bit_of 0 xs) (bit_of 0 ys) (i - 1)
+module _ (g : Gates ℕ) where
+  pub adder_next : {x y c v c' : ℕ} {xs ys xs' ys' : List ℕ} → (xs ≡ x ∷ xs') × (ys ≡ y ∷ ys') → v ≡ sum_bit g x y c → c' ≡ next_carry g x y c
+      → ripple_carry_adder g c xs ys ≡ v ∷ ripple_carry_adder g c' xs' ys'
+  unfolding ripple_carry_adder
+  adder_next h e f = rw (h.0, h.1, e, f) refl
 
-module _ {g : Gates ℕ} {xs ys : List ℕ} {n c₀ : ℕ} {out : List ℕ} where
-  pub adder_turn : {l c v c' i : ℕ} → Adding g xs ys n c₀ out l c i
-      → v ≡ sum_bit g (get_or xs i 0) (get_or ys i 0) c → c' ≡ next_carry g (get_or xs i 0) (get_or ys i 0) c
-      → i < n → n ≤ 64 → Adding g xs ys n c₀ (set out i v) c c' (i + 1)
-  adder_turn {i} inv e f h k =
-      let z : i + 1 - 1 ≡ i = omega arith in
+  pub adder_none : (c : ℕ) {xs ys : List ℕ} → (xs ≡ []) ⊎ (ys ≡ []) → ripple_carry_adder g c xs ys ≡ []
+  unfolding ripple_carry_adder
+  adder_none c (inl e) = rw e refl
+  adder_none c {xs} (inr e) = rw e (none xs)
+    where
+      none : (zs : List ℕ) → ripple_carry_adder g c zs [] ≡ []
+      none [] = refl
+      none (z ∷ zs) = refl
+
+  pub adder_shorter : (c : ℕ) (xs ys : List ℕ) → length (ripple_carry_adder g c xs ys) ≤ length xs
+  unfolding ripple_carry_adder
+  adder_shorter c [] ys = omega arith
+  adder_shorter c (x ∷ xs) [] = omega arith
+  adder_shorter c (x ∷ xs) (y ∷ ys) = omega (arith, adder_shorter (next_carry g x y c) xs ys)
+
+  out_next : (c : ℕ) {x y c' : ℕ} {xs ys xs' ys' : List ℕ} → (xs ≡ x ∷ xs') × (ys ≡ y ∷ ys') → c' ≡ next_carry g x y c → carry_out g c' xs' ys' ≡ carry_out g c xs ys
+  unfolding carry_out
+  out_next c h e = rw (h.0, h.1, e) refl
+
+  out_none : (c : ℕ) {xs ys : List ℕ} → (xs ≡ []) ⊎ (ys ≡ []) → c ≡ carry_out g c xs ys
+  unfolding carry_out
+  out_none c (inl e) = rw e refl
+  out_none c {xs} (inr e) = rw e (none xs)
+    where
+      none : (zs : List ℕ) → c ≡ carry_out g c zs []
+      none [] = refl
+      none (z ∷ zs) = refl
+
+  -- the last carry, where c goes into the first of these bits and l into the bit before
+  abbrev carried : ℕ → ℕ → List ℕ → List ℕ → ℕ
+  carried l c [] ys = l
+  carried l c (x ∷ xs) ys = last_carry g c (x ∷ xs) ys
+
+  carried_next : (l c : ℕ) {x y c' : ℕ} {xs ys xs' ys' : List ℕ} → (xs ≡ x ∷ xs') × (ys ≡ y ∷ ys') → c' ≡ next_carry g x y c → carried c c' xs' ys' ≡ carried l c xs ys
+  unfolding last_carry
+  carried_next l c {x} {y} {xs'} {ys'} h e = rw (h.0, h.1, e) (next xs')
+    where
+      next : (zs : List ℕ) → carried c (next_carry g x y c) zs ys' ≡ last_carry g c (x ∷ zs) (y ∷ ys')
+      next [] = refl
+      next (z ∷ zs) = refl
+
+-- xs and ys are left, c is the carry into the next bit, and l the one into the bit before it
+pub record Adding (g : Gates ℕ) (c₀ : ℕ) (xs₀ ys₀ out : List ℕ) (l c : ℕ) (xs ys : List ℕ) : Type 0 where
+  pub fill : Appending out (ripple_carry_adder g c xs ys) (ripple_carry_adder g c₀ xs₀ ys₀) (length xs)
+  pub last : carried g l c xs ys ≡ last_carry g c₀ xs₀ ys₀
+  pub over : carry_out g c xs ys ≡ carry_out g c₀ xs₀ ys₀
+  pub beside : length xs ≤ length ys
+
+module _ {g : Gates ℕ} {c₀ : ℕ} {xs₀ ys₀ out : List ℕ} {l c : ℕ} {xs ys : List ℕ} where
+  pub adder_turn : {x y v c' : ℕ} {out' xs' ys' : List ℕ} → Adding g c₀ xs₀ ys₀ out l c xs ys → (xs ≡ x ∷ xs') × (ys ≡ y ∷ ys') → out' ≡ out ++ v ∷ []
+      → v ≡ sum_bit g x y c → c' ≡ next_carry g x y c → Adding g c₀ xs₀ ys₀ out' c c' xs' ys'
+  adder_turn inv h o e f =
       record {
-        fill = fill_turn inv.fill (e ∙ ap (λ (c : ℕ). sum_bit g (get_or xs i 0) (get_or ys i 0) c) inv.into) h k;
-        into = rw add-one (f ∙ ap (λ (c : ℕ). next_carry g (get_or xs i 0) (get_or ys i 0) c) inv.into);
-        last = rw z inv.into;
+        fill = append_turn inv.fill o (adder_next g h e f) (ap length h.0);
+        last = carried_next g l c h f ∙ inv.last;
+        over = out_next g c h f ∙ inv.over;
+        beside = omega (arith, inv.beside, ap length h.0, ap length h.1);
       }
 
-  pub adder_end : {l c i : ℕ} → Adding g xs ys n c₀ out l c i → n ≤ i → 1 ≤ n → n ≤ length xs → n ≤ length ys
-      → (take n out ≡ ripple_carry_adder g c₀ (take n xs) (take n ys)) × (l ≡ last_carry g c₀ (take n xs) (take n ys))
-  adder_end {i} inv h p lx ly = (
-    fill_end inv.fill h ∙ sym (ap₂ (ripple_carry_adder g c₀) (front n xs lx) (front n ys ly) ∙ adder_bits g n n x y (carry_at g c₀ x y) (le_refl n) (λ k. refl)),
-    inv.last ∙ rw (front n xs lx, front n ys ly, le_antisymm inv.fill.passed h) (top n p),
-  )
+  pub adder_end : Adding g c₀ xs₀ ys₀ out l c xs ys → (xs ≡ []) ⊎ (ys ≡ []) → (out ≡ ripple_carry_adder g c₀ xs₀ ys₀) × (l ≡ last_carry g c₀ xs₀ ys₀) × (c ≡ carry_out g c₀ xs₀ ys₀)
+  adder_end inv h = (append_end inv.fill (adder_none g c h), sym (ap (λ (t : List ℕ). carried g l c t ys) (done h)) ∙ inv.last, out_none g c h ∙ inv.over)
     where
-      x : ℕ → ℕ
-      x = bit_of 0 xs
+      done : (xs ≡ []) ⊎ (ys ≡ []) → xs ≡ []
+      done (inl e) = e
+      done (inr e) = nil_from_length xs (omega (arith, inv.beside, ap length e))
 
-      y : ℕ → ℕ
-      y = bit_of 0 ys
-
-      top : (m : ℕ) → 1 ≤ m → carry_at g c₀ x y (m - 1) ≡ last_carry g c₀ (bits m x) (bits m y)
-      top zero q = absurd (not-suc-le-zero q)
-      top (suc m) q = let z : suc m - 1 ≡ m = omega arith in rw z (sym (last_carry_bits g m x y (carry_at g c₀ x y) (λ k. refl)))
+pub adder_start : (g : Gates ℕ) (c : ℕ) {xs ys xs₀ ys₀ : List ℕ} → xs ≡ xs₀ → ys ≡ ys₀ → length xs₀ ≤ length ys₀ → length xs₀ ≤ 64 → Adding g c xs₀ ys₀ [] c c xs ys
+unfolding last_carry
+adder_start g c {xs₀ = xs₀} {ys₀} e f h k =
+    rw (e, f) record { fill = record { says = refl; room = omega arith }; last = start xs₀; over = refl; beside = h }
+  where
+    start : (zs : List ℕ) → carried g c c zs ys₀ ≡ last_carry g c zs ys₀
+    start [] = refl
+    start (z ∷ zs) = refl

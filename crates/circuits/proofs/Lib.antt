@@ -1,4 +1,4 @@
-pub mod FillLaws
+pub mod AppendLaws
 pub mod AddLaws
 pub mod CompareLaws
 pub mod MultiplyLaws

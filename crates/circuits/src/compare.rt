@@ -1,11 +1,10 @@
 // Comparisons of two bit-vectors.
-ghost use Rattle.std.specs.Prelude.{◌≡◌, ◌≤◌, take};
-ghost use Rattle.theory.specs.Limit.{max_width};
+ghost use Rattle.std.specs.Prelude.{◌≡◌, length};
 ghost use Rattle.theory.specs.Circuit.{less_step, sign_step, bitblast_ult, slt, equality};
 ghost use Rattle.store.specs.Lookup.{gates};
 
 use crate::bits::{Bits, eqs};
-use store::gates::Lookup;
+use store::gates::{FALSE, Lookup, TRUE};
 
 // bitblast_ult, bit 0 alone: x is 0 and y is 1.
 pub fn less_bit(lookup: &Lookup, x: u32, y: u32) -> u32
@@ -21,7 +20,8 @@ pub fn sign_bit(lookup: &Lookup, x: u32, y: u32) -> u32
     lookup.and2(x, lookup.not1(y))
 }
 
-// bitblast_ult, one more bit, where `below` is what the bits below say: equal and below, or x 0 and y 1.
+// bitblast_ult, one more bit, where `below` is what the bits below say: equal and below, or x 0 and
+// y 1.
 pub fn less_step(lookup: &Lookup, x: u32, y: u32, below: u32) -> u32
     ensures { result ≡ less_step (gates lookup.now) x y below }
 {
@@ -29,7 +29,8 @@ pub fn less_step(lookup: &Lookup, x: u32, y: u32, below: u32) -> u32
     lookup.or2(equal, less_bit(lookup, x, y))
 }
 
-// slt, the sign bit, where `below` is what the bits below say: equal and below, or x negative and y not.
+// slt, the sign bit, where `below` is what the bits below say: equal and below, or x negative and y
+// not.
 pub fn sign_step(lookup: &Lookup, x: u32, y: u32, below: u32) -> u32
     ensures { result ≡ sign_step (gates lookup.now) x y below }
 {
@@ -38,41 +39,49 @@ pub fn sign_step(lookup: &Lookup, x: u32, y: u32, below: u32) -> u32
 }
 
 // bitblast_ult: x < y, from bit 0 up.
-pub fn bitblast_ult(lookup: &Lookup, x: Bits, y: Bits, w: usize) -> u32
-    requires some { 1 ≤ w }
-    requires within { w ≤ max_width }
-    ensures { result ≡ bitblast_ult (gates lookup.now) (take w x) (take w y) }
+pub fn bitblast_ult(lookup: &Lookup, x: &[u32], y: &[u32]) -> u32
+    ensures { result ≡ bitblast_ult (gates lookup.now) x.now y.now }
 {
-    let mut res = less_bit(lookup, x[0], y[0]);
-    for i in 1..w {
-        res = less_step(lookup, x[i], y[i], res);
+    let [x0, xs @ ..] = x else {
+        return FALSE;
+    };
+    let [y0, ys @ ..] = y else {
+        return FALSE;
+    };
+    let mut res = less_bit(lookup, *x0, *y0);
+    for (&a, &b) in xs.iter().zip(ys) {
+        res = less_step(lookup, a, b, res);
     }
     res
 }
 
-// slt: x < y as signed numbers. The bits below the sign go as in bitblast_ult, and at width 1 there are none.
-pub fn slt(lookup: &Lookup, x: Bits, y: Bits, w: usize) -> u32
-    requires some { 1 ≤ w }
-    requires within { w ≤ max_width }
-    ensures { result ≡ slt (gates lookup.now) (take w x) (take w y) }
+// slt: x < y as signed numbers. The bits below the sign go as in bitblast_ult, and at width 1 there
+// are none.
+pub fn slt(lookup: &Lookup, x: &Bits, y: &Bits) -> u32
+    requires alike { length x.now.items ≡ length y.now.items }
+    ensures { result ≡ slt (gates lookup.now) x.now.items y.now.items }
 {
-    let top = w - 1;
-    if top == 0 {
-        return sign_bit(lookup, x[0], y[0]);
+    let [xs @ .., x_top] = x.as_slice() else {
+        return FALSE;
+    };
+    let [ys @ .., y_top] = y.as_slice() else {
+        return FALSE;
+    };
+    if xs.is_empty() {
+        return sign_bit(lookup, *x_top, *y_top);
     }
-    let below = bitblast_ult(lookup, x, y, top);
-    sign_step(lookup, x[top], y[top], below)
+    let below = bitblast_ult(lookup, xs, ys);
+    sign_step(lookup, *x_top, *y_top, below)
 }
 
 // equality: the bits' equations, one alone, several under an And.
-pub fn equality(lookup: &Lookup, x: Bits, y: Bits, w: usize) -> u32
-    requires some { 1 ≤ w }
-    requires within { w ≤ max_width }
-    ensures { result ≡ equality (gates lookup.now) (take w x) (take w y) }
+pub fn equality(lookup: &Lookup, x: &Bits, y: &Bits) -> u32
+    ensures { result ≡ equality (gates lookup.now) x.now.items y.now.items }
 {
-    let bits = eqs(lookup, x, y, w);
-    if 1 < w {
-        return lookup.all_of(&bits[..w]);
+    let bits = eqs(lookup, x, y);
+    match bits.as_slice() {
+        [] => TRUE,
+        [bit] => *bit,
+        several => lookup.all_of(several),
     }
-    bits[0]
 }

@@ -1,46 +1,50 @@
 // Multiplication by rows: row j is x, j places up, where bit j of y is set.
-ghost use Rattle.std.specs.Prelude.{◌≡◌, ◌++◌, ◌≤◌, take, drop};
-ghost use Rattle.theory.specs.Limit.{max_width};
+ghost use Rattle.std.specs.Prelude.{◌≡◌, ◌≤◌, length};
 ghost use Rattle.theory.specs.Circuit.{ripple_carry_adder, partial_products, shift_add_multiplier};
 ghost use Rattle.store.specs.Numbers.{false_number};
 ghost use Rattle.store.specs.Lookup.{gates};
 
 use crate::adder::full_adder;
-use crate::bits::{Bits, MAX_BITS, ands};
+use crate::bits::{Bits, ands, append, same_bits};
 use store::gates::{FALSE, Lookup};
 
-// One more row: added to the sum so far, from place j on. The places below j stay as they are.
-fn add_row(lookup: &Lookup, sum: Bits, x: Bits, y: u32, j: usize, w: usize) -> Bits
-    requires in_width { j ≤ w }
-    requires within { w ≤ max_width }
-    ensures { take w result ≡ take j (take w sum) ++ ripple_carry_adder (gates lookup.now) false_number
-        (drop j (take w sum)) (partial_products (gates lookup.now) y (take w x)) }
+// A row: added to the bits of the sum so far from its own place on.
+fn add_row(lookup: &Lookup, sum: &[u32], x: &Bits, y: u32) -> Bits
+    ensures { result.items ≡ ripple_carry_adder (gates lookup.now) false_number sum.now
+        (partial_products (gates lookup.now) y x.now.items) }
 {
-    let mut out = sum;
-    let mut c = FALSE;
-    for k in 0..w - j {
-        let product = lookup.and2(y, x[k]);
-        let i = j + k;
-        let next = full_adder(lookup, sum[i], product, c);
-        out[i] = next.bit;
-        c = next.carry;
+    let mut out = Bits::new();
+    let mut carry = FALSE;
+    for (&bit, &a) in sum.iter().zip(x.as_slice()) {
+        let product = lookup.and2(y, a);
+        let next = full_adder(lookup, bit, product, carry);
+        out.push(next.bit);
+        carry = next.carry;
     }
     out
 }
 
-// shift_add_multiplier: the product of x and y, at their width. Rust keeps a table of partial products, one of results and one of carries, each
-// of w × w terms; here a partial product is formed where its row adds it, the results are one row that each turn replaces, and the carry is one
-// number. So no array of the multiplier holds more than MAX_BITS numbers (.ci/run looks for one), whatever the width.
-pub fn shift_add_multiplier(lookup: &Lookup, x: Bits, y: Bits, w: usize) -> Bits
-    requires some { 1 ≤ w }
-    requires within { w ≤ max_width }
-    ensures { take w result ≡ shift_add_multiplier (gates lookup.now) (take w x) (take w y) }
+// shift_add_multiplier: the product of x and y, at their width. Rust keeps a table of partial
+// products, one of results and one of carries, each of w × w terms; here a partial product is
+// formed where its row adds it, the results are one row that each turn replaces, and the carry is
+// one number. So no array of the multiplier holds more than MAX_BITS numbers (.ci/run looks for
+// one), whatever the width.
+pub fn shift_add_multiplier(lookup: &Lookup, x: &Bits, y: &Bits) -> Bits
+    ensures { result.items ≡ shift_add_multiplier (gates lookup.now) x.now.items y.now.items }
 {
-    let low = [y[0]; MAX_BITS];
-    let mut res = ands(lookup, low, x, w);
-    for j in 1..w {
-        let next = add_row(lookup, res, x, y[j], j, w);
-        res = next;
+    let mut out = Bits::new();
+    let [y0, ys @ ..] = y.as_slice() else {
+        return out;
+    };
+    let low = same_bits(*y0, x.len());
+    let mut sum = ands(lookup, &low, x);
+    for &bit in ys {
+        let [low, above @ ..] = sum.as_slice() else {
+            return out;
+        };
+        out.push(*low);
+        sum = add_row(lookup, above, x, bit);
     }
-    res
+    append(&mut out, sum.as_slice());
+    out
 }

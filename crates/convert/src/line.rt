@@ -41,8 +41,8 @@ pub fn take_line(
     let old = s.spot;
     let line = &text[at..end];
     let before = s.declarations;
-    let a = left_after(line, 0)?;
-    if let Some(_) = word_after(line, a, b"declare-const") {
+    let a = left_after(line)?;
+    if word_after(a, b"declare-const").is_some() {
         if s.begun {
             return None;
         }
@@ -54,8 +54,8 @@ pub fn take_line(
             spot,
         });
     }
-    let b = word_after(line, a, b"step")?;
-    let after = take_step(line, b, &text[..before], out, work, old)?;
+    let b = word_after(a, b"step")?;
+    let after = take_step(b, &text[..before], out, work, old)?;
     Some(State {
         declarations: before,
         declared: s.declared,

@@ -3,7 +3,7 @@ use mathlib.Core.Path.{◌≡◌, refl, sym, ap, ◌∙◌}
 use mathlib.Core.Bool.{Bool, true}
 use mathlib.Core.List.{List}
 use Rattle.std.specs.Prelude as rust
-use Rattle.std.specs.Prelude.{Option, None as none, Some as some}
+use Rattle.std.specs.Prelude.{Option, None as none, Some as some, option_map}
 use Prim.Native.Nat.{ℕ}
 use lib.ListN.{length}
 use Rattle.theory.specs.Record.{Bytes}
@@ -11,7 +11,7 @@ use Rattle.text.specs.Reading as R
 use Rattle.text.specs.Reading.{bind, Declared, Word, first_word, is_symbol, step_front, step_back, read_term, max_nesting}
 use Rattle.text.specs.Writing.{Placed, placed, write, put_step}
 use Rattle.text.specs.Convert.{State, state, take_step}
-use Rattle.words.specs.Tables.{told_by, Reads}
+use Rattle.words.specs.Tables.{Reads}
 use Rattle.writer.specs.declared.places.Spot.{Spot}
 use Rattle.writer.specs.Places.{so_far, Moved, Steps}
 use Rattle.reader.specs.Reader.{Got, got, read_write}
@@ -89,6 +89,6 @@ stepped {vars} {old} {mid} {new} {work} {work'} {from} {s} room rule k {p} {r} l
   fits = λ t u. moved_on m (h.fits t u);
 }
   where
-    told_state : (q : rust.Option Spot) → told_by (λ (x : Spot). state vars true (so_far new x)) q ≡ bind (told_by (λ (x : Spot). so_far new x) q) (λ b. some (state vars true b))
+    told_state : (q : rust.Option Spot) → option_map (λ (x : Spot). state vars true (so_far new x)) q ≡ bind (option_map (λ (x : Spot). so_far new x) q) (λ b. some (state vars true b))
     told_state rust.None = refl
     told_state (rust.Some t) = refl

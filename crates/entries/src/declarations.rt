@@ -10,9 +10,6 @@ ghost use Rattle.entries.specs.Declarations.{Declared};
 use names::names::{declared_by, find_name, variable};
 use writer::places::{Spot, put_term};
 
-// The first number that a record's two bytes can't hold.
-const NUMBER_END: usize = 65536;
-
 // A declaration where `declared` variables are declared: the name is new and its number fits; the
 // variable is put. Where the job stands then.
 pub fn declare(
@@ -31,13 +28,11 @@ pub fn declare(
         (state (declared_in declarations.now) false (so_far out.old spot)))) result }
 {
     let d = declared_by(line)?;
-    if let Some(_) = find_name(declarations, &line[d.start..d.end]) {
+    if find_name(declarations, d.name).is_some() {
         return None;
     }
-    if NUMBER_END <= declared {
-        return None;
-    }
-    let kind = variable(declared as u64, d.width);
+    let number = u16::try_from(declared).ok()?;
+    let kind = variable(u64::from(number), d.width);
     let put = put_term(kind, &[], out, work, spot)?;
     Some(put.spot)
 }

@@ -18,10 +18,10 @@ use Rattle.terms.specs.declared.Term.{Term as Decoded}
 use Rattle.terms.specs.declared.Term.TheVariants as D
 use Rattle.terms.specs.Decoded.{OperandsPlaced, op_of, operands_of, arguments_of}
 use Rattle.store.specs.Store.{listed}
-use Rattle.store.specs.Shelf.{args_at}
+use Rattle.store.specs.Shelf.{TermOn, args_at}
 use Rattle.sweeps.specs.Variables.{is_variable}
 use Rattle.sweeps.specs.Sweep.{as_number}
-use Rattle.evaluation.specs.Cells.{AllRight, sorts_on, Given, Comes, Evaluated, Decodable}
+use Rattle.evaluation.specs.Cells.{AllRight, sorts_on, Given, Comes, Evaluable, Evaluated}
 use Rattle.store.specs.KeptTerms.{IsTermOn}
 use Rattle.evaluation.specs.Columns.{column}
 use Rattle.evaluation.specs.declared.evaluate.Column.{Column}
@@ -32,6 +32,12 @@ folds_at : {A : Type 0} (alg : Op → List A → A) (list : Plain) (ks : List �
 unfolding fold
 folds_at alg list [] = refl
 folds_at {A} alg list (k ∷ ks) = ap (λ (r : List A). fold alg (tree_at list k) ∷ r) (folds_at alg list ks)
+
+-- the term at a place may be evaluated, and t is it
+pub record Decodable (job work : Bytes) (n : ℕ) (f : ℕ → ℕ) (place : ℕ) (t : Decoded) : Type 0 where
+  pub able : Evaluable job work n f
+  pub low : place < first_terms + n
+  pub term : TermOn job work n place t
 
 fold_of : {A : Type 0} (alg : Op → List A → A) (list : Plain) (o : Op) (ks : List ℕ) → fold alg (tree_of list o ks) ≡ alg o (map (λ (k : ℕ). fold alg (tree_at list k)) ks)
 unfolding fold

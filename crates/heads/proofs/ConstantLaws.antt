@@ -29,20 +29,6 @@ unfolding kind_at shape_of
 false_made e = reads_some e (record { below = omega arith; same = refl })
 
 -- ---- constants
-scaled : (b n : ℕ) → 1 ≤ b → b ≤ 4 → (n ≤ b * n) × (b * n ≤ 4 * n)
-scaled zero n h l = absurd (omega arith)
-scaled (suc zero) n h l = (omega arith, omega arith)
-scaled (suc (suc zero)) n h l = (omega arith, omega arith)
-scaled (suc (suc (suc zero))) n h l = (omega arith, omega arith)
-scaled (suc (suc (suc (suc zero)))) n h l = (omega arith, omega arith)
-scaled (suc (suc (suc (suc (suc b))))) n h l = absurd (omega arith)
-
-pub scaled_low : (b n : ℕ) → 1 ≤ b → b ≤ 4 → n ≤ b * n
-scaled_low b n h l = (scaled b n h l).0
-
-pub scaled_high : (b n : ℕ) → 1 ≤ b → b ≤ 4 → b * n ≤ 4 * n
-scaled_high b n h l = (scaled b n h l).1
-
 abbrev with_value : Option ℕ → Option ℕ → Option Op
 with_value v q = bind q (λ n. bind (below value_end v) (λ x. some (Const n x)))
 

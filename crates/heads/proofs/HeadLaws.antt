@@ -73,8 +73,8 @@ two_op k bs e = go (shape_of k) refl e
 abbrev closed : Option Operation → Option Operation
 closed q = bind q (λ g. bind (after right g.rest) (λ rest. some (operation g.op rest)))
 
-pub unnumbered : {p q : Option Shape} (bs : Bytes) → p ≡ q → numbers_of p bs ≡ none → bind q (λ s. closed (with_numbers s bs)) ≡ none
-unnumbered {p} {q} bs e f = regroup q ∙ ap (λ (x : Option Shape). closed (numbers_of x bs)) (sym e) ∙ ap closed f
+pub numbered : {p q : Option Shape} (bs : Bytes) → p ≡ q → bind q (λ s. closed (with_numbers s bs)) ≡ closed (numbers_of p bs)
+numbered {p} {q} bs e = regroup q ∙ ap (λ (x : Option Shape). closed (numbers_of x bs)) (sym e)
   where
     regroup : (q : Option Shape) → bind q (λ s. closed (with_numbers s bs)) ≡ closed (numbers_of q bs)
     regroup none = refl

@@ -1,56 +1,44 @@
 // How a term begins.
-ghost use Rattle.std.specs.Prelude.{◌≡◌, ◌≤◌, ◌<◌, length, drop};
+ghost use Rattle.std.specs.Prelude.{◌≤◌, ◌<◌};
 ghost use Rattle.theory.specs.Record.{shape_of};
 ghost use Rattle.text.specs.Reading.{digits_of, atom, bv_constant, indexed_operation, head, opened};
 ghost use Rattle.names.specs.Kinds.{declared_in, family_of, kinds_end, Made};
 ghost use Rattle.heads.specs.Heads.{Begins, Operates, numbers_of};
 
 use names::kinds::{Indices, Kind, bv_value, family, read_index};
-use names::marks::{right_after, word_after};
+use names::marks::{first_word, right_after, word_after};
 use names::names::find_name;
+use terms::kind;
 use words::numbers::number_in;
 use words::tables::kind_named;
 use words::tokens::{Token, next_token, same};
 
-// The largest number of a record's two bytes.
-const MAX_NUMBER: usize = 65535;
-
-// The kind of a constant.
-const CONSTANT: u32 = 12;
-
-// How a term begins: it is whole, or its operation was read; and the place after that.
+// How a term begins: it is whole, or its operation was read; and what stands after that.
 #[derive(Clone, Copy)]
-pub enum Start {
-    Leaf(Kind, usize),
-    Branch(Kind, usize),
+pub enum Start<'a> {
+    Leaf(Kind, &'a [u8]),
+    Branch(Kind, &'a [u8]),
 }
 
-// A kind that was read, and the place after it.
+// A kind that was read, and what stands after it.
 #[derive(Clone, Copy)]
-pub struct Operation {
+pub struct Operation<'a> {
     pub kind: Kind,
-    pub next: usize,
+    pub rest: &'a [u8],
 }
 
 // A constant of so many bits for each digit.
 fn digits(word: &[u8], bits: usize, base: u64) -> Option<Kind>
-    requires some_bits { 1 ≤ bits }
-    requires few_bits { bits ≤ 4 }
     requires low { 2 ≤ base }
     requires high { base ≤ 16 }
     ensures { Made (digits_of bits base word.now) result }
 {
-    if MAX_NUMBER < word.len() {
-        return None;
-    }
-    let width = bits * word.len();
-    if MAX_NUMBER < width {
-        return None;
-    }
+    let digits = bits.checked_mul(word.len())?;
+    let width = u16::try_from(digits).ok()?;
     let value = number_in(base, word, u64::MAX)?;
     Some(Kind {
-        number: CONSTANT,
-        x: width as u64,
+        number: kind::Kind::Const as u32,
+        x: u64::from(width),
         y: value,
     })
 }
@@ -85,49 +73,45 @@ fn read_atom(word: &[u8], declarations: &[u8]) -> Option<Kind>
 
 // bvN n) after (_
 #[tactic(auto, using(crate::proofs::Sets::laws), unfolding(text::specs::Reading::bv_constant))]
-fn read_constant(line: &[u8], at: usize) -> Option<Operation>
-    requires { at ≤ length line.now }
-    ensures { Operates line.now (bv_constant (drop at line.now)) result }
+fn read_constant(line: &[u8]) -> Option<Operation<'_>>
+    ensures { Operates (bv_constant line.now) result }
 {
-    let Token::Word(s, e) = next_token(line, at) else {
-        return None;
-    };
-    let width = read_index(line, e)?;
-    let next = right_after(line, width.next)?;
-    let value = bv_value(&line[s..e])?;
+    let (word, rest) = first_word(line)?;
+    let width = read_index(rest)?;
+    let rest = right_after(width.rest)?;
+    let value = bv_value(word)?;
     let kind = Kind {
-        number: CONSTANT,
+        number: kind::Kind::Const as u32,
         x: width.number,
         y: value,
     };
-    Some(Operation { kind, next })
+    Some(Operation { kind, rest })
 }
 
 // The numbers of kind k, of which it has one or two.
-fn read_numbers(line: &[u8], at: usize, k: u32) -> Option<Operation>
-    requires inside { at ≤ length line.now }
-    requires kind { k < kinds_end }
-    ensures { Operates line.now (numbers_of (shape_of k) (drop at line.now)) result }
+fn read_numbers(line: &[u8], k: u32) -> Option<Operation<'_>>
+    requires { k < kinds_end }
+    ensures { Operates (numbers_of (shape_of k) line.now) result }
 {
     match family(k)? {
         Indices::Indexed => {
-            let x = read_index(line, at)?;
+            let x = read_index(line)?;
             let kind = Kind {
                 number: k,
                 x: x.number,
                 y: 0,
             };
-            Some(Operation { kind, next: x.next })
+            Some(Operation { kind, rest: x.rest })
         }
         Indices::TwiceIndexed => {
-            let x = read_index(line, at)?;
-            let y = read_index(line, x.next)?;
+            let x = read_index(line)?;
+            let y = read_index(x.rest)?;
             let kind = Kind {
                 number: k,
                 x: x.number,
                 y: y.number,
             };
-            Some(Operation { kind, next: y.next })
+            Some(Operation { kind, rest: y.rest })
         }
         _ => None,
     }
@@ -135,57 +119,53 @@ fn read_numbers(line: &[u8], at: usize, k: u32) -> Option<Operation>
 
 // _ name i ..) after ((
 #[tactic(auto, using(crate::proofs::Sets::laws), unfolding(text::specs::Reading::indexed_operation))]
-fn read_indexed(line: &[u8], at: usize) -> Option<Operation>
-    requires { at ≤ length line.now }
-    ensures { Operates line.now (indexed_operation (drop at line.now)) result }
+fn read_indexed(line: &[u8]) -> Option<Operation<'_>>
+    ensures { Operates (indexed_operation line.now) result }
 {
-    let a = word_after(line, at, b"_")?;
-    let Token::Word(s, e) = next_token(line, a) else {
-        return None;
-    };
-    let o = read_numbers(line, e, kind_named(&line[s..e]))?;
-    let next = right_after(line, o.next)?;
-    Some(Operation { kind: o.kind, next })
+    let a = word_after(line, b"_")?;
+    let (word, rest) = first_word(a)?;
+    let k = kind_named(word)?;
+    let o = read_numbers(rest, k)?;
+    let rest = right_after(o.rest)?;
+    Some(Operation { kind: o.kind, rest })
 }
 
 // After a parenthesis: a constant, an operation with numbers, or one without.
 #[tactic(auto, using(crate::proofs::Sets::laws), unfolding(text::specs::Reading::opened))]
-fn begin_opened(line: &[u8], at: usize) -> Option<Start>
-    requires { at ≤ length line.now }
-    ensures { Begins line.now (opened (drop at line.now)) result }
+fn begin_opened(line: &[u8]) -> Option<Start<'_>>
+    ensures { Begins (opened line.now) result }
 {
-    let token = next_token(line, at);
-    if let Token::Left(next) = token {
-        let o = read_indexed(line, next)?;
-        return Some(Start::Branch(o.kind, o.next));
+    let next = next_token(line);
+    if let Token::Left = next.token {
+        let o = read_indexed(next.rest)?;
+        return Some(Start::Branch(o.kind, o.rest));
     }
-    let Token::Word(s, e) = token else {
+    let Token::Word(word) = next.token else {
         return None;
     };
-    if same(&line[s..e], b"_") {
-        let o = read_constant(line, e)?;
-        return Some(Start::Leaf(o.kind, o.next));
+    if same(word, b"_") {
+        let o = read_constant(next.rest)?;
+        return Some(Start::Leaf(o.kind, o.rest));
     }
-    let number = kind_named(&line[s..e]);
+    let number = kind_named(word)?;
     let Some(Indices::Plain) = family(number) else {
         return None;
     };
     let kind = Kind { number, x: 0, y: 0 };
-    Some(Start::Branch(kind, e))
+    Some(Start::Branch(kind, next.rest))
 }
 
-// How the term at `at` of the line begins; the variables are those that `declarations` declare.
+// How the term that a line begins with begins; the variables are those that `declarations` declare.
 #[tactic(auto, using(crate::proofs::Sets::laws), unfolding(text::specs::Reading::head))]
-pub fn begin(line: &[u8], at: usize, declarations: &[u8]) -> Option<Start>
-    requires { at ≤ length line.now }
-    ensures { Begins line.now
-        (head (declared_in declarations.now) (drop at line.now)) result }
+pub fn begin<'a>(line: &'a [u8], declarations: &[u8]) -> Option<Start<'a>>
+    ensures { Begins (head (declared_in declarations.now) line.now) result }
 {
-    match next_token(line, at) {
-        Token::Left(next) => begin_opened(line, next),
-        Token::Word(s, e) => {
-            let kind = read_atom(&line[s..e], declarations)?;
-            Some(Start::Leaf(kind, e))
+    let next = next_token(line);
+    match next.token {
+        Token::Left => begin_opened(next.rest),
+        Token::Word(word) => {
+            let kind = read_atom(word, declarations)?;
+            Some(Start::Leaf(kind, next.rest))
         }
         _ => None,
     }

@@ -5,7 +5,6 @@ use mathlib.Core.List.{List, [], ◌∷◌}
 use Prim.Native.Nat.{ℕ, suc, ◌+◌, ◌-◌, ◌<◌, ◌≤◌, max}
 use native.Mathlib.Numerals.{add-one}
 use native.Mathlib.Omega.{arith}
-use lib.Dec.{T}
 use lib.ListN.{length, drop, get_or, drop_of_length-le}
 use lib.Seq.{drop-cons}
 use Rattle.theory.specs.Limit.{max_arguments, max_width}
@@ -14,14 +13,12 @@ use Rattle.theory.specs.Depth.{depth}
 use Rattle.theory.specs.Record.{Bytes}
 use Rattle.theory.specs.Plain.{Plain}
 use Rattle.theory.proofs.Places.{tree_at}
-use Rattle.theory.proofs.Sorts.{sized, sorts_sized}
-use Rattle.rows.specs.Layout.{place_end}
 use Rattle.terms.specs.declared.Args.{Args}
 use Rattle.terms.specs.declared.Operands.{Operands}
 use Rattle.terms.specs.declared.Operands.TheVariants.{None, One, Two, Three, List as Listed}
 use Rattle.terms.specs.Decoded.{Inside, OperandsPlaced, words_in, numbers_of}
 use Rattle.store.specs.Sorts.{sorts_at, deepest_at, count_of}
-use Rattle.intern.proofs.Guarding.{fails, width_high, no_width, some_width}
+use Rattle.intern.proofs.Guarding.{fails, width_high}
 
 -- ---- argument i
 pub count_few : (job : Bytes) (ops : Operands) → OperandsPlaced job ops → count_of ops ≤ max_arguments
@@ -118,40 +115,40 @@ module _ {list : Plain} {ks : List ℕ} where
   pub sum_start : Summing list ks 0 0
   sum_start = record { passed = omega arith; small = omega arith; bvs = refl; total = omega arith }
 
-  module _ {sum i : ℕ} (p : Summing list ks sum i) (h : i < length ks) {s : Sort} (e : s ≡ sort_of (tree_at list (get_or ks i 0))) {w : ℕ} (f : w ≡ sort_width s) where
+  module _ {sum i : ℕ} (p : Summing list ks sum i) (h : i < length ks) {s : Sort} (e : s ≡ sort_of (tree_at list (get_or ks i 0))) where
     next_bvs : all_bv (sorts_at list ks) ≡ is_bv_sort s && all_bv (sorts_at list (drop (suc i) ks))
     next_bvs = p.bvs ∙ ap (λ (js : List ℕ). all_bv (sorts_at list js)) (drop-cons ks i 0 h) ∙ ap (λ (t : Sort). is_bv_sort t && all_bv (sorts_at list (drop (suc i) ks))) (sym e)
 
-    next_total : sum_widths (sorts_at list ks) ≡ sum + (w + sum_widths (sorts_at list (drop (suc i) ks)))
-    next_total =
-        p.total ∙ ap (λ (js : List ℕ). sum + sum_widths (sorts_at list js)) (drop-cons ks i 0 h)
-        ∙ ap (λ (v : ℕ). sum + (v + sum_widths (sorts_at list (drop (suc i) ks)))) (ap sort_width (sym e) ∙ sym f)
-
-    pub sum_turn : (w ≡ 0 → ⊥) → w ≤ max_width - sum → Summing list ks (sum + w) (i + 1)
-    sum_turn g l =
-        let m = p.small in
-        let t = next_total in
-        let n = ap (λ (k : ℕ). sum_widths (sorts_at list (drop k ks))) (add-one i) in
-        record {
-          passed = omega arith;
-          small = omega arith;
-          bvs = next_bvs ∙ ap (λ (b : Bool). b && all_bv (sorts_at list (drop (suc i) ks))) (some_width s (λ z. g (f ∙ z))) ∙ ap (λ (k : ℕ). all_bv (sorts_at list (drop k ks))) (sym (add-one i));
-          total = omega arith;
-        }
-
-    pub sum_no_bv : w ≡ 0 → bad ≡ joined_sort (sorts_at list ks)
-    sum_no_bv z =
-        let q : is_bv_sort s ≡ false = no_width s (subst (λ (t : Sort). T (sized t)) (sym e) (sorts_sized (tree_at list (get_or ks i 0)))) (sym f ∙ z) in
+    pub sum_no_bv : is_bv_sort s ≡ false → bad ≡ joined_sort (sorts_at list ks)
+    sum_no_bv q =
         let x = sum_widths (sorts_at list ks) in
         fails (all_bv (sorts_at list ks) && is_width x) (bv x)
         (ap (λ (b : Bool). b && is_width x) (next_bvs ∙ ap (λ (b : Bool). b && all_bv (sorts_at list (drop (suc i) ks))) q))
 
-    pub sum_wide : max_width - sum < w → bad ≡ joined_sort (sorts_at list ks)
-    sum_wide l =
-        let t = next_total in
-        let m = p.small in
-        let x = sum_widths (sorts_at list ks) in
-        fails (all_bv (sorts_at list ks) && is_width x) (bv x) (ap (λ (b : Bool). all_bv (sorts_at list ks) && b) (width_high x (omega arith)) ∙ and-false (all_bv (sorts_at list ks)))
+    module _ {w : ℕ} (f : s ≡ bv w) where
+      next_total : sum_widths (sorts_at list ks) ≡ sum + (w + sum_widths (sorts_at list (drop (suc i) ks)))
+      next_total =
+          p.total ∙ ap (λ (js : List ℕ). sum + sum_widths (sorts_at list js)) (drop-cons ks i 0 h)
+          ∙ ap (λ (t : Sort). sum + (sort_width t + sum_widths (sorts_at list (drop (suc i) ks)))) (sym e ∙ f)
+
+      pub sum_turn : w ≤ max_width - sum → Summing list ks (sum + w) (i + 1)
+      sum_turn l =
+          let m = p.small in
+          let t = next_total in
+          let n = ap (λ (k : ℕ). sum_widths (sorts_at list (drop k ks))) (add-one i) in
+          record {
+            passed = omega arith;
+            small = omega arith;
+            bvs = next_bvs ∙ ap (λ (t : Sort). is_bv_sort t && all_bv (sorts_at list (drop (suc i) ks))) f ∙ ap (λ (k : ℕ). all_bv (sorts_at list (drop k ks))) (sym (add-one i));
+            total = omega arith;
+          }
+
+      pub sum_wide : max_width - sum < w → bad ≡ joined_sort (sorts_at list ks)
+      sum_wide l =
+          let t = next_total in
+          let m = p.small in
+          let x = sum_widths (sorts_at list ks) in
+          fails (all_bv (sorts_at list ks) && is_width x) (bv x) (ap (λ (b : Bool). all_bv (sorts_at list ks) && b) (width_high x (omega arith)) ∙ and-false (all_bv (sorts_at list ks)))
 
   pub sum_end : {sum i : ℕ} → Summing list ks sum i → length ks ≤ i → {s : Sort} → s ≡ guard (is_width sum) (bv sum) → s ≡ joined_sort (sorts_at list ks)
   sum_end {sum} {i} p h e =
@@ -163,22 +160,20 @@ module _ {list : Plain} {ks : List ℕ} where
 -- ---- the deepest: what is left from i on
 pub record Deepening (list : Plain) (ks : List ℕ) (most i : ℕ) : Type 0 where
   pub passed : i ≤ length ks
-  pub small : most < place_end
   pub rest : deepest_at list ks ≡ max most (deepest_at list (drop i ks))
 
 module _ {list : Plain} {ks : List ℕ} where
   pub deep_start : Deepening list ks 0 0
-  deep_start = record { passed = omega arith; small = omega arith; rest = omega arith }
+  deep_start = record { passed = omega arith; rest = omega arith }
 
-  pub deep_turn : {most i : ℕ} → Deepening list ks most i → i < length ks → {d : ℕ} → d ≡ depth (tree_at list (get_or ks i 0)) → d < place_end
+  pub deep_turn : {most i : ℕ} → Deepening list ks most i → i < length ks → {d : ℕ} → d ≡ depth (tree_at list (get_or ks i 0))
       → {m : ℕ} → m ≡ max most d → Deepening list ks m (i + 1)
   unfolding depth
-  deep_turn {most} {i} p h {d} e l {m} f =
+  deep_turn {most} {i} p h {d} e {m} f =
       let r : deepest_at list ks ≡ max most (max (depth (tree_at list (get_or ks i 0))) (deepest_at list (drop (suc i) ks)))
       = p.rest ∙ ap (λ (js : List ℕ). max most (deepest_at list js)) (drop-cons ks i 0 h) in
-      let z = p.small in
       let n = ap (λ (k : ℕ). deepest_at list (drop k ks)) (add-one i) in
-      record { passed = omega arith; small = omega arith; rest = omega arith }
+      record { passed = omega arith; rest = omega arith }
 
   pub deep_end : {most i : ℕ} → Deepening list ks most i → length ks ≤ i → most ≡ deepest_at list ks
   unfolding depth

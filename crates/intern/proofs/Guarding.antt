@@ -1,16 +1,19 @@
 -- A sort behind a test: the tests on widths, values, bits and extensions.
 use mathlib.Core.Path.{◌≡◌, refl, sym, ap, ◌∙◌}
 use mathlib.Core.Bool.{Bool, true, false, ◌&&◌, and-false}
+use Rattle.std.specs.Prelude.{Option}
+use Rattle.std.specs.Bool.{then_some}
 use Prim.Native.Nat.{ℕ, zero, suc, ◌+◌, ◌*◌, ◌%◌, ◌^◌, ◌<◌, ◌≤◌}
 use native.Mathlib.Nat.{one-mul, mul-le-mul_left}
 use native.Mathlib.Omega.{arith}
-use lib.Dec.{T, leb, ltb, lit<, leb→le}
-use lib.Ieee.Fits.{and_l}
+use lib.Dec.{leb, ltb, lit<}
 use lib.Pow.{shl_exact}
-use borrow.Author.Tests.{lt-ltb, le-ltb, le-leb, lt-leb}
+use borrow.Author.Tests.{eq-eqb, ne_eqb, lt-ltb, le-ltb, le-leb, lt-leb}
 use Rattle.theory.specs.Limit.{max_width}
-use Rattle.theory.specs.Sort.{Sort, bad, bool, bv, guard, is_width, is_bv_sort, sort_width}
-use Rattle.theory.proofs.Sorts.{sized}
+use Rattle.theory.specs.Sort.{Sort, bad, bool, bv, good, guard, is_width, is_bv_sort, same_sort, sort_width}
+use Rattle.store.specs.declared.sorts.Sort.{Sort as Read}
+use Rattle.store.specs.declared.sorts.Sort.TheVariants as R
+use Rattle.store.specs.Sorts.{sort_read, sort_or_bad}
 
 -- a sort behind a test
 pub passes : (b : Bool) (s : Sort) → b ≡ true → s ≡ guard b s
@@ -51,7 +54,7 @@ pub below_64 : {n x : ℕ} → n ≡ 64 → x < 2 ^ 64 → x < 2 ^ n
 below_64 e h = rw e h
 
 -- a bit-vector is told by its width where a bit of it is asked for
-bit_test : (s : Sort) (i : ℕ) → is_bv_sort s && ltb i (sort_width s) ≡ ltb i (sort_width s)
+pub bit_test : (s : Sort) (i : ℕ) → is_bv_sort s && ltb i (sort_width s) ≡ ltb i (sort_width s)
 bit_test bad i = sym (le-ltb i 0 (omega arith))
 bit_test bool i = sym (le-ltb i 0 (omega arith))
 bit_test (bv n) i = refl
@@ -62,12 +65,6 @@ extract_test bool i j = sym (rw (le-ltb i 0 (omega arith)) (and-false (leb j i))
 extract_test (bv n) i j = refl
 
 module _ (s : Sort) (i : ℕ) {w : ℕ} (e : w ≡ sort_width s) where
-  pub bit_there : i < w → is_bv_sort s && ltb i (sort_width s) ≡ true
-  bit_there h = bit_test s i ∙ lt-ltb i (sort_width s) (omega arith)
-
-  pub bit_beyond : w ≤ i → is_bv_sort s && ltb i (sort_width s) ≡ false
-  bit_beyond h = bit_test s i ∙ le-ltb i (sort_width s) (omega arith)
-
   pub part_there : (j : ℕ) → j ≤ i → i < w → is_bv_sort s && (leb j i && ltb i (sort_width s)) ≡ true
   part_there j l h = extract_test s i j ∙ rw (le-leb j i l) (lt-ltb i (sort_width s) (omega arith))
 
@@ -79,12 +76,6 @@ part_crossed s i j h = extract_test s i j ∙ rw (lt-leb j i h)
 
 -- a term with k more bits
 module _ {s : Sort} (k : ℕ) where
-  pub extend_none : s ≡ bad → is_bv_sort s && leb (sort_width s + k) max_width ≡ false
-  extend_none e = rw e
-
-  pub extend_bool : s ≡ bool → is_bv_sort s && leb (sort_width s + k) max_width ≡ false
-  extend_bool e = rw e
-
   pub extend_wide : {n : ℕ} → s ≡ bv n → max_width < n + k → is_bv_sort s && leb (sort_width s + k) max_width ≡ false
   extend_wide {n} e h = rw e (lt-leb (n + k) max_width h)
 
@@ -107,12 +98,6 @@ wide_bits zero n h = width_low (0 * n) (omega arith)
 wide_bits (suc k) n h = width_high (suc k * n) (omega arith)
 
 module _ {s : Sort} (k : ℕ) where
-  pub copies_none : s ≡ bad → is_bv_sort s && is_width (k * sort_width s) ≡ false
-  copies_none e = rw e
-
-  pub copies_bool : s ≡ bool → is_bv_sort s && is_width (k * sort_width s) ≡ false
-  copies_bool e = rw e
-
   pub copies_many : {n : ℕ} → s ≡ bv n → max_width < k → is_bv_sort s && is_width (k * sort_width s) ≡ false
   copies_many {n} e h = rw e (many_bits k n h)
 
@@ -122,13 +107,34 @@ module _ {s : Sort} (k : ℕ) where
   pub copied : {n : ℕ} {r : Sort} → s ≡ bv n → r ≡ guard (is_width (k * n)) (bv (k * n)) → r ≡ guard (is_bv_sort s && is_width (k * sort_width s)) (bv (k * sort_width s))
   copied {n} e f = f ∙ rw e
 
--- a sort of width 0 is no bit-vector's
-pub no_width : (s : Sort) → T (sized s) → sort_width s ≡ 0 → is_bv_sort s ≡ false
-no_width bad z e = refl
-no_width bool z e = refl
-no_width (bv n) z e = absurd (let h = leb→le 1 n (and_l (leb 1 n) _ z) in omega arith)
+-- ---- the code's sorts
+-- what is there if a test passed
+pub tested : (b : Bool) (s : Read) {r : Option Read} → r ≡ then_some b s → sort_or_bad r ≡ guard b (sort_read s)
+unfolding guard
+tested true s e = ap sort_or_bad e
+tested false s e = ap sort_or_bad e
 
-pub some_width : (s : Sort) → (sort_width s ≡ 0 → ⊥) → is_bv_sort s ≡ true
-some_width bad f = absurd (f refl)
-some_width bool f = absurd (f refl)
-some_width (bv n) f = refl
+-- nothing fits where a bit-vector is asked for and there is no sort
+pub unfit : {t : Sort} → bad ≡ t → (b : Bool) (s : Sort) → bad ≡ guard (is_bv_sort t && b) s
+unfit {t} e b s = fails (is_bv_sort t && b) s (ap (λ (u : Sort). is_bv_sort u && b) (sym e))
+
+-- a sort that is no bit-vector's
+pub no_bits : (s : Read) → ((n : ℕ) → s ≡ R.Bv n → ⊥) → is_bv_sort (sort_read s) ≡ false
+no_bits R.Bool f = refl
+no_bits (R.Bv n) f = absurd (f n refl)
+
+-- two sorts are one, or they are not
+pub sort_same : (s t : Read) → s ≡ t → same_sort (sort_read s) (sort_read t) ≡ true
+sort_same R.Bool t e = rw (← e)
+sort_same (R.Bv n) t e = rw (← e) (eq-eqb n n refl)
+
+pub sort_other : (s t : Read) → (s ≡ t → ⊥) → same_sort (sort_read s) (sort_read t) ≡ false
+sort_other R.Bool R.Bool f = absurd (f refl)
+sort_other R.Bool (R.Bv n) f = refl
+sort_other (R.Bv m) R.Bool f = refl
+sort_other (R.Bv m) (R.Bv n) f = ne_eqb m n (λ e. f (ap R.Bv e))
+
+-- every sort of the code is one
+pub good_read : (s : Read) → good (sort_read s) ≡ true
+good_read R.Bool = refl
+good_read (R.Bv n) = refl

@@ -2,7 +2,7 @@
 use mathlib.Core.Path.{◌≡◌, refl, sym, ap, ap₂, subst, ◌∙◌}
 use mathlib.Core.Bool.{Bool, true, false, ◌&&◌, ◌||◌, cond}
 use mathlib.Core.List.{List, [], ◌∷◌, ◌++◌, map, map-append}
-use Rattle.std.specs.Prelude.{Some as some}
+use Rattle.std.specs.Prelude.{Option, Result, Ok, Err, None as none, Some as some}
 use Prim.Native.Nat.{ℕ, zero, suc, ◌+◌, ◌-◌, ◌*◌, ◌^◌, ◌<◌, ◌≤◌, min}
 use native.Mathlib.Nat.{pow-le-pow_right}
 use native.Mathlib.Omega.{arith}
@@ -14,7 +14,7 @@ use Rattle.std.specs.Prelude.{slice_get as get_elem?}
 use lib.Seq.{take-take, get_or-append_seam, get_or-take, drop-append-le, drop-drop}
 use borrow.Author.Tests.{eqb-true, eqb-false, le-leb, lt-leb}
 use Rattle.theory.specs.Limit.{number_bytes, Limits, capped, first_terms, max_width, term_bytes}
-use Rattle.theory.specs.Kind.{Op, True, kind}
+use Rattle.theory.specs.Kind.{Op, True, arity, kind, takes}
 use Rattle.theory.specs.Term.{Term, node, nil, from_list, same_numbers}
 use Rattle.theory.specs.Sort.{Sort, bad, bool, bv, good, sort_of, sort_width, first}
 use Rattle.theory.specs.Depth.{depth}
@@ -44,18 +44,26 @@ use Rattle.table.specs.declared.kept.Added.TheVariants as A
 use Rattle.table.proofs.Face.{measures_at, place_stands, place_absent}
 use Rattle.rows.proofs.RowLaws.{and_first, length_column, length_kept, link_whole, number_same, rows_small}
 use Rattle.terms.specs.declared.Term.{Term as Decoded}
-use Rattle.terms.specs.Decoded.{op_of, arguments_of}
+use Rattle.terms.specs.Decoded.{op_of, operands_of, arguments_of}
 use Rattle.store.specs.Measure.{measure, measure_in}
 use Rattle.store.proofs.Measuring.{measure_is, measure_small}
 use Rattle.store.specs.Store.{Store, stored, listed, records}
-use Rattle.store.specs.Sorts.{sorts_at, deepest_at}
-use Rattle.intern.specs.Kinds.{Fitting}
-use Rattle.intern.specs.Interning.{Offered, Taken, code_of, rows_after, offsets_after, bytes_after, with_term, answer_for, list_after as list_after_of}
+use Rattle.store.specs.Sorts.{Arguments, sort_read, sorts_at, deepest_at}
+use Rattle.intern.specs.Kinds.{Fitting, SortDepthOf, sort_in}
+use Rattle.intern.proofs.Guarding.{good_read}
+use Rattle.store.specs.declared.sorts.Sort.{Sort as Read}
+use Rattle.std.specs.Option.{ok_or}
+use Rattle.terms.specs.declared.stop.Stop.{Stop}
+use Rattle.intern.specs.declared.kinds.SortAndDepth.{SortAndDepth}
+use Rattle.store.specs.declared.gates.Lookup.{Lookup}
+use Rattle.store.specs.declared.gates.Kept.{Kept}
+use Rattle.store.specs.Lookup.{Finds}
+use Rattle.terms.specs.declared.stop.Stop.TheVariants as S
+use Rattle.intern.specs.Interning.{Answer, Offered, Taken, code_of, rows_after, offsets_after, bytes_after, with_term, answer_for, list_after as list_after_of}
 use Rattle.store.proofs.Lookup.{says_count}
 use Rattle.intern.proofs.Asking.{tree_depth}
 use Rattle.intern.proofs.Bools.{deepest_small}
 use Rattle.store.proofs.Keeping.{records_at}
-use Rattle.intern.specs.declared.Interned.{Interned}
 use Rattle.intern.specs.declared.Interned.TheVariants as I
 use Rattle.terms.proofs.Parts.{whole_parts}
 
@@ -232,32 +240,32 @@ width_step (bv n) h = leb→le n 64 (and_r (leb 1 n) _ h)
 
 -- ---- what adding a row says
 module _ (nb limit : ℕ) (x : Bytes) (rows : List Bytes) (len : ℕ) where
-  pub found_means : {p : ℕ} → A.Found p ≡ added_for nb limit x rows len → place_of x rows ≡ missing → ⊥
+  pub found_means : {p : ℕ} → some (A.Found p) ≡ added_for nb limit x rows len → place_of x rows ≡ missing → ⊥
   unfolding added_for
   found_means {p} e = go (eqb (place_of x rows) missing) (room_for nb limit (length rows) len) (eqb-false (place_of x rows) missing) e
     where
-      go : (b c : Bool) → (b ≡ false → place_of x rows ≡ missing → ⊥) → A.Found p ≡ cond b (cond c (A.New (first_terms + length rows)) A.Spent) (A.Found (place_of x rows)) → place_of x rows ≡ missing → ⊥
-      go true true f d = absurd (let z : ◌≡◌ {A = ℕ} 0 1 = cc in omega arith)
-      go true false f d = absurd (let z : ◌≡◌ {A = ℕ} 0 1 = cc in omega arith)
+      go : (b c : Bool) → (b ≡ false → place_of x rows ≡ missing → ⊥) → some (A.Found p) ≡ cond b (cond c (some (A.New (first_terms + length rows))) none) (some (A.Found (place_of x rows))) → place_of x rows ≡ missing → ⊥
+      go true true f d = absurd (cc)
+      go true false f d = absurd (cc)
       go false c f d = f refl
 
-  pub new_means : {p : ℕ} → A.New p ≡ added_for nb limit x rows len → (place_of x rows ≡ missing) × (room_for nb limit (length rows) len ≡ true)
+  pub new_means : {p : ℕ} → some (A.New p) ≡ added_for nb limit x rows len → (place_of x rows ≡ missing) × (room_for nb limit (length rows) len ≡ true)
   unfolding added_for
   new_means {p} e = go (eqb (place_of x rows) missing) (room_for nb limit (length rows) len) (eqb-true (place_of x rows) missing) e
     where
-      go : (b c : Bool) → (b ≡ true → place_of x rows ≡ missing) → A.New p ≡ cond b (cond c (A.New (first_terms + length rows)) A.Spent) (A.Found (place_of x rows)) → (place_of x rows ≡ missing) × (c ≡ true)
+      go : (b c : Bool) → (b ≡ true → place_of x rows ≡ missing) → some (A.New p) ≡ cond b (cond c (some (A.New (first_terms + length rows))) none) (some (A.Found (place_of x rows))) → (place_of x rows ≡ missing) × (c ≡ true)
       go true true f d = (f refl, refl)
-      go true false f d = absurd (let z : ◌≡◌ {A = ℕ} 0 1 = cc in omega arith)
-      go false c f d = absurd (let z : ◌≡◌ {A = ℕ} 0 1 = cc in omega arith)
+      go true false f d = absurd (cc)
+      go false c f d = absurd (cc)
 
-  pub spent_means : A.Spent ≡ added_for nb limit x rows len → (place_of x rows ≡ missing) × (room_for nb limit (length rows) len ≡ false)
+  pub spent_means : none ≡ added_for nb limit x rows len → (place_of x rows ≡ missing) × (room_for nb limit (length rows) len ≡ false)
   unfolding added_for
   spent_means e = go (eqb (place_of x rows) missing) (room_for nb limit (length rows) len) (eqb-true (place_of x rows) missing) e
     where
-      go : (b c : Bool) → (b ≡ true → place_of x rows ≡ missing) → A.Spent ≡ cond b (cond c (A.New (first_terms + length rows)) A.Spent) (A.Found (place_of x rows)) → (place_of x rows ≡ missing) × (c ≡ false)
-      go true true f d = absurd (let z : ◌≡◌ {A = ℕ} 0 1 = cc in omega arith)
+      go : (b c : Bool) → (b ≡ true → place_of x rows ≡ missing) → none ≡ cond b (cond c (some (A.New (first_terms + length rows))) none) (some (A.Found (place_of x rows))) → (place_of x rows ≡ missing) × (c ≡ false)
+      go true true f d = absurd (cc)
       go true false f d = (f refl, refl)
-      go false c f d = absurd (let z : ◌≡◌ {A = ℕ} 0 1 = cc in omega arith)
+      go false c f d = absurd (cc)
 
 -- ---- a term that is offered
 code_law : (sorted there roomy : Bool) (n : ℕ) → code_of (answer_for sorted there roomy n) ≡ first_fault ((sorted, 7) ∷ (there || roomy, 8) ∷ [])
@@ -275,18 +283,62 @@ capped_width w limit h = go (dec_le w limit)
     go (yes l) = le-leb w (min limit max_width) (omega arith) ∙ sym (le-leb w limit l)
     go (no l) = lt-leb w (min limit max_width) (omega arith) ∙ sym (lt-leb w limit (omega arith))
 
+-- what reads the rows of a job says what these say
+module _ {l : Lookup} {job work : Bytes} {n : ℕ} (h : Finds l job work n) where
+  over : (P : Bytes → Bytes → ℕ → Type 0) → P job work n → P l.job.now l.work.now l.rows
+  over P x =
+      subst (λ (j : Bytes). P j l.work.now l.rows) (sym h.job_is)
+      (subst (λ (w : Bytes). P job w l.rows) (sym h.work_is) (subst (λ (m : ℕ). P job work m) (sym h.rows_are) x))
+
+  back_over : (P : Bytes → Bytes → ℕ → Type 0) → P l.job.now l.work.now l.rows → P job work n
+  back_over P x =
+      subst (λ (m : ℕ). P job work m) h.rows_are
+      (subst (λ (w : Bytes). P job w l.rows) h.work_is (subst (λ (j : Bytes). P j l.work.now l.rows) h.job_is x))
+
+  pub sorted_as : (t : Decoded) {r : Option SortAndDepth} → SortDepthOf (tree_of (listed l.job.now l.work.now l.rows) (op_of t) (arguments_of l.job.now t)) r
+      → SortDepthOf (tree_of (listed job work n) (op_of t) (arguments_of job t)) r
+  sorted_as t {r} = back_over (λ j w m. SortDepthOf (tree_of (listed j w m) (op_of t) (arguments_of j t)) r)
+
+-- ---- an option as a result: what the code went on with, or stopped with
+pub ok_told : {A : Type 0} (r : Option A) (e : Stop) {q : Result A Stop} {x : A} → q ≡ ok_or r e → q ≡ Ok x → r ≡ some x
+ok_told none e f g = absurd (cc)
+ok_told (some y) e {q} {x} f g = let z : y ≡ x = cc in ap some z
+
+pub err_told : {A : Type 0} (r : Option A) (e : Stop) {q : Result A Stop} {d : Stop} → q ≡ ok_or r e → q ≡ Err d → (r ≡ none) × (d ≡ e)
+err_told none e {q} {d} f g = let z : d ≡ e = cc in (refl, z)
+err_told (some y) e f g = absurd (cc)
+
+-- a term has this sort and this depth
+pub record Sorted (job work : Bytes) (n : ℕ) (t : Decoded) (m : SortAndDepth) : Type 0 where
+  pub sort_is : sort_read m.sort ≡ sort_of (tree_of (listed job work n) (op_of t) (arguments_of job t))
+  pub depth_is : m.depth ≡ depth (tree_of (listed job work n) (op_of t) (arguments_of job t))
+
+pub sorted_told : {l : Lookup} {job work : Bytes} {n : ℕ} → Finds l job work n → (t : Decoded) {r : Option SortAndDepth}
+    → SortDepthOf (tree_of (listed l.job.now l.work.now l.rows) (op_of t) (arguments_of l.job.now t)) r
+    → {m : SortAndDepth} → r ≡ some m → Sorted job work n t m
+sorted_told h t {r} s {m} e =
+    let q = sorted_as h t s in
+    record { sort_is = ap sort_in (sym e) ∙ q.sort_is; depth_is = q.depth_is m e }
+
 -- what is tested of a sort
 abbrev fits : Limits → Sort → Bool
 fits limits s = good s && leb (sort_width s) limits.width
+
+pub fits_told : (limits : Limits) (s : Read) {b : Bool} → b ≡ leb (sort_width (sort_read s)) limits.width → fits limits (sort_read s) ≡ b
+fits_told limits s e = ap (λ (x : Bool). x && leb (sort_width (sort_read s)) limits.width) (good_read s) ∙ sym e
 
 module _ (limits : Limits) {job work : Bytes} {n at : ℕ} {t : Decoded} (o : Offered job work n at t) where
   says_it : read (number_length job) (record_at job at) ≡ term (op_of t) (arguments_of job t)
   says_it = sym o.says
 
-  pub fitting : Fitting job work n t
-  fitting = record {
-    arguments = o.arguments;
-    number = T_true _ (says_count (length_of job) (record_at job at) (op_of t) (arguments_of job t) (says_term (number_length job) (record_at job at) (op_of t) (arguments_of job t) says_it));
+  number_fits : takes (arity (op_of t)) (length (arguments_of job t)) ≡ true
+  number_fits = T_true _ (says_count (length_of job) (record_at job at) (op_of t) (arguments_of job t) (says_term (number_length job) (record_at job at) (op_of t) (arguments_of job t) says_it))
+
+  -- the term may be kept, by what reads the store
+  pub fitting : (k : Kept) → Finds k.lookup job work n → Fitting k t
+  fitting k h = record {
+    arguments = over h (λ j w m. Arguments j w m (operands_of t)) o.arguments;
+    number = subst (λ (j : Bytes). takes (arity (op_of t)) (length (arguments_of j t)) ≡ true) (sym h.job_is) number_fits;
   }
 
   all_low : T (all_below (length (listed job work n)) (arguments_of job t))
@@ -340,7 +392,7 @@ module _ (limits : Limits) {job work : Bytes} {n at : ℕ} {t : Decoded} (o : Of
       → answer_for sorted there roomy n ≡ answer_for (well_sorted (capped (number_length job) limits) (term_of (listed job work n) (op_of t) (arguments_of job t))) (has (listed job work n) (record_at job at)) (room (number_length job) (capped (number_length job) limits) (length work) (listed job work n)) n
   decided e f g = rw (e, f, g)
 
-  taken : {answer : Interned} {after : Bytes}
+  taken : {answer : Answer} {after : Bytes}
       → answer ≡ answer_for (well_sorted (capped (number_length job) limits) (term_of (listed job work n) (op_of t) (arguments_of job t))) (has (listed job work n) (record_at job at)) (room (number_length job) (capped (number_length job) limits) (length work) (listed job work n)) n
       → after ≡ bytes_after answer work (with_term job work n at (tree_of (listed job work n) (op_of t) (arguments_of job t)))
       → Store job after (rows_after answer n) → listed job after (rows_after answer n) ≡ list_after_of answer (listed job work n) (feed (number_length job) (listed job work n) (record_at job at))
@@ -348,44 +400,44 @@ module _ (limits : Limits) {job work : Bytes} {n at : ℕ} {t : Decoded} (o : Of
   taken {answer} e m s l f = record { answer_is = e; code_is = ap code_of e ∙ code_law _ _ _ n; memory_is = m; store = s; listed_is = l; offsets_are = f }
 
   -- it has no sort, or is too wide
-  pub taken_unsorted : {s : Sort} → s ≡ sort_of (tree_of (listed job work n) (op_of t) (arguments_of job t)) → fits limits s ≡ false → Taken limits job work work n at t I.Unsorted
+  pub taken_unsorted : {s : Sort} → s ≡ sort_of (tree_of (listed job work n) (op_of t) (arguments_of job t)) → fits limits s ≡ false → Taken limits job work work n at t (Err S.Unsorted)
   unfolding answer_for
   taken_unsorted {s} e f = taken (decided (sorted_is e ∙ f) refl refl) refl o.arguments.store refl refl
 
   module _ {after : Bytes} {m : ℕ} {s : Sort} (bytes : AllBytes job) (e : s ≡ sort_of (tree_of (listed job work n) (op_of t) (arguments_of job t))) (f : fits limits s ≡ true)
-      (me : m ≡ measure (tree_of (listed job work n) (op_of t) (arguments_of job t))) {a : Added} (g : Grown (number_length job) job work after n limits.terms at m a) where
+      (me : m ≡ measure (tree_of (listed job work n) (op_of t) (arguments_of job t))) {a : Option Added} (g : Grown (number_length job) job work after n limits.terms at m a) where
     sorted_true : well_sorted (capped (number_length job) limits) (term_of (listed job work n) (op_of t) (arguments_of job t)) ≡ true
     sorted_true = sorted_is e ∙ f
 
     sound_it : Sound (record_at job at)
     sound_it = whole_sound job at bytes o.stands
 
-    grown_as : (b : Added) → a ≡ b → Grown (number_length job) job work after n limits.terms at m b
+    grown_as : (b : Option Added) → a ≡ b → Grown (number_length job) job work after n limits.terms at m b
     grown_as b q = subst (Grown (number_length job) job work after n limits.terms at m) q g
 
-    pub taken_found : {p : ℕ} → a ≡ A.Found p → Taken limits job work after n at t (I.Found n)
+    pub taken_found : {p : ℕ} → a ≡ some (A.Found p) → Taken limits job work after n at t (Ok (I.Found n))
     unfolding count_after list_after memory_after answer_for
     taken_found {p} q =
-        let h = grown_as (A.Found p) q in
+        let h = grown_as (some (A.Found p)) q in
         let s = o.arguments.store in
         let there = found_there s (record_at job at) (found_means (number_length job) limits.terms (record_at job at) (kept job work n) (length work) h.answer_is) in
         taken (decided sorted_true there refl) h.memory_is (store_same s h.table h.kept_is h.measures_are)
         (ap (stored (number_length job)) h.kept_is ∙ fed_old s (record_at job at) (op_of t) (arguments_of job t) says_it all_low there) h.offsets_are
 
-    pub taken_spent : a ≡ A.Spent → Taken limits job work after n at t I.Spent
+    pub taken_spent : a ≡ none → Taken limits job work after n at t (Err S.Spent)
     unfolding count_after list_after memory_after answer_for
     taken_spent q =
-        let h = grown_as A.Spent q in
+        let h = grown_as none q in
         let s = o.arguments.store in
         let w = spent_means (number_length job) limits.terms (record_at job at) (kept job work n) (length work) h.answer_is in
         let there = missing_there s (record_at job at) sound_it.long w.0 in
         let none_left : room (number_length job) (capped (number_length job) limits) (length work) (listed job work n) ≡ false = room_is ∙ ap (λ (k : ℕ). room_for (number_length job) limits.terms k (length work)) (sym (length_kept (link_size job) job work n)) ∙ w.1 in
         taken (decided sorted_true there none_left) h.memory_is (store_same s h.table h.kept_is h.measures_are) (ap (stored (number_length job)) h.kept_is) h.offsets_are
 
-    pub taken_new : {p : ℕ} → a ≡ A.New p → Taken limits job work after n at t (I.New (n + 1))
+    pub taken_new : {p : ℕ} → a ≡ some (A.New p) → Taken limits job work after n at t (Ok (I.New (n + 1)))
     unfolding count_after list_after memory_after answer_for with_term
     taken_new {p} q =
-        let h = grown_as (A.New p) q in
+        let h = grown_as (some (A.New p)) q in
         let st = o.arguments.store in
         let w = new_means (number_length job) limits.terms (record_at job at) (kept job work n) (length work) h.answer_is in
         let there = missing_there st (record_at job at) sound_it.long w.0 in

@@ -1,5 +1,6 @@
 -- What callers are promised when the store starts, is cut back, and takes a term.
 use Rattle.std.specs.Prelude.{◌≡◌, Bool, true, ◌||◌, cond, List, [], ◌∷◌, ◌++◌, ℕ, ◌+◌, ◌-◌, length, take, drop}
+use Rattle.std.specs.Prelude.{Result, Ok, Err}
 use Rattle.theory.specs.Limit.{Limits, stated, capped, first_terms}
 use Rattle.theory.specs.Term as T
 use Rattle.theory.specs.Record.{Bytes, whole, read, number_length}
@@ -11,6 +12,9 @@ use Rattle.terms.specs.declared.Term.{Term}
 use Rattle.terms.specs.declared.Item.TheVariants as I
 use Rattle.terms.specs.Framing.{record_at}
 use Rattle.terms.specs.Decoded.{op_of, operands_of, arguments_of, item_of}
+use Rattle.terms.specs.Numbered.{stop_code}
+use Rattle.terms.specs.declared.stop.Stop.{Stop}
+use Rattle.terms.specs.declared.stop.Stop.TheVariants.{Unsorted, Spent}
 use Rattle.rows.specs.Layout.{link_size}
 use Rattle.rows.specs.Rows.{offsets}
 use Rattle.table.specs.Promise.{with_row, dropped_rows, cleared}
@@ -19,7 +23,7 @@ use Rattle.store.specs.Store.{Store, listed}
 use Rattle.store.specs.Sorts.{Arguments}
 use Rattle.intern.specs.declared.Limits.{Limits as Given}
 use Rattle.intern.specs.declared.Interned.{Interned}
-use Rattle.intern.specs.declared.Interned.TheVariants.{Unsorted, Spent, Found, New}
+use Rattle.intern.specs.declared.Interned.TheVariants.{Found, New}
 
 -- the store is empty: `true` and `false` alone, and the work memory is cleared
 pub record Started (job work after : Bytes) : Type 0 where
@@ -43,48 +47,45 @@ pub record CutBack (job work after : Bytes) (n count : ℕ) : Type 0 where
 abbrev pub limits_of : Given → Limits
 limits_of l = stated l.width l.terms
 
--- document 01's code of an answer
-abbrev pub code_of : Interned → ℕ
-code_of Unsorted = 7
-code_of Spent = 8
-code_of (Found m) = 0
-code_of (New m) = 0
+-- what `intern` returns
+abbrev pub Answer : Type 0
+Answer = Result Interned Stop
+
+-- document 01's code of it
+abbrev pub code_of : Answer → ℕ
+code_of (Ok a) = 0
+code_of (Err s) = stop_code s
 
 -- the rows after it
-abbrev pub rows_after : Interned → ℕ → ℕ
-rows_after Unsorted n = n
-rows_after Spent n = n
-rows_after (Found m) n = m
-rows_after (New m) n = m
+abbrev pub rows_after : Answer → ℕ → ℕ
+rows_after (Ok (Found m)) n = m
+rows_after (Ok (New m)) n = m
+rows_after (Err s) n = n
 
 -- the list after it: fed the record where the code is 0
-abbrev pub list_after : Interned → Plain → Plain → Plain
-list_after Unsorted list fed = list
-list_after Spent list fed = list
-list_after (Found m) list fed = fed
-list_after (New m) list fed = fed
+abbrev pub list_after : Answer → Plain → Plain → Plain
+list_after (Ok a) list fed = fed
+list_after (Err s) list fed = list
 
 -- where the records of the rows stand after it: a new one stands at `at`
-abbrev pub offsets_after : Interned → ℕ → List ℕ → List ℕ
-offsets_after Unsorted at os = os
-offsets_after Spent at os = os
-offsets_after (Found m) at os = os
-offsets_after (New m) at os = os ++ (at ∷ [])
+abbrev pub offsets_after : Answer → ℕ → List ℕ → List ℕ
+offsets_after (Ok (Found m)) at os = os
+offsets_after (Ok (New m)) at os = os ++ (at ∷ [])
+offsets_after (Err s) at os = os
 
 -- the work memory after it: every byte as it was, unless the term is new
-abbrev pub bytes_after : Interned → Bytes → Bytes → Bytes
-bytes_after Unsorted work new = work
-bytes_after Spent work new = work
-bytes_after (Found m) work new = work
-bytes_after (New m) work new = new
+abbrev pub bytes_after : Answer → Bytes → Bytes → Bytes
+bytes_after (Ok (Found m)) work new = work
+bytes_after (Ok (New m)) work new = new
+bytes_after (Err s) work new = work
 
 -- the work memory with t, the term of the record at `at`, in row n: its measure stands in the row, and the table has it
 unfoldable pub with_term : Bytes → Bytes → ℕ → ℕ → T.Term → Bytes
 with_term job work n at t = with_row (number_length job) job work n at (measure t)
 
 -- the answer where the term fits or not, its record is there or not, and there is room or not
-unfoldable pub answer_for : Bool → Bool → Bool → ℕ → Interned
-answer_for sorted there roomy n = cond sorted (cond there (Found n) (cond roomy (New (n + 1)) Spent)) Unsorted
+unfoldable pub answer_for : Bool → Bool → Bool → ℕ → Answer
+answer_for sorted there roomy n = cond sorted (cond there (Ok (Found n)) (cond roomy (Ok (New (n + 1))) (Err Spent))) (Err Unsorted)
 
 -- a whole record stands at `at` and says the term t, whose arguments are kept
 pub record Offered (job work : Bytes) (n at : ℕ) (t : Term) : Type 0 where
@@ -94,7 +95,7 @@ pub record Offered (job work : Bytes) (n at : ℕ) (t : Term) : Type 0 where
 
 -- the term was taken or not, under stated limits: the answer, its code by document 01's tests 7 and 8, the work memory then, and the store
 -- in it
-pub record Taken (limits : Limits) (job work after : Bytes) (n at : ℕ) (t : Term) (answer : Interned) : Type 0 where
+pub record Taken (limits : Limits) (job work after : Bytes) (n at : ℕ) (t : Term) (answer : Answer) : Type 0 where
   pub answer_is : answer
       ≡ answer_for (well_sorted (capped (number_length job) limits) (term_of (listed job work n) (op_of t) (arguments_of job t)))
       (has (listed job work n) (record_at job at))

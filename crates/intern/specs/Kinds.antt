@@ -1,19 +1,19 @@
 -- What each kind of term asks of its arguments, and the sort and depth that come of it.
-use Rattle.std.specs.Prelude.{◌≡◌, true, ◌&&◌, cond, List, ℕ, suc, ◌+◌, ◌-◌, ◌*◌, ◌^◌, eqb, leb, ltb, length}
+use Rattle.std.specs.Prelude.{◌≡◌, true, ◌&&◌, cond, List, ℕ, suc, ◌+◌, ◌-◌, ◌*◌, ◌^◌, leb, ltb, length}
+use Rattle.std.specs.Prelude.{Option, None as none, Some as some}
 use Rattle.theory.specs.Limit.{max_width}
 use Rattle.theory.specs.Kind.{arity, takes}
-use Rattle.theory.specs.Sort.{Sort, bool, bv, guard, all_are, is_bv_sort, good, all_bv, sort_width, sum_widths, first, is_width, alike, same_sort, sort_of}
+use Rattle.theory.specs.Sort.{Sort, bad, bool, bv, guard, all_are, is_bv_sort, good, all_bv, sort_width, sum_widths, first, is_width, alike, same_sort, sort_of}
 use Rattle.theory.specs.Term as T
 use Rattle.theory.specs.Depth.{depth}
-use Rattle.theory.specs.Record.{Bytes}
 use Rattle.theory.specs.Plain.{Plain}
-use Rattle.rows.specs.Layout.{missing}
 use Rattle.terms.specs.declared.Term.{Term}
 use Rattle.terms.specs.declared.Term.TheVariants as D
 use Rattle.terms.specs.Decoded.{op_of, operands_of, arguments_of}
 use Rattle.store.specs.declared.sorts.Sort.{Sort as Read}
-use Rattle.store.specs.declared.sorts.Sort.TheVariants.{Bad}
-use Rattle.store.specs.Sorts.{sort_read, sorts_at, deepest_at, Arguments}
+use Rattle.store.specs.declared.gates.Kept.{Kept}
+use Rattle.store.specs.Kept.{KeptArguments}
+use Rattle.store.specs.Sorts.{sort_read, sorts_at, deepest_at}
 use Rattle.intern.specs.declared.kinds.SortAndDepth.{SortAndDepth}
 use Rattle.intern.specs.declared.kinds.Asks.{Asks}
 use Rattle.intern.specs.declared.kinds.Asks.TheVariants.{Nothing, Width, Value, Bools, Same, Bit, Bits, Alike, Order, Compare, Concat, Extract, Extend, Copies}
@@ -97,19 +97,25 @@ pub record SameAsked (a b : Asks) (ss : List Sort) : Type 0 where
   pub depths : (d : ℕ) → asked_depth b (first ss) d ≡ asked_depth a (first ss) d
 
 -- a term that may be kept: its arguments are kept, and as many as its kind takes
-pub record Fitting (job work : Bytes) (n : ℕ) (t : Term) : Type 0 where
-  pub arguments : Arguments job work n (operands_of t)
-  pub number : takes (arity (op_of t)) (length (arguments_of job t)) ≡ true
+pub record Fitting (k : Kept) (t : Term) : Type 0 where
+  pub arguments : KeptArguments k (operands_of t)
+  pub number : takes (arity (op_of t)) (length (arguments_of k.lookup.job.now t)) ≡ true
 
--- the depth of the deepest of the terms at these places where all are Bools, else missing
-unfoldable pub deepest_bool : Plain → List ℕ → ℕ
-deepest_bool list ks = cond (all_are bool (sorts_at list ks)) (deepest_at list ks) missing
+-- the depth of the deepest of the terms at these places where all are Bools
+unfoldable pub deepest_bool : Plain → List ℕ → Option ℕ
+deepest_bool list ks = cond (all_are bool (sorts_at list ks)) (some (deepest_at list ks)) none
 
 -- the sort s of a term that asks for Bools, and its depth, `more` than that of its deepest argument, unless an argument is no Bool
-unfoldable pub of_bools : ℕ → Read → ℕ → SortAndDepth
-of_bools d s more = cond (eqb d missing) (record { sort = Bad; depth = 0 }) (record { sort = s; depth = d + more })
+abbrev pub of_bools : Option ℕ → Read → ℕ → Option SortAndDepth
+of_bools none s more = none
+of_bools (some d) s more = some (record { sort = s; depth = d + more })
+
+-- its sort, bad where there is none
+abbrev pub sort_in : Option SortAndDepth → Sort
+sort_in none = bad
+sort_in (some m) = sort_read m.sort
 
 -- the sort of a term, and its depth where it has a sort
-pub record SortDepthOf (t : T.Term) (m : SortAndDepth) : Type 0 where
-  pub sort_is : sort_read m.sort ≡ sort_of t
-  pub depth_is : good (sort_read m.sort) ≡ true → m.depth ≡ depth t
+pub record SortDepthOf (t : T.Term) (r : Option SortAndDepth) : Type 0 where
+  pub sort_is : sort_in r ≡ sort_of t
+  pub depth_is : (m : SortAndDepth) → r ≡ some m → m.depth ≡ depth t

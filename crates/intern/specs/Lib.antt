@@ -1,4 +1,4 @@
 -- What the contracts of `intern` cite.
 pub mod Kinds
-pub mod Lent
+pub mod Given
 pub mod Interning

@@ -1,18 +1,19 @@
 // The arguments of a term, one after the other: their sorts, widths and depths.
-ghost use Rattle.std.specs.Prelude.{◌≡◌, ◌&&◌, ◌<◌, max, get_or};
+ghost use Rattle.std.specs.Prelude.{◌≡◌, true, ◌&&◌, ◌+◌, ◌<◌, get_or, length};
+ghost use Rattle.std.proofs.Math.Bool.{Bool-set};
+ghost use Rattle.theory.specs.Limit.{first_terms};
 ghost use Rattle.theory.specs.Sort.{bv, guard, all_are, good, first, alike, all_bv, sum_widths, is_width, sort_of};
 ghost use Rattle.theory.specs.Depth.{depth};
+ghost use Rattle.theory.specs.Codes.{all_below};
 ghost use Rattle.rows.specs.Layout.{Bounded, place_end};
 ghost use Rattle.terms.specs.Decoded.{OperandsPlaced, numbers_of};
-ghost use Rattle.store.specs.Lent.{kept_terms};
-ghost use Rattle.store.specs.Sorts.{sort_read, count_of, Arguments};
+ghost use Rattle.store.specs.Sorts.{sort_read, sort_or_bad, count_of};
 ghost use Rattle.intern.specs.Kinds.{deepest_bool};
-ghost use Rattle.intern.specs.Lent.{argument_term, argument_sorts, deepest_argument};
+ghost use Rattle.store.proofs.Facts.{argument_facts};
 
-use super::guards::{of_width, same_sort};
+use super::guards::of_width;
 use store::gates::Kept;
-use store::shelf::Terms;
-use store::sorts::{Sort, width_of};
+use store::sorts::Sort;
 use terms::{Operands, Term};
 
 // How many arguments there are.
@@ -30,7 +31,8 @@ pub fn count(ops: Operands) -> usize
 
 // Argument i.
 pub fn operand(job: &[u8], ops: Operands, i: usize) -> u32
-    requires { OperandsPlaced job.now ops × (i < count_of ops) }
+    requires placed { OperandsPlaced job.now ops }
+    requires below { i < count_of ops }
     ensures { result ≡ get_or (numbers_of job.now ops) i 0 }
 {
     match ops {
@@ -47,147 +49,135 @@ pub fn operand(job: &[u8], ops: Operands, i: usize) -> u32
     }
 }
 
-// The sort of argument i.
-pub fn operand_sort(job: &[u8], work: &[u8], n: usize, ops: Operands, i: usize) -> Sort
-    requires { Arguments job.now work.now n ops × (i < count_of ops) }
-    ensures { sort_read result ≡ sort_of (argument_term job work n ops i) }
-{
-    let x = operand(job, ops, i);
-    let kept = Kept::new(job, work, n);
-    kept.sort_at(x)
+// The arguments of a term, each of which is the number of a kept term.
+#[derive(Clone, Copy)]
+pub struct Arguments<'a> {
+    pub kept: Kept<'a>,
+    pub list: Operands,
+    pub ghost placed: { OperandsPlaced kept.lookup.job.now list } by { Prim.hlevel argument_facts },
+    pub ghost below: { all_below (first_terms + kept.lookup.rows) (numbers_of kept.lookup.job.now list) ≡ true } by { Prim.hlevel Bool-set },
 }
 
-// The depth of argument i.
-pub fn operand_depth(job: &[u8], work: &[u8], n: usize, ops: Operands, i: usize) -> usize
-    requires { Arguments job.now work.now n ops × (i < count_of ops) }
-    ensures { Bounded result (depth (argument_term job work n ops i)) place_end }
-{
-    let x = operand(job, ops, i);
-    let kept = Kept::new(job, work, n);
-    kept.depth_at(x)
-}
+impl<'a> Arguments<'a> {
+    ghost use Rattle.intern.specs.Given.{places, given_terms, argument_term, argument_sorts, deepest_argument};
 
-// The sort of the first argument, Bad where there is none.
-pub fn first_sort(job: &[u8], work: &[u8], n: usize, ops: Operands) -> Sort
-    requires { Arguments job.now work.now n ops }
-    ensures { sort_read result ≡ first (argument_sorts job work n ops) }
-{
-    if count(ops) == 0 {
-        return Sort::Bad;
+    // How many there are.
+    pub fn count(&self) -> usize
+        ensures { result ≡ length (places self.now) }
+    {
+        count(self.list)
     }
-    operand_sort(job, work, n, ops, 0)
-}
 
-// Have all arguments this sort?
-pub fn all_are(job: &[u8], work: &[u8], n: usize, ops: Operands, s: Sort) -> bool
-    requires { Arguments job.now work.now n ops }
-    ensures { result ≡ all_are (sort_read s) (argument_sorts job work n ops) }
-{
-    let end = count(ops);
-    let mut i: usize = 0;
-    while i < end {
-        let t = operand_sort(job, work, n, ops, i);
-        if !same_sort(s, t) {
+    // The place of argument i.
+    pub fn place(&self, i: usize) -> u32
+        requires { i < length (places self.now) }
+        ensures is { result ≡ get_or (places self.now) i 0 }
+        ensures below { result < first_terms + self.now.kept.lookup.rows }
+    {
+        operand(self.kept.lookup.job, self.list, i)
+    }
+
+    // The sort of argument i.
+    pub fn sort(&self, i: usize) -> Sort
+        requires { i < length (places self.now) }
+        ensures { sort_read result ≡ sort_of (argument_term self.now i) }
+    {
+        self.kept.sort_at(self.place(i))
+    }
+
+    // The depth of argument i.
+    pub fn depth(&self, i: usize) -> usize
+        requires { i < length (places self.now) }
+        ensures { Bounded result (depth (argument_term self.now i)) place_end }
+    {
+        self.kept.depth_at(self.place(i))
+    }
+
+    // The sort of the first argument, if there is one.
+    pub fn first_sort(&self) -> Option<Sort>
+        ensures { sort_or_bad result ≡ first (argument_sorts self.now) }
+    {
+        if self.count() == 0 {
+            return None;
+        }
+        Some(self.sort(0))
+    }
+
+    // Have all arguments this sort?
+    pub fn all_are(&self, s: Sort) -> bool
+        ensures { result ≡ all_are (sort_read s) (argument_sorts self.now) }
+    {
+        for i in 0..self.count() {
+            if self.sort(i) != s {
+                return false;
+            }
+        }
+        true
+    }
+
+    // Have all arguments one sort, the first's?
+    pub fn one_sort(&self) -> bool
+        ensures { let ss = argument_sorts self.now in
+            result ≡ (good (first ss) && all_are (first ss) ss) }
+    {
+        let Some(one) = self.first_sort() else {
             return false;
+        };
+        self.all_are(one)
+    }
+
+    // Are all arguments bit-vectors of one width?
+    pub fn all_alike(&self) -> bool
+        ensures { result ≡ alike (argument_sorts self.now) }
+    {
+        let Some(s) = self.first_sort() else {
+            return false;
+        };
+        let Sort::Bv(_) = s else {
+            return false;
+        };
+        self.all_are(s)
+    }
+
+    // The sort of all arguments joined: bit-vectors whose widths sum to a width.
+    pub fn joined(&self) -> Option<Sort>
+        ensures { let ss = argument_sorts self.now in
+            sort_or_bad result ≡ guard (all_bv ss && is_width (sum_widths ss)) (bv (sum_widths ss)) }
+    {
+        let mut sum: u32 = 0;
+        for i in 0..self.count() {
+            let Sort::Bv(w) = self.sort(i) else {
+                return None;
+            };
+            if Term::MAX_WIDTH - sum < w {
+                return None;
+            }
+            sum += w;
         }
-        i += 1;
+        of_width(sum)
     }
-    true
-}
 
-// Have all arguments one sort, the first's?
-pub fn one_sort(job: &[u8], work: &[u8], n: usize, ops: Operands) -> bool
-    requires { Arguments job.now work.now n ops }
-    ensures { let ss = argument_sorts job work n ops in
-        result ≡ (good (first ss) && all_are (first ss) ss) }
-{
-    let s = first_sort(job, work, n, ops);
-    match s {
-        Sort::Bad => false,
-        Sort::Bool => all_are(job, work, n, ops, s),
-        Sort::Bv(_) => all_are(job, work, n, ops, s),
-    }
-}
-
-// Are all arguments bit-vectors of one width?
-pub fn all_alike(job: &[u8], work: &[u8], n: usize, ops: Operands) -> bool
-    requires { Arguments job.now work.now n ops }
-    ensures { result ≡ alike (argument_sorts job work n ops) }
-{
-    let s = first_sort(job, work, n, ops);
-    match s {
-        Sort::Bad => false,
-        Sort::Bool => false,
-        Sort::Bv(_) => all_are(job, work, n, ops, s),
-    }
-}
-
-// The sort of all arguments joined: bit-vectors whose widths sum to a width.
-pub fn joined(job: &[u8], work: &[u8], n: usize, ops: Operands) -> Sort
-    requires { Arguments job.now work.now n ops }
-    ensures { let ss = argument_sorts job work n ops in
-        sort_read result ≡ guard (all_bv ss && is_width (sum_widths ss)) (bv (sum_widths ss)) }
-{
-    let end = count(ops);
-    let mut sum: u32 = 0;
-    let mut i: usize = 0;
-    while i < end {
-        let w = width_of(operand_sort(job, work, n, ops, i));
-        // No bit-vector has width 0.
-        if w == 0 {
-            return Sort::Bad;
+    // The depth of the deepest argument, 0 where there is none.
+    pub fn deepest(&self) -> usize
+        ensures { Bounded result (deepest_argument self.now) place_end }
+    {
+        let mut most: usize = 0;
+        for i in 0..self.count() {
+            most = most.max(self.depth(i));
         }
-        if Term::MAX_WIDTH - sum < w {
-            return Sort::Bad;
-        }
-        sum += w;
-        i += 1;
+        most
     }
-    of_width(sum)
-}
 
-// The larger of two numbers.
-fn larger(a: usize, b: usize) -> usize
-    ensures { result ≡ max a b }
-{
-    if a < b { b } else { a }
-}
-
-// The depth of the deepest argument, 0 where there is none.
-pub fn deepest(job: &[u8], work: &[u8], n: usize, ops: Operands) -> usize
-    requires { Arguments job.now work.now n ops }
-    ensures { Bounded result (deepest_argument job work n ops) place_end }
-{
-    let end = count(ops);
-    let mut most: usize = 0;
-    let mut i: usize = 0;
-    while i < end {
-        let d = operand_depth(job, work, n, ops, i);
-        most = larger(most, d);
-        i += 1;
-    }
-    most
-}
-
-// The depth of the deepest argument where all are Bools, else MISSING: one look at each argument.
-pub fn deepest_bool(job: &[u8], work: &[u8], n: usize, ops: Operands) -> u32
-    requires { Arguments job.now work.now n ops }
-    ensures { result ≡ deepest_bool (kept_terms job work n)
-        (numbers_of job.now ops) }
-{
-    let kept = Terms::new(job, work, n);
-    let end = count(ops);
-    let mut most: u32 = 0;
-    let mut i: usize = 0;
-    while i < end {
-        let d = kept.bool_depth(operand(job, ops, i));
-        if d == rows::MISSING {
-            return rows::MISSING;
+    // The depth of the deepest argument where all are Bools: one look at each argument.
+    pub fn deepest_bool(&self) -> Option<u32>
+        ensures { result ≡ deepest_bool (given_terms self.now) (places self.now) }
+    {
+        let terms = self.kept.terms();
+        let mut most: u32 = 0;
+        for i in 0..self.count() {
+            let deep = terms.bool_depth(self.place(i))?;
+            most = most.max(deep);
         }
-        if most < d {
-            most = d;
-        }
-        i += 1;
+        Some(most)
     }
-    most
 }

@@ -1,3 +1,4 @@
 pub mod Folding
+pub mod Lengths
 pub mod Lists
 pub mod Literals

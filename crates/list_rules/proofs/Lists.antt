@@ -1,20 +1,19 @@
 -- What a check knows of its argument list: each argument, the common width, and the expected term.
 use mathlib.Core.Path.{◌≡◌, sym, ap, subst, ◌∙◌}
-use Prim.Native.Nat.{ℕ, ◌<◌, ◌≤◌}
+use mathlib.Core.List.{List, [], ◌∷◌, map, foldl}
+use Prim.Native.Nat.{ℕ, suc, ◌<◌, ◌≤◌}
 use native.Mathlib.Omega.{arith}
-use lib.ListN.{length-map}
-use Rattle.theory.specs.Bits.{bb}
+use lib.ListN.{length, get_or, length-map}
+use Rattle.theory.specs.Term.{Term}
+use Rattle.theory.specs.Bits.{bb, get_term_bits}
 use Rattle.terms.specs.declared.Args.{Args}
-use Rattle.terms.proofs.Lists.{words_in_length}
 use Rattle.store.specs.declared.gates.Kept.{Kept}
-use Rattle.store.specs.Kept.{kept_terms, kept_term, kept_number, kept_width, kept_arguments, words_of}
+use Rattle.store.specs.Kept.{kept_terms, kept_term, kept_number, kept_width}
 use Rattle.store.proofs.Keeping.{store_of}
 use Rattle.store.proofs.Claims.{own_number}
 use Rattle.operand_rules.specs.Rules.{Operand}
 use Rattle.operand_rules.proofs.Numbers.{few, there}
-use Rattle.list_rules.specs.declared.folds.Operation.{Operation}
-use Rattle.list_rules.specs.Lists.{Alike, Many, argument, least, folded_bits, expected}
-use Rattle.list_rules.proofs.Folding.{expected_bits, expected_alone}
+use Rattle.list_rules.specs.Lists.{Alike, Many, argument, next_bits, folded_bits}
 
 module _ {k : Kept} {w : ℕ} {a : Args} (given : Alike k a w) where
   -- argument i
@@ -34,20 +33,28 @@ module _ {k : Kept} {claim : ℕ} {a : Args} (given : Many k a claim) {x : ℕ} 
   pub alike_at : {w : ℕ} → w ≡ kept_width k x → Alike k a w
   alike_at d = subst (λ (w : ℕ). Alike k a w) (sym (d ∙ ap (kept_width k) e)) given.alike
 
-  -- so few arguments: x is the number of the expected term
-  pub alone_number : (op : Operation) → a.count < least op → x ≡ kept_number k (expected op (kept_arguments k a))
-  alone_number op h =
+  -- it is the number of the first argument's term
+  pub first_number : x ≡ kept_number k (kept_term k (argument k a 0))
+  first_number =
       let o = first_of given.alike in
-      let z = words_in_length k.lookup.job.now a in
-      let c = given.alike.some in
-      e ∙ sym (ap (kept_number k) (expected_alone op (kept_term k) (words_of k a) (omega arith) (omega arith))
-      ∙ own_number (kept_terms k) (store_of k).well (few k) (argument k a 0) (there k o.there))
+      e ∙ sym (own_number (kept_terms k) (store_of k).well (few k) (argument k a 0) (there k o.there))
 
--- so many: the expected term is the term of the folded bits
-pub many_bits : (k : Kept) (a : Args) (op : Operation) → least op ≤ a.count
-    → bb (folded_bits op (kept_arguments k a)) ≡ expected op (kept_arguments k a)
-many_bits k a op h =
-    let ts = kept_arguments k a in
-    let z = words_in_length k.lookup.job.now a in
-    let l = length-map (words_of k a) (kept_term k) in
-    sym (expected_bits op ts (omega arith))
+module _ (expected : List Term → Term) (f : ℕ → Term) (ks : List ℕ) {least : ℕ} (some : 1 ≤ length ks) where
+  -- so few arguments are one, and expected as it is
+  pub alone_from : ((t : Term) (ts : List Term) → suc (length ts) < least → expected (t ∷ ts) ≡ t) → length ks < least → expected (map f ks) ≡ f (get_or ks 0 0)
+  alone_from alone l = go ks some l
+    where
+      go : (js : List ℕ) → 1 ≤ length js → length js < least → expected (map f js) ≡ f (get_or js 0 0)
+      go [] s h = absurd (omega arith)
+      go (j ∷ js) s h = alone (f j) (map f js) (let n = length-map js f in omega (arith, h, n))
+
+  -- so many are expected as the term of their bits
+  pub folded_from : (circuit : List Term → List Term → List Term)
+      → ((t : Term) (ts : List Term) → least ≤ suc (length ts) → expected (t ∷ ts) ≡ bb (foldl (next_bits circuit) (get_term_bits t) ts))
+      → least ≤ length ks → expected (map f ks) ≡ bb (folded_bits circuit (map f ks))
+  unfolding folded_bits
+  folded_from circuit enough l = go ks some l
+    where
+      go : (js : List ℕ) → 1 ≤ length js → least ≤ length js → expected (map f js) ≡ bb (folded_bits circuit (map f js))
+      go [] s h = absurd (omega arith)
+      go (j ∷ js) s h = enough (f j) (map f js) (let n = length-map js f in omega (arith, h, n))

@@ -1,52 +1,38 @@
 -- What an operation does with its argument list, and what its check may take for granted of the list.
 use mathlib.Core.List.{List, [], ◌∷◌, foldl}
-use Rattle.std.specs.Prelude.{ℕ, ◌+◌, ◌<◌, ◌≤◌, get_or}
+use Rattle.std.specs.Prelude.{◌≡◌, false, ℕ, ◌+◌, ◌<◌, ◌≤◌, eqb, get_or}
+use Rattle.std.specs.Prelude.{Option, None as none, Some as some}
 use Rattle.theory.specs.Limit.{first_terms}
-use Rattle.theory.specs.Kind as K
-use Rattle.theory.specs.Term.{Term, two}
-use Rattle.theory.specs.Gates.{Gates, term_gates}
-use Rattle.theory.specs.Circuit.{zip_with, ripple_carry_adder, shift_add_multiplier}
-use Rattle.theory.specs.Bits.{get_term_bits, bb, fold_terms, zipped, product, add_bits}
+use Rattle.theory.specs.Kind.{Op, Equals, kind}
+use Rattle.theory.specs.Term.{Term}
+use Rattle.theory.specs.Bits.{get_term_bits}
+use Rattle.theory.specs.Verdict.{Verdict}
+use Rattle.theory.specs.Rule.{binary, on_many}
 use Rattle.terms.specs.declared.Args.{Args}
-use Rattle.terms.specs.Decoded.{Inside}
+use Rattle.terms.specs.declared.Operands.TheVariants.{List as Listed}
+use Rattle.terms.specs.declared.Term as D
+use Rattle.terms.specs.Decoded.{Inside, op_of, operands_of}
 use Rattle.store.specs.declared.gates.Kept.{Kept}
 use Rattle.store.specs.Kept.{kept_width, words_of}
 use Rattle.operand_rules.specs.Rules.{Operand}
-use Rattle.list_rules.specs.declared.folds.Operation.{Operation}
-use Rattle.list_rules.specs.declared.folds.Operation.TheVariants.{And, Or, Xor, Mult, Add}
 
--- the circuit of an operation, over any gates
-abbrev pub circuit : {A : Type 0} → Gates A → Operation → List A → List A → List A
-circuit G And xs ys = zip_with G.and_gate xs ys
-circuit G Or xs ys = zip_with G.or_gate xs ys
-circuit G Xor xs ys = zip_with G.xor_gate xs ys
-circuit G Mult xs ys = shift_add_multiplier G xs ys
-circuit G Add xs ys = ripple_carry_adder G G.false_gate xs ys
+-- r are the arguments of t where it is a term of kind o, and nothing where it is not
+pub record ArgumentsOf (o : Op) (t : D.Term) (r : Option Args) : Type 0 where
+  pub list : (a : Args) → r ≡ some a → (op_of t ≡ o) × (operands_of t ≡ Listed a)
+  pub other : r ≡ none → eqb (kind (op_of t)) (kind o) ≡ false
 
 -- one more argument: the circuit of the bits so far and of its bits
-abbrev pub next_bits : Operation → List Term → Term → List Term
-next_bits op us t = circuit term_gates op us (get_term_bits t)
+abbrev pub next_bits : (List Term → List Term → List Term) → List Term → Term → List Term
+next_bits circuit us t = circuit us (get_term_bits t)
 
 -- the bits of the operation on all arguments, from the left
-unfoldable pub folded_bits : Operation → List Term → List Term
-folded_bits op [] = []
-folded_bits op (t ∷ ts) = foldl (next_bits op) (get_term_bits t) ts
+unfoldable pub folded_bits : (List Term → List Term → List Term) → List Term → List Term
+folded_bits circuit [] = []
+folded_bits circuit (t ∷ ts) = foldl (next_bits circuit) (get_term_bits t) ts
 
--- the term that an operation's rule expects of its arguments
-unfoldable pub expected : Operation → List Term → Term
-expected And ts = fold_terms (zipped (two K.And)) ts
-expected Or ts = fold_terms (zipped (two K.Or)) ts
-expected Xor ts = fold_terms (zipped (two K.Xor)) ts
-expected Mult ts = fold_terms product ts
-expected Add ts = bb (add_bits ts)
-
--- the least number of arguments of which that is the term of these bits
-abbrev pub least : Operation → ℕ
-least And = 2
-least Or = 2
-least Xor = 2
-least Mult = 2
-least Add = 1
+-- (= (op x ..) claim): the claim is the term that is expected of the arguments
+abbrev pub by_list : Op → (List Term → Term) → Term → Verdict
+by_list o expected literal = binary (kind Equals) literal (on_many (kind o) expected)
 
 -- the number of argument i
 abbrev pub argument : Kept → Args → ℕ → ℕ

@@ -1,91 +1,107 @@
-// An operation on an argument list: its circuit, applied to the arguments' bits from the left.
-ghost use Rattle.std.specs.Prelude.{◌≡◌, map, ◌≤◌, take};
-ghost use Rattle.theory.specs.Limit.{max_width};
+// The rule of an operation on an argument list: its circuit, applied to the arguments' bits from
+// the left.
+ghost use mathlib.Core.List.{foldl};
+ghost use Rattle.std.specs.Prelude.{◌≡◌, List, [], ◌∷◌, ℕ, suc, length, map, ◌+◌, ◌<◌, ◌≤◌};
+ghost use Rattle.theory.specs.Limit.{first_terms};
+ghost use Rattle.theory.specs.Kind.{Op, arity, many};
+ghost use Rattle.theory.specs.Term.{Term as Tree};
+ghost use Rattle.theory.specs.Sort.{Sort, alike, fitting};
+ghost use Rattle.theory.specs.Bits.{bb, get_term_bits};
 ghost use Rattle.theory.specs.Verdict.{held};
 ghost use Rattle.theory.specs.Rule.{compare};
-ghost use Rattle.store.specs.Lookup.{gates};
 ghost use Rattle.store.specs.Kept.{kept_number, kept_term, kept_arguments};
 ghost use Rattle.operand_rules.specs.Rules.{verdict_of};
-ghost use Rattle.list_rules.specs.Lists.{Alike, Many, circuit, least, folded_bits, expected};
+ghost use Rattle.list_rules.specs.Lists.{ArgumentsOf, Alike, Many, next_bits, folded_bits, by_list};
 
-use circuits::adder::ripple_carry_adder;
-use circuits::bits::{Bits, ands, ors, xors};
-use circuits::multiplier::shift_add_multiplier;
+use circuits::bits::Bits;
 use operand_rules::bits::{compare_bits, get_term_bits, width_at};
 use operand_rules::{Verdict, compare};
-use store::gates::{FALSE, Kept, Lookup};
+use store::gates::Kept;
 use terms::{Args, Term};
 
-// The operations that take an argument list.
-#[derive(Clone, Copy)]
-pub enum Operation {
-    And,
-    Or,
-    Xor,
-    Mult,
-    Add,
-}
+// An operation that takes an argument list.
+pub trait Operation {
+    // the kind of its terms
+    ghost kind: { Op };
 
-// The circuit of an operation, on two bit-vectors of width w.
-fn combine(lookup: &Lookup, op: Operation, x: Bits, y: Bits, w: usize) -> Bits
-    requires some { 1 ≤ w }
-    requires within { w ≤ max_width }
-    ensures { take w result ≡ circuit (gates lookup.now) op (take w x) (take w y) }
-{
-    match op {
-        Operation::And => ands(lookup, x, y, w),
-        Operation::Or => ors(lookup, x, y, w),
-        Operation::Xor => xors(lookup, x, y, w),
-        Operation::Mult => shift_add_multiplier(lookup, x, y, w),
-        Operation::Add => {
-            let sum = ripple_carry_adder(lookup, x, y, w, FALSE);
-            sum.bits
-        }
-    }
+    // its circuit, on the bits of two terms
+    ghost circuit: { List Tree → List Tree → List Tree };
+
+    // the term that its rule expects of its arguments
+    ghost expected: { List Tree → Tree };
+
+    ghost LEAST: { ℕ };
+
+    // The least number of arguments of which the term of bits is expected: fewer are expected as
+    // they are.
+    const LEAST: usize;
+
+    // The arguments, of a term of this kind.
+    fn arguments(term: Term) -> Option<Args>
+        ensures { ArgumentsOf kind term result };
+
+    // The numbers of the circuit's bits, by those of the operands' bits.
+    fn combine(kept: &Kept, x: &Bits, y: &Bits) -> Bits
+        requires { length x.now.items ≤ length y.now.items }
+        ensures shorter { length result.items ≤ length x.now.items }
+        ensures value { (xs ys : List Tree)
+            → x.now.items ≡ map (kept_number kept.now) xs
+            → y.now.items ≡ map (kept_number kept.now) ys
+            → result.items ≡ map (kept_number kept.now) (circuit xs ys) };
+
+    // it takes 1 to 64 arguments
+    ghost takes: { arity kind ≡ many };
+
+    // these are bit-vectors of one width
+    ghost asks: { (ss : List Sort) → fitting kind ss ≡ alike ss };
+
+    // so many arguments or more are expected as the term of their bits
+    ghost enough: { (t : Tree) (ts : List Tree) → LEAST ≤ suc (length ts)
+        → expected (t ∷ ts) ≡ bb (foldl (next_bits circuit) (get_term_bits t) ts) };
+
+    // fewer are expected as they are: one, as itself
+    ghost alone: { (t : Tree) (ts : List Tree) → suc (length ts) < LEAST → expected (t ∷ ts) ≡ t };
 }
 
 // The bits of the operation on all arguments, from the left.
-fn fold_arguments(kept: &Kept, op: Operation, list: Args, w: usize) -> Bits
+fn fold_arguments<O: Operation>(kept: &Kept, list: Args, w: usize) -> Bits
     requires { Alike kept.now list w }
-    ensures { take w result ≡ map (kept_number kept.now) (folded_bits op (kept_arguments kept.now list)) }
+    ensures { result.items
+        ≡ map (kept_number kept.now) (folded_bits O.circuit (kept_arguments kept.now list)) }
 {
-    let count = list.count;
     let mut bits = get_term_bits(kept, Term::argument(kept.lookup.job, list, 0), w);
-    let mut i = 1;
-    while i < count {
+    for i in 1..list.count {
         let next = get_term_bits(kept, Term::argument(kept.lookup.job, list, i), w);
-        let all = combine(&kept.lookup, op, bits, next, w);
-        bits = all;
-        i += 1;
+        bits = O::combine(kept, &bits, &next);
     }
     bits
 }
 
-// The least number of arguments of which the term of bits is expected: fewer are expected as they are.
-fn least(op: Operation) -> usize
-    ensures { result ≡ least op }
-{
-    match op {
-        Operation::And => 2,
-        Operation::Or => 2,
-        Operation::Xor => 2,
-        Operation::Mult => 2,
-        Operation::Add => 1,
-    }
-}
-
 // The claim is the term that the operation expects of its arguments.
-pub fn folded_check(kept: &Kept, op: Operation, list: Args, claim: u32) -> Verdict
+fn folded_check<O: Operation>(kept: &Kept, list: Args, claim: u32) -> Verdict
     requires { Many kept.now list claim }
     ensures { verdict_of result ≡ compare held
-        (expected op (kept_arguments kept.now list)) (kept_term kept.now claim) }
+        (O.expected (kept_arguments kept.now list)) (kept_term kept.now claim) }
 {
-    let count = list.count;
     let first = Term::argument(kept.lookup.job, list, 0);
-    if count < least(op) {
+    if list.count < O::LEAST {
         return compare(first, claim);
     }
     let w = width_at(kept, first);
-    let bits = fold_arguments(kept, op, list, w);
-    compare_bits(&kept.lookup, bits, w, claim)
+    let bits = fold_arguments::<O>(kept, list, w);
+    compare_bits(&kept.lookup, &bits, claim)
+}
+
+// The rule: (= (op x ..) claim).
+pub fn rule<O: Operation>(kept: &Kept, literal: u32) -> Verdict
+    requires { literal < first_terms + kept.now.lookup.rows }
+    ensures { verdict_of result ≡ by_list O.kind O.expected (kept_term kept.now literal) }
+{
+    let Term::Equals(l, r) = kept.term_at(literal) else {
+        return Verdict::WrongForm;
+    };
+    let Some(list) = O::arguments(kept.term_at(l)) else {
+        return Verdict::WrongForm;
+    };
+    folded_check::<O>(kept, list, r)
 }

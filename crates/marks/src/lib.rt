@@ -3,7 +3,7 @@
 // terms meets no other.
 #![tactic(auto)]
 
-ghost use Rattle.std.specs.Prelude.{◌≡◌, suc, ◌+◌, ◌-◌, ◌*◌, ◌^◌, ◌≤◌, ◌<◌, length};
+ghost use Rattle.std.specs.Prelude.{◌≡◌, T, suc, ◌+◌, ◌-◌, ◌*◌, ◌^◌, ◌≤◌, ◌<◌, length};
 ghost use Rattle.theory.specs.Limit.{first_terms};
 ghost use Rattle.terms.specs.Decoded.{OperandsPlaced, Inside, words_in, numbers_of};
 ghost use Rattle.store.specs.Shelf.{Shelf};
@@ -229,5 +229,46 @@ impl<'a> Asked<'a> {
         ensures { result ≡ next_of self.now place }
     {
         next_marked(self.terms.job, self.terms.work, self.place, place)
+    }
+
+    // The marked places up to the asked one, upwards.
+    #[inline]
+    pub fn places(&self) -> Places<'a>
+        ensures asked { result.asked ≡ self.now }
+        ensures first { result.next ≡ 0 }
+    {
+        Places {
+            asked: *self,
+            next: 0,
+        }
+    }
+}
+
+// The marked places from one of them on, up to the asked one.
+#[derive(Drop)]
+pub struct Places<'a> {
+    asked: Asked<'a>,
+    next: u32,
+    ghost marked: { next ≤ asked.place → T (mark_of asked.terms.job.now asked.terms.work.now next) } by { Prim.hlevel T_prop },
+}
+
+impl<'a> Iterator for Places<'a> {
+    type Item = u32;
+
+    ghost use Rattle.std.specs.Iterator.{at_most};
+    ghost use Rattle.marks.specs.Places.{GivesNext};
+
+    ghost next_gives = { GivesNext };
+
+    ghost remaining = { λ s. at_most (suc s.asked.place - s.next) };
+
+    #[inline]
+    fn next(&mut self) -> Option<u32> {
+        let k = self.next;
+        if self.asked.place < k {
+            return None;
+        }
+        self.next = self.asked.next_marked(k);
+        Some(k)
     }
 }

@@ -11,18 +11,14 @@ use lib.ListN.{length, drop, get_or}
 use borrow.Author.Tests.{eq-eqb, ne_eqb}
 use Rattle.theory.specs.Kind.{kind}
 use Rattle.theory.specs.Optional.{is_some}
-use Rattle.theory.specs.Record.{Bytes, Shape, plain, indexed, twice_indexed, valued, shape_of}
-use Rattle.text.specs.Reading.{bind, below, number_end, numeral, a_number, Word, first_word, index, past, bv_value}
-use Rattle.words.specs.declared.tokens.Token.{Token}
-use Rattle.words.specs.declared.tokens.Token.TheVariants as T
-use Rattle.words.specs.Words.{piece, Lexed}
-use Rattle.words.proofs.ReadLaws.{reads_none, reads_some}
+use Rattle.theory.specs.Record.{Bytes, Shape, shape_of}
+use Rattle.text.specs.Reading.{bind, below, number_end, numeral, Number, a_number, Word, first_word, index, past, bv_value}
+use Rattle.words.proofs.ReadLaws.{told_none, told_some}
+use Rattle.names.specs.declared.kinds.Index.{Index}
 use Rattle.std.specs.Prelude as rust
-use Rattle.words.proofs.WordLaws.{word_inside}
 use Rattle.names.specs.declared.kinds.Indices.{Indices}
 use Rattle.names.specs.declared.kinds.Indices.TheVariants as F
-use Rattle.names.specs.Kinds.{kind_at, kinds_end, Known, Indexed, family_of}
-use Rattle.names.proofs.MarkLaws.{first_is}
+use Rattle.names.specs.Kinds.{kind_at, kinds_end, Known, told_index, family_of}
 
 -- ---- kinds by their numbers
 abbrev AllFrom : (ℕ → Type 0) → ℕ → ℕ → Type 0
@@ -63,13 +59,6 @@ unfolding shape_of
 families k h = each (λ k. family_of (shape_of k) ≡ family_by_runs k) 0 59 (refl, (refl, (refl, (refl, (refl, (refl, (refl, (refl, (refl, (refl, (refl, (refl, (refl, (refl, (refl, (refl, (refl, (refl, (refl, (refl, (refl, (refl, (refl, (refl, (refl, (refl, (refl, (refl, (refl, (refl, (refl, (refl, (refl, (refl, (refl, (refl, (refl, (refl, (refl, (refl, (refl, (refl, (refl, (refl, (refl, (refl, (refl, (refl, (refl, (refl, (refl, (refl, (refl, (refl, (refl, (refl, (refl, (refl, (refl, tt))))))))))))))))))))))))))))))))))))))))))))))))))))))))))) k (omega arith) h
 
 -- the shape of a family
-pub family_none : (q : Option Shape) {r : rust.Option Indices} → r ≡ family_of q → rust.is_some r ≡ false → q ≡ none
-family_none none e f = refl
-family_none (some (plain o)) e f = absurd cc
-family_none (some (indexed o)) e f = absurd cc
-family_none (some (twice_indexed o)) e f = absurd cc
-family_none (some (valued o)) e f = absurd cc
-
 pub family_some : (q : Option Shape) {r : rust.Option Indices} → r ≡ family_of q → rust.is_some r ≡ true → is_some q ≡ true
 family_some none e f = cc
 family_some (some s) e f = refl
@@ -78,15 +67,22 @@ family_some (some s) e f = refl
 after_word : (bs : Bytes) {w : Word} → first_word bs ≡ some w → index bs ≡ bind (below number_end (numeral w.name)) (λ n. some (a_number n w.rest))
 after_word bs e = ap (λ (q : Option Word). bind q (λ w. bind (below number_end (numeral w.name)) (λ n. some (a_number n w.rest)))) e
 
-pub index_none : (line : Bytes) (at : ℕ) → first_word (drop at line) ≡ none → Indexed line (index (drop at line)) rust.None
-index_none line at e = reads_none (ap (λ (q : Option Word). bind q (λ w. bind (below number_end (numeral w.name)) (λ n. some (a_number n w.rest)))) e)
+pub index_none : (bs : Bytes) → first_word bs ≡ none → none ≡ index bs
+index_none bs e = sym (ap (λ (q : Option Word). bind q (λ w. bind (below number_end (numeral w.name)) (λ n. some (a_number n w.rest)))) e)
 
-module _ {line : Bytes} {at : ℕ} {r : Token} {s e : ℕ} (l : Lexed line at r) (f : r ≡ T.Word s e) where
-  pub index_bad : below number_end (numeral (piece s e line)) ≡ none → Indexed line (index (drop at line)) rust.None
-  index_bad g = reads_none (after_word (drop at line) (first_is l f) ∙ ap (λ (q : Option ℕ). bind q (λ n. some (a_number n (drop e line)))) g)
+module _ (bs : Bytes) {w : Word} (e : first_word bs ≡ some w) where
+  pub index_bad : {q : Option ℕ} → q ≡ below number_end (numeral w.name) → q ≡ none → none ≡ index bs
+  index_bad g h = sym (after_word bs e ∙ ap (λ (q : Option ℕ). bind q (λ n. some (a_number n w.rest))) (sym g ∙ h))
 
-  pub index_is : {n : ℕ} → below number_end (numeral (piece s e line)) ≡ some n → Indexed line (index (drop at line)) (rust.Some (record { number = n; next = e }))
-  index_is g = reads_some (after_word (drop at line) (first_is l f) ∙ ap (λ (q : Option ℕ). bind q (λ n. some (a_number n (drop e line)))) g) (word_inside l f).last
+  pub index_is : {q : Option ℕ} {n : ℕ} → q ≡ below number_end (numeral w.name) → q ≡ some n → some (a_number n w.rest) ≡ index bs
+  index_is g h = sym (after_word bs e ∙ ap (λ (q : Option ℕ). bind q (λ n. some (a_number n w.rest))) (sym g ∙ h))
+
+module _ {q : Option Number} where
+  pub no_index : (r : Option Index) → told_index r ≡ q → r ≡ none → q ≡ none
+  no_index r h e = told_none (λ i. a_number i.number i.rest.now) r h e
+
+  pub some_index : (r : Option Index) → told_index r ≡ q → {i : Index} → r ≡ some i → q ≡ some (a_number i.number i.rest.now)
+  some_index r h e = told_some (λ i. a_number i.number i.rest.now) r h e
 
 -- ---- the value of bvN
 pub bv_short : (w : Bytes) → length w < 2 → bv_value w ≡ none

@@ -1,13 +1,16 @@
 -- The lines of a text.
 use mathlib.Core.Path.{◌≡◌, refl, sym, ap, ◌∙◌}
 use mathlib.Core.Logic.{◌⊎◌, inl, inr}
-use mathlib.Core.List.{[], ◌∷◌, ◌++◌}
+use mathlib.Core.Bool.{Bool, true, false}
+use mathlib.Core.List.{List, [], ◌∷◌, ◌++◌}
 use Prim.Native.Nat.{ℕ, zero, suc, ◌+◌, ◌-◌, ◌<◌, ◌≤◌}
 use native.Mathlib.Omega.{arith}
 use native.Mathlib.Decide.{dec_le}
 use lib.ListN.{length, take, drop, get_or, length-drop, drop_of_length-le}
 use lib.Seq.{get_or-drop, drop-drop}
+use Rattle.std.proofs.lemmas.List.{take_rest}
 use borrow.Author.Tests.{eq-eqb, ne_eqb}
+use Rattle.std.specs.Prelude.{eqb}
 use Rattle.theory.specs.Record.{Bytes}
 use Rattle.text.specs.Convert.{lines, push}
 use Rattle.words.specs.Words.{piece}
@@ -36,6 +39,20 @@ first_line (b ∷ c ∷ bs) (suc n) f l s h =
     go : (suc n ≡ suc (length (c ∷ bs))) ⊎ (get_or (c ∷ bs) n 0 ≡ 10) → (n ≡ length (c ∷ bs)) ⊎ (get_or (c ∷ bs) n 0 ≡ 10)
     go (inl e) = inl (omega arith)
     go (inr e) = inr e
+
+-- each line takes a byte
+push_few : (b : ℕ) (ls : List Bytes) (n : ℕ) → length ls ≤ n → length (push b ls) ≤ suc n
+push_few b [] n h = omega arith
+push_few b (l ∷ ls) n h = omega arith
+
+one_more : (t : Bool) (b : ℕ) (ls : List Bytes) (n : ℕ) → length ls ≤ n → length {A = Bytes} (elim t [ true ↦ [] ∷ ls | false ↦ push b ls ]) ≤ suc n
+one_more true b ls n h = omega arith
+one_more false b ls n h = push_few b ls n h
+
+pub lines_few : (bs : Bytes) → length (lines bs) ≤ length bs
+unfolding lines
+lines_few [] = omega arith
+lines_few (b ∷ bs) = one_more (eqb b 10) b (lines bs) (length bs) (lines_few bs)
 
 -- no newline was passed
 pub record Lining (text : Bytes) (at i : ℕ) : Type 0 where
@@ -108,6 +125,21 @@ further {text} {at} {i} {r} h e b = go (dec_le (length text) i)
 pub no_lines : (text : Bytes) (at : ℕ) → length text ≤ at → lines (drop at text) ≡ []
 unfolding lines
 no_lines text at h = ap lines (drop_of_length-le text {i = at} h)
+
+-- the first line, and the others
+pub none_left : (text : Bytes) → length text ≡ 0 → lines text ≡ []
+none_left text h = no_lines text 0 (omega arith)
+
+pub first_left : (text : Bytes) {i r : ℕ} → (length text ≡ 0 → ⊥) → Ended text 0 i → Beyond text i r
+    → lines text ≡ take i text ∷ lines (take (length text - r) (drop r text))
+first_left text {i} {r} h e b =
+    let z : i - 0 ≡ i = omega arith in
+    let some : 0 < length text = positive (length text) h in
+    lines_on some e b ∙ ap (λ (n : ℕ). take n text ∷ lines (drop r text)) z ∙ ap (λ (x : Bytes). take i text ∷ lines x) (sym (take_rest text r))
+  where
+    positive : (n : ℕ) → (n ≡ 0 → ⊥) → 0 < n
+    positive zero h = absurd (h refl)
+    positive (suc n) h = omega arith
 
 -- ---- lines one after the other
 pub line_before : (l bs : Bytes) → ((k : ℕ) → k < length l → get_or l k 0 ≡ 10 → ⊥) → lines (l ++ (10 ∷ bs)) ≡ l ∷ lines bs

@@ -1,11 +1,10 @@
 -- Tokens that must follow; words.
-use mathlib.Core.Path.{◌≡◌, refl, sym, ap, subst, ◌∙◌}
+use mathlib.Core.Path.{◌≡◌, refl, sym, ap, ◌∙◌}
 use mathlib.Core.Bool.{Bool, true, false, cond}
 use Rattle.std.specs.Prelude.{Option, None as none, Some as some}
-use Rattle.std.specs.Prelude as rust
+use Rattle.std.specs.Borrow.{Bor}
 use Prim.Native.Nat.{ℕ}
 use native.Mathlib.Omega.{arith}
-use lib.ListN.{drop}
 use Rattle.theory.specs.Term.{same_numbers}
 use Rattle.theory.specs.Optional.{is_some}
 use Rattle.theory.specs.Record.{Bytes}
@@ -14,79 +13,117 @@ use Rattle.text.specs.Tokens.{Next, next, left, right, end, word, word_of, same_
 use Rattle.text.specs.Reading.{bind, Word, first_word}
 use Rattle.words.specs.declared.tokens.Token.{Token}
 use Rattle.words.specs.declared.tokens.Token.TheVariants as T
-use Rattle.words.specs.Words.{piece, told_token, Lexed}
-use Rattle.words.proofs.WordLaws.{word_inside, word_next}
-use Rattle.words.proofs.ReadLaws.{reads_none, reads_some}
-use Rattle.names.specs.Marks.{Passed}
+use Rattle.words.specs.declared.tokens.Next as code
+use Rattle.words.specs.Words.{told_token, told_next}
+use Rattle.words.proofs.ReadLaws.{told_none, told_some}
+use Rattle.names.specs.Marks.{rest_of, word_and_rest}
 
-after_next : (t : K.Token) (bs : Bytes) {n : Next} → n ≡ next bs → after t bs ≡ cond (same_token n.token t) (some n.rest) none
-unfolding after
-after_next t bs e = ap (λ (x : Next). cond (same_token x.token t) (some x.rest) none) (sym e)
+abbrev pub a_word : Bytes → Bytes → Word
+a_word w bs = record { name = w; rest = bs }
 
-module _ {line : Bytes} {at : ℕ} {r : Token} (l : Lexed line at r) where
-  pub left_is : {a : ℕ} → r ≡ T.Left a → Passed line (after left (drop at line)) (rust.Some a)
-  left_is {a} e =
-      let g : Lexed line at (T.Left a) = subst (Lexed line at) e l in
-      reads_some (after_next left (drop at line) g.is) g.inside.1
+-- the first token, as the code says it
+module _ (n : code.Next) (bs : Bytes) (l : told_next n ≡ next bs) where
+  after_next : (t : K.Token) → cond (same_token (told_token n.token) t) (some n.rest.now) none ≡ after t bs
+  unfolding after
+  after_next t = ap (λ (x : Next). cond (same_token x.token t) (some x.rest) none) l
 
-  pub right_is : {a : ℕ} → r ≡ T.Right a → Passed line (after right (drop at line)) (rust.Some a)
-  right_is {a} e =
-      let g : Lexed line at (T.Right a) = subst (Lexed line at) e l in
-      reads_some (after_next right (drop at line) g.is) g.inside.1
+  first_next : bind (word_of (told_token n.token)) (λ w. some (record { name = w; rest = n.rest.now })) ≡ first_word bs
+  unfolding first_word
+  first_next = ap (λ (x : Next). bind (word_of x.token) (λ w. some (record { name = w; rest = x.rest }))) l
 
-  pub end_is : r ≡ T.End → true ≡ is_some (after end (drop at line))
-  end_is e = let g : Lexed line at T.End = subst (Lexed line at) e l in sym (ap is_some (after_next end (drop at line) g.is))
+  pub left_is : n.token ≡ T.Left → some n.rest.now ≡ after left bs
+  left_is e = ap (λ (t : Token). cond (same_token (told_token t) left) (some n.rest.now) none) (sym e) ∙ after_next left
 
-  module _ {s e : ℕ} (f : r ≡ T.Word s e) (w : Bytes) where
-    after_word : after (word w) (drop at line) ≡ cond (same_numbers (piece s e line) w) (some (drop e line)) none
-    after_word = after_next (word w) (drop at line) (sym (word_next l f))
+  pub right_is : n.token ≡ T.Right → some n.rest.now ≡ after right bs
+  right_is e = ap (λ (t : Token). cond (same_token (told_token t) right) (some n.rest.now) none) (sym e) ∙ after_next right
 
-    pub word_is : same_numbers (piece s e line) w ≡ true → Passed line (after (word w) (drop at line)) (rust.Some e)
-    word_is t = reads_some (after_word ∙ ap (λ (b : Bool). cond b (some (drop e line)) none) t) (word_inside l f).last
+  pub end_is : n.token ≡ T.End → true ≡ is_some (after end bs)
+  end_is e = ap is_some (ap (λ (t : Token). cond (same_token (told_token t) end) (some n.rest.now) none) (sym e) ∙ after_next end)
 
-    pub word_other : same_numbers (piece s e line) w ≡ false → Passed line (after (word w) (drop at line)) rust.None
-    word_other t = reads_none (after_word ∙ ap (λ (b : Bool). cond b (some (drop e line)) none) t)
+  pub first_is : {w : Bor Bytes} → n.token ≡ T.Word w → some (a_word w.now n.rest.now) ≡ first_word bs
+  first_is e = ap (λ (t : Token). bind (word_of (told_token t)) (λ w. some (record { name = w; rest = n.rest.now }))) (sym e) ∙ first_next
 
-no_left : (line bs : Bytes) (r : Token) → told_token line r ≡ next bs → ((a : ℕ) → r ≡ T.Left a → ⊥) → after left bs ≡ none
-no_left line bs T.End e k = after_next left bs e
-no_left line bs (T.Bad a) e k = after_next left bs e
-no_left line bs (T.Right a) e k = after_next left bs e
-no_left line bs (T.Word s a) e k = after_next left bs e
-no_left line bs (T.Left a) e k = absurd (k a refl)
+  pub left_not : (n.token ≡ T.Left → ⊥) → none ≡ after left bs
+  left_not k = go n.token refl ∙ after_next left
+    where
+      go : (t : Token) → n.token ≡ t → none ≡ cond (same_token (told_token n.token) left) (some n.rest.now) none
+      go T.Left e = absurd (k e)
+      go T.Right e = rw e
+      go T.End e = rw e
+      go T.Bad e = rw e
+      go (T.Word w) e = rw e
 
-no_right : (line bs : Bytes) (r : Token) → told_token line r ≡ next bs → ((a : ℕ) → r ≡ T.Right a → ⊥) → after right bs ≡ none
-no_right line bs T.End e k = after_next right bs e
-no_right line bs (T.Bad a) e k = after_next right bs e
-no_right line bs (T.Left a) e k = after_next right bs e
-no_right line bs (T.Word s a) e k = after_next right bs e
-no_right line bs (T.Right a) e k = absurd (k a refl)
+  pub right_not : (n.token ≡ T.Right → ⊥) → none ≡ after right bs
+  right_not k = go n.token refl ∙ after_next right
+    where
+      go : (t : Token) → n.token ≡ t → none ≡ cond (same_token (told_token n.token) right) (some n.rest.now) none
+      go T.Left e = rw e
+      go T.Right e = absurd (k e)
+      go T.End e = rw e
+      go T.Bad e = rw e
+      go (T.Word w) e = rw e
 
-no_end : (line bs : Bytes) (r : Token) → told_token line r ≡ next bs → (r ≡ T.End → ⊥) → after end bs ≡ none
-no_end line bs (T.Bad a) e k = after_next end bs e
-no_end line bs (T.Left a) e k = after_next end bs e
-no_end line bs (T.Right a) e k = after_next end bs e
-no_end line bs (T.Word s a) e k = after_next end bs e
-no_end line bs T.End e k = absurd (k refl)
+  pub end_not : (n.token ≡ T.End → ⊥) → false ≡ is_some (after end bs)
+  end_not k = ap is_some (go n.token refl ∙ after_next end)
+    where
+      go : (t : Token) → n.token ≡ t → none ≡ cond (same_token (told_token n.token) end) (some n.rest.now) none
+      go T.Left e = rw e
+      go T.Right e = rw e
+      go T.End e = absurd (k e)
+      go T.Bad e = rw e
+      go (T.Word w) e = rw e
 
-no_word : (w line bs : Bytes) (r : Token) → told_token line r ≡ next bs → ((a b : ℕ) → r ≡ T.Word a b → ⊥) → after (word w) bs ≡ none
-no_word w line bs T.End e k = after_next (word w) bs e
-no_word w line bs (T.Bad a) e k = after_next (word w) bs e
-no_word w line bs (T.Left a) e k = after_next (word w) bs e
-no_word w line bs (T.Right a) e k = after_next (word w) bs e
-no_word w line bs (T.Word s a) e k = absurd (k s a refl)
+  pub first_none : ((w : Bor Bytes) → n.token ≡ T.Word w → ⊥) → none ≡ first_word bs
+  first_none k = go n.token refl ∙ first_next
+    where
+      go : (t : Token) → n.token ≡ t → none ≡ bind (word_of (told_token n.token)) (λ w. some (a_word w n.rest.now))
+      go T.Left e = rw e
+      go T.Right e = rw e
+      go T.End e = rw e
+      go T.Bad e = rw e
+      go (T.Word w) e = absurd (k w e)
 
-module _ {line : Bytes} {at : ℕ} {r : Token} (l : Lexed line at r) where
-  pub left_not : ((a : ℕ) → r ≡ T.Left a → ⊥) → Passed line (after left (drop at line)) rust.None
-  left_not k = reads_none (no_left line (drop at line) r l.is k)
+-- a word that must follow, by the first word
+word_first : (w bs : Bytes) → after (word w) bs ≡ bind (first_word bs) (λ f. cond (same_numbers f.name w) (some f.rest) none)
+unfolding after first_word
+word_first w bs = go (next bs).token
+  where
+    go : (t : K.Token) → cond (same_token t (word w)) (some (next bs).rest) none
+        ≡ bind (bind (word_of t) (λ w. some (a_word w (next bs).rest))) (λ f. cond (same_numbers f.name w) (some f.rest) none)
+    go left = refl
+    go right = refl
+    go end = refl
+    go K.bad = refl
+    go (word v) = refl
 
-  pub right_not : ((a : ℕ) → r ≡ T.Right a → ⊥) → Passed line (after right (drop at line)) rust.None
-  right_not k = reads_none (no_right line (drop at line) r l.is k)
+module _ (w bs : Bytes) where
+  pub word_none : first_word bs ≡ none → none ≡ after (word w) bs
+  word_none e = sym (word_first w bs ∙ ap (λ (q : Option Word). bind q (λ f. cond (same_numbers f.name w) (some f.rest) none)) e)
 
-  pub end_not : (r ≡ T.End → ⊥) → false ≡ is_some (after end (drop at line))
-  end_not k = sym (ap is_some (no_end line (drop at line) r l.is k))
+  module _ {f : Word} (e : first_word bs ≡ some f) where
+    word_by : after (word w) bs ≡ cond (same_numbers f.name w) (some f.rest) none
+    word_by = word_first w bs ∙ ap (λ (q : Option Word). bind q (λ f. cond (same_numbers f.name w) (some f.rest) none)) e
 
-  pub word_not : (w : Bytes) → ((a b : ℕ) → r ≡ T.Word a b → ⊥) → Passed line (after (word w) (drop at line)) rust.None
-  word_not w k = reads_none (no_word w line (drop at line) r l.is k)
+    pub word_is : same_numbers f.name w ≡ true → some f.rest ≡ after (word w) bs
+    word_is t = sym (word_by ∙ ap (λ (b : Bool). cond b (some f.rest) none) t)
+
+    pub word_other : same_numbers f.name w ≡ false → none ≡ after (word w) bs
+    word_other t = sym (word_by ∙ ap (λ (b : Bool). cond b (some f.rest) none) t)
+
+-- ---- what a function of this crate said
+module _ {q : Option Bytes} where
+  pub rest_none : (r : Option (Bor Bytes)) → rest_of r ≡ q → r ≡ none → q ≡ none
+  rest_none r h e = told_none (λ b. b.now) r h e
+
+  pub rest_some : (r : Option (Bor Bytes)) → rest_of r ≡ q → {b : Bor Bytes} → r ≡ some b → q ≡ some b.now
+  rest_some r h e = told_some (λ b. b.now) r h e
+
+module _ {q : Option Word} where
+  pub no_word : (r : Option (Bor Bytes × Bor Bytes)) → word_and_rest r ≡ q → r ≡ none → q ≡ none
+  no_word r h e = told_none (λ p. a_word p.0.now p.1.now) r h e
+
+  pub some_word : (r : Option (Bor Bytes × Bor Bytes)) → word_and_rest r ≡ q → {p : Bor Bytes × Bor Bytes} → r ≡ some p → q ≡ some (a_word p.0.now p.1.now)
+  some_word r h e = told_some (λ p. a_word p.0.now p.1.now) r h e
 
 -- ---- the end of the line
 pub end_some : (q : Option Bytes) {b : Bool} → b ≡ is_some q → b ≡ true → (d : Bytes) × (q ≡ some d)
@@ -96,24 +133,3 @@ end_some (some d) e f = (d, refl)
 pub end_none : (q : Option Bytes) {b : Bool} → b ≡ is_some q → b ≡ false → q ≡ none
 end_none none e f = refl
 end_none (some d) e f = absurd (let z : ◌≡◌ {A = ℕ} 0 1 = cc in omega arith)
-
--- ---- the first word
-first_of : (bs : Bytes) {n : Next} → n ≡ next bs → first_word bs ≡ bind (word_of n.token) (λ w. some (record { name = w; rest = n.rest }))
-unfolding first_word
-first_of bs e = ap (λ (x : Next). bind (word_of x.token) (λ w. some (record { name = w; rest = x.rest }))) (sym e)
-
-abbrev pub a_word : Bytes → Bytes → Word
-a_word w bs = record { name = w; rest = bs }
-
-pub first_is : {line : Bytes} {at : ℕ} {r : Token} {s e : ℕ} → Lexed line at r → r ≡ T.Word s e → first_word (drop at line) ≡ some (a_word (piece s e line) (drop e line))
-first_is {line} {at} l f = first_of (drop at line) (sym (word_next l f))
-
-not_first : (line bs : Bytes) (r : Token) → told_token line r ≡ next bs → ((a b : ℕ) → r ≡ T.Word a b → ⊥) → first_word bs ≡ none
-not_first line bs T.End e k = first_of bs e
-not_first line bs (T.Bad a) e k = first_of bs e
-not_first line bs (T.Left a) e k = first_of bs e
-not_first line bs (T.Right a) e k = first_of bs e
-not_first line bs (T.Word s a) e k = absurd (k s a refl)
-
-pub first_none : {line : Bytes} {at : ℕ} {r : Token} → Lexed line at r → ((a b : ℕ) → r ≡ T.Word a b → ⊥) → first_word (drop at line) ≡ none
-first_none {line} {at} {r} l k = not_first line (drop at line) r l.is k

@@ -1,28 +1,29 @@
 -- Sorts, declarations, and variables by their names.
-use mathlib.Core.Path.{◌≡◌, refl, sym, ap, ◌∙◌}
-use mathlib.Core.Bool.{Bool, true, false, cond}
-use mathlib.Core.List.{List, ◌∷◌}
+use mathlib.Core.Path.{◌≡◌, refl, sym, ap, subst, ◌∙◌}
+use mathlib.Core.Bool.{Bool, true, false, ◌&&◌, not, cond}
+use mathlib.Core.List.{List, [], ◌∷◌}
 use Rattle.std.specs.Prelude.{Option, None as none, Some as some}
 use Prim.Native.Nat.{ℕ, suc, ◌+◌, ◌<◌, ◌≤◌}
 use native.Mathlib.Omega.{arith}
 use native.Mathlib.Numerals.{add-one}
-use lib.ListN.{length, drop}
+use lib.ListN.{length}
 use Rattle.theory.specs.Kind.{Op, BoolVar, BvVar}
 use Rattle.theory.specs.Term.{same_numbers}
 use Rattle.theory.specs.Optional.{either}
 use Rattle.theory.specs.Record.{Bytes, shape_of}
-use Rattle.text.specs.Reading.{Declared, variable, find_name}
+use Rattle.text.specs.Tokens.{ascii, left, right, end, word, after}
+use Rattle.text.specs.Reading.{bind, Word, first_word, is_symbol, reserved, Declared, variable, find_name, Sorted, sort_in, declaration}
 use Rattle.text.specs.Convert.{lines}
 use Rattle.text.specs.Claim.{declared_by}
-use Rattle.words.specs.Words.{piece}
 use Rattle.names.specs.declared.kinds.Kind.{Kind}
 use Rattle.names.specs.Kinds.{kind_at, declarations, declared_in, Made}
-use Rattle.names.specs.Names.{Varies}
-use Rattle.words.specs.Tables.{told}
-use Rattle.words.proofs.ReadLaws.{reads_some}
+use Rattle.names.specs.declared.names.Sort as sort
+use Rattle.names.specs.declared.names.Declaration.{Declaration}
+use Rattle.names.specs.Names.{told_sort, told_declaration, Varies}
+use Rattle.words.proofs.ReadLaws.{reads_some, told_none, told_some}
+use Rattle.words.proofs.WordLaws.{same_differ}
 use Rattle.std.specs.Prelude as rust
-use Rattle.names.specs.Lines.{Ended, Beyond}
-use Rattle.names.proofs.LineLaws.{lines_on, further, no_lines}
+use Rattle.names.proofs.LineLaws.{lines_few}
 
 -- ---- variables
 pub varies_vector : (k n : ℕ) → Varies k (rust.Some n) (record { number = 11; x = n; y = k })
@@ -33,15 +34,15 @@ pub varies_bool : (k : ℕ) → Varies k rust.None (record { number = 10; x = k;
 unfolding kind_at shape_of
 varies_bool k = record { is = refl; known = record { below = omega arith; same = refl } }
 
--- the walk over declarations
-pub record Naming (text w : Bytes) (at k : ℕ) : Type 0 where
-  pub inside : at ≤ length text
-  pub low : k ≤ at
-  pub leads : find_name 0 w (declared_in text) ≡ find_name k w (declarations (lines (drop at text)))
+-- ---- sorts
+module _ {q : Option Sorted} where
+  pub no_sort : (r : Option sort.Sort) → told_sort r ≡ q → r ≡ none → q ≡ none
+  no_sort r h e = told_none (λ s. record { width = s.width; rest = s.rest.now }) r h e
 
-pub naming_start : (text w : Bytes) → Naming text w 0 0
-naming_start text w = record { inside = omega arith; low = omega arith; leads = refl }
+  pub some_sort : (r : Option sort.Sort) → told_sort r ≡ q → {s : sort.Sort} → r ≡ some s → q ≡ some (record { width = s.width; rest = s.rest.now })
+  some_sort r h e = told_some (λ s. record { width = s.width; rest = s.rest.now }) r h e
 
+-- ---- declarations
 declares_none : (l : Bytes) (ls : List Bytes) → declared_by l ≡ none → declarations (l ∷ ls) ≡ declarations ls
 unfolding declarations
 declares_none l ls e = rw (e, declarations)
@@ -50,38 +51,103 @@ declares_some : (l : Bytes) (ls : List Bytes) {d : Declared} → declared_by l �
 unfolding declarations
 declares_some l ls e = rw (e, declarations)
 
-module _ {text w : Bytes} {at k : ℕ} (g : Naming text w at k) where
-  pub naming_end : length text ≤ at → find_name 0 w (declared_in text) ≡ none
+-- ---- a name is a symbol
+bound : {A B : Type 0} (q : Option A) (f : A → Option B) {b : B} → bind q f ≡ some b → (a : A) × (f a ≡ some b)
+bound none f e = absurd (cc)
+bound (some a) f e = (a, e)
+
+named_symbol : (n : Bytes) (width : Option ℕ) (t : Bool) {d : Declared} → cond (is_symbol n && t) (some (record { name = n; width = width })) none ≡ some d
+    → is_symbol d.name ≡ true
+named_symbol n width t {d} e = go (is_symbol n) refl t e
+  where
+    go : (b : Bool) → is_symbol n ≡ b → (t : Bool) → cond (b && t) (some (record { name = n; width = width })) none ≡ some d → is_symbol d.name ≡ true
+    go true f true e = let q : ◌≡◌ {A = Declared} (record { name = n; width = width }) d = cc in sym (ap (λ (d : Declared). is_symbol d.name) q) ∙ f
+    go true f false e = absurd (cc)
+    go false f t e = absurd (cc)
+
+declared_symbol : (line : Bytes) {d : Declared} → declared_by line ≡ some d → is_symbol d.name ≡ true
+unfolding declared_by declaration
+declared_symbol line e =
+    let a = bound (after left line) (λ a. bind (after (word (ascii "declare-const")) a) declaration) e in
+    let b = bound (after (word (ascii "declare-const")) a.0) declaration a.1 in
+    let rest : Word → Option Declared = λ w. bind (sort_in w.rest) (λ s. bind (after right s.rest) (λ a. bind (after end a) (λ b.
+    cond (is_symbol w.name && not (reserved w.name)) (some (record { name = w.name; width = s.width })) none))) in
+    let w = bound (first_word b.0) rest b.1 in
+    let s = bound (sort_in w.0.rest) (λ s. bind (after right s.rest) (λ a. bind (after end a) (λ b.
+    cond (is_symbol w.0.name && not (reserved w.0.name)) (some (record { name = w.0.name; width = s.width })) none))) w.1 in
+    let c = bound (after right s.0.rest) (λ a. bind (after end a) (λ b.
+    cond (is_symbol w.0.name && not (reserved w.0.name)) (some (record { name = w.0.name; width = s.0.width })) none)) s.1 in
+    let f = bound (after end c.0) (λ b.
+    cond (is_symbol w.0.name && not (reserved w.0.name)) (some (record { name = w.0.name; width = s.0.width })) none) c.1 in
+    named_symbol w.0.name s.0.width (not (reserved w.0.name)) f.1
+
+unnamed : (k : ℕ) (w : Bytes) (ls : List Bytes) → is_symbol w ≡ false → find_name k w (declarations ls) ≡ none
+unfolding declarations
+unnamed k w [] s = refl
+unnamed k w (l ∷ ls) s = go (unnamed k w ls s) (unnamed (suc k) w ls s) (declared_by l) refl
+  where
+    go : find_name k w (declarations ls) ≡ none → find_name (suc k) w (declarations ls) ≡ none → (q : Option Declared) → declared_by l ≡ q
+        → find_name k w (declarations (l ∷ ls)) ≡ none
+    go ih jh none e = ap (find_name k w) (declares_none l ls e) ∙ ih
+    go ih jh (some d) e =
+        let differ : same_numbers w d.name ≡ false
+        = same_differ w d.name (λ f. let z : true ≡ false = sym (declared_symbol l e) ∙ ap is_symbol (sym f) ∙ s in absurd (cc)) in
+        ap (find_name k w) (declares_some l ls e)
+        ∙ ap (λ (x : Bool). cond x (some (variable k d)) (find_name (suc k) w (declarations ls))) differ ∙ jh
+
+-- a word that is no symbol is no name
+pub no_name : (text w : Bytes) {b : Bool} → b ≡ is_symbol w → b ≡ false → find_name 0 w (declared_in text) ≡ none
+no_name text w e f = unnamed 0 w (lines text) (sym e ∙ f)
+
+-- ---- the walk over declarations
+module _ {q : Option Declared} where
+  pub no_declaration : (r : Option Declaration) → told_declaration r ≡ q → r ≡ none → q ≡ none
+  no_declaration r h e = told_none (λ d. record { name = d.name.now; width = d.width }) r h e
+
+  pub some_declaration : (r : Option Declaration) → told_declaration r ≡ q → {d : Declaration} → r ≡ some d → q ≡ some (record { name = d.name.now; width = d.width })
+  some_declaration r h e = told_some (λ d. record { name = d.name.now; width = d.width }) r h e
+
+-- the walk over declarations, k of them before the lines that are still to come
+pub record Naming (text w : Bytes) (ls : List Bytes) (k : ℕ) : Type 0 where
+  pub low : k + length ls ≤ length text
+  pub leads : find_name 0 w (declared_in text) ≡ find_name k w (declarations ls)
+
+pub naming_start : (text w : Bytes) {ls : List Bytes} → ls ≡ lines text → Naming text w ls 0
+naming_start text w e = let f = lines_few text in subst (λ (ls : List Bytes). Naming text w ls 0) (sym e) (record { low = omega arith; leads = refl })
+
+module _ {text w : Bytes} {ls : List Bytes} {k : ℕ} (g : Naming text w ls k) where
+  pub naming_end : ls ≡ [] → find_name 0 w (declared_in text) ≡ none
   unfolding declarations
-  naming_end h = g.leads ∙ ap (λ (ls : List Bytes). find_name k w (declarations ls)) (no_lines text at h)
+  naming_end e = g.leads ∙ ap (λ (ls : List Bytes). find_name k w (declarations ls)) e
 
-  module _ {i r : ℕ} (h : at < length text) (e : Ended text at i) (b : Beyond text i r) where
-    at_line : find_name 0 w (declared_in text) ≡ find_name k w (declarations (piece at i text ∷ lines (drop r text)))
-    at_line = g.leads ∙ ap (λ (ls : List Bytes). find_name k w (declarations ls)) (lines_on h e b)
+  module _ {l : Bytes} {more : List Bytes} (e : ls ≡ l ∷ more) where
+    at_line : find_name 0 w (declared_in text) ≡ find_name k w (declarations (l ∷ more))
+    at_line = g.leads ∙ ap (λ (ls : List Bytes). find_name k w (declarations ls)) e
 
-    pub naming_skip : declared_by (piece at i text) ≡ none → Naming text w r k
-    naming_skip n =
-        let f = further h e b in
-        let l = g.low in
-        record { inside = b.inside; low = omega arith; leads = at_line ∙ ap (find_name k w) (declares_none (piece at i text) (lines (drop r text)) n) }
+    fewer : k + suc (length more) ≤ length text
+    fewer = let l : length ls ≡ suc (length more) = ap length e in let h = g.low in omega arith
 
-    module _ {d : Declared} (n : declared_by (piece at i text) ≡ some d) where
-      at_name : find_name 0 w (declared_in text) ≡ cond (same_numbers w d.name) (some (variable k d)) (find_name (suc k) w (declarations (lines (drop r text))))
-      at_name = at_line ∙ ap (find_name k w) (declares_some (piece at i text) (lines (drop r text)) n)
+    pub naming_few : k < length text
+    naming_few = let f = fewer in omega arith
+
+    pub naming_skip : declared_by l ≡ none → Naming text w more k
+    naming_skip n = let f = fewer in record { low = omega arith; leads = at_line ∙ ap (find_name k w) (declares_none l more n) }
+
+    module _ {d : Declared} (n : declared_by l ≡ some d) where
+      at_name : find_name 0 w (declared_in text) ≡ cond (same_numbers w d.name) (some (variable k d)) (find_name (suc k) w (declarations more))
+      at_name = at_line ∙ ap (find_name k w) (declares_some l more n)
 
       pub naming_found : same_numbers w d.name ≡ true → find_name 0 w (declared_in text) ≡ some (variable k d)
-      naming_found t = at_name ∙ ap (λ (x : Bool). cond x (some (variable k d)) (find_name (suc k) w (declarations (lines (drop r text))))) t
+      naming_found t = at_name ∙ ap (λ (x : Bool). cond x (some (variable k d)) (find_name (suc k) w (declarations more))) t
 
-      pub naming_on : same_numbers w d.name ≡ false → Naming text w r (k + 1)
+      pub naming_on : same_numbers w d.name ≡ false → Naming text w more (k + 1)
       naming_on t =
-          let f = further h e b in
-          let l = g.low in
+          let f = fewer in
           record {
-            inside = b.inside;
             low = omega arith;
-            leads = at_name ∙ ap (λ (x : Bool). cond x (some (variable k d)) (find_name (suc k) w (declarations (lines (drop r text))))) t
-                ∙ ap (λ (j : ℕ). find_name j w (declarations (lines (drop r text)))) (sym (add-one k));
+            leads = at_name ∙ ap (λ (x : Bool). cond x (some (variable k d)) (find_name (suc k) w (declarations more))) t
+                ∙ ap (λ (j : ℕ). find_name j w (declarations more)) (sym (add-one k));
           }
 
-pub made_variable : {q : Option Op} {k : ℕ} {w : rust.Option ℕ} {r : Kind} → q ≡ some (either (BoolVar k) (λ m. BvVar m k) (told w)) → Varies k w r → Made q (rust.Some r)
+pub made_variable : {q : Option Op} {k : ℕ} {w : rust.Option ℕ} {r : Kind} → q ≡ some (either (BoolVar k) (λ m. BvVar m k) w) → Varies k w r → Made q (rust.Some r)
 made_variable e v = reads_some (e ∙ ap some (sym v.is)) v.known

@@ -2,7 +2,8 @@
 use mathlib.Core.Path.{◌≡◌, refl, sym, ap, ◌∙◌}
 use mathlib.Core.Bool.{Bool, true, false, ◌&&◌, ◌||◌, not, cond}
 use mathlib.Core.List.{List, [], ◌∷◌}
-use Rattle.std.specs.Prelude.{Option, None as none, Some as some}
+use Rattle.std.specs.Prelude as rust
+use Rattle.std.specs.Prelude.{Option, None as none, Some as some, option_map}
 use Prim.Native.Nat.{ℕ, suc, ◌+◌, ◌-◌, ◌*◌, ◌<◌, ◌≤◌}
 use native.Mathlib.Omega.{arith}
 use native.Mathlib.Decide.{dec_le}
@@ -13,9 +14,10 @@ use Rattle.std.specs.Char.{is_ascii_digit}
 use Rattle.std.specs.List.{list_all}
 use Rattle.theory.specs.Term.{same_numbers}
 use Rattle.theory.specs.Optional.{is_some}
-use Rattle.theory.specs.Record.{Bytes, Shape}
+use Rattle.theory.specs.Record.{Bytes, Shape, shape_of}
 use Rattle.text.specs.Tokens.{ascii, in_symbol}
 use Rattle.text.specs.Spelling.{Spelled, named, is_named, kind_names}
+use Rattle.words.proofs.TableLaws.{kind_is_some}
 use Rattle.text.specs.Reading.{digit_value, number_from, number_in, leading_zero, numeral, all_symbol, is_symbol, bv_value, reserved}
 
 -- ---- digits
@@ -157,9 +159,16 @@ module _ (w : Bytes) where
   abbrev B : Bool
   B = is_some (bv_value w)
 
-  pub reserved_kind : {q : Option Shape} → q ≡ named w kind_names → is_some q ≡ true → true ≡ reserved w
+  named_is : (r : Option ℕ) → option_map shape_of r ≡ option_map some (named w kind_names) → {b : Bool} → b ≡ rust.is_some r → is_named w kind_names ≡ b
+  named_is r h e = some_named w kind_names ∙ same (named w kind_names) ∙ sym (kind_is_some r (named w kind_names) h) ∙ sym e
+    where
+      same : (q : Option Shape) → is_some q ≡ rust.is_some q
+      same none = refl
+      same (some s) = refl
+
+  pub reserved_kind : (r : Option ℕ) → option_map shape_of r ≡ option_map some (named w kind_names) → {b : Bool} → b ≡ rust.is_some r → b ≡ true → true ≡ reserved w
   unfolding reserved
-  reserved_kind e f = or_1 P Q R S B (some_named w kind_names ∙ ap is_some (sym e) ∙ f)
+  reserved_kind r h e f = or_1 P Q R S B (named_is r h e ∙ f)
 
   pub reserved_true : Q ≡ true → true ≡ reserved w
   unfolding reserved
@@ -173,6 +182,7 @@ module _ (w : Bytes) where
   unfolding reserved
   reserved_mark e = or_4 P Q R S B e
 
-  pub reserved_bv : {q : Option Shape} → q ≡ named w kind_names → q ≡ none → Q ≡ false → R ≡ false → S ≡ false → {b : Bool} → b ≡ is_some (bv_value w) → b ≡ reserved w
+  pub reserved_bv : (r : Option ℕ) → option_map shape_of r ≡ option_map some (named w kind_names) → {c : Bool} → c ≡ rust.is_some r → c ≡ false
+      → Q ≡ false → R ≡ false → S ≡ false → {b : Bool} → b ≡ is_some (bv_value w) → b ≡ reserved w
   unfolding reserved
-  reserved_bv e f g h i {b} j = j ∙ sym (or_false P Q R S B (some_named w kind_names ∙ ap is_some (sym e ∙ f)) g h i)
+  reserved_bv r k e f g h i {b} j = j ∙ sym (or_false P Q R S B (named_is r k e ∙ f) g h i)

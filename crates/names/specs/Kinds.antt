@@ -1,6 +1,6 @@
 -- Kinds of terms as the code says them: by their number in a job and by the numbers in them. What a text declares.
 use Rattle.std.specs.Prelude.{◌≡◌, cond, List, [], ◌∷◌, ℕ, ◌≤◌, ◌<◌, eqb, length, drop}
-use Rattle.std.specs.Prelude.{Option, None as none, Some as some}
+use Rattle.std.specs.Prelude.{Option, None as none, Some as some, option_map}
 use Rattle.theory.specs.Kind.{Op, True, False, kind}
 use Rattle.theory.specs.Optional.{either}
 use Rattle.theory.specs.Record.{Bytes, Shape, plain, indexed, twice_indexed, valued, shape_of}
@@ -55,9 +55,10 @@ declarations (l ∷ ls) = either (declarations ls) (λ d. d ∷ declarations ls)
 abbrev pub declared_in : Bytes → List Declared
 declared_in text = declarations (lines text)
 
--- a number as the code says it, and a kind
-abbrev pub Indexed : Bytes → Option Number → rust.Option Index → Type 0
-Indexed line expected r = Reads (λ i. a_number i.number (drop i.next line)) (λ i. i.next ≤ length line) expected r
+-- a number as the code says it
+abbrev pub told_index : Option Index → Option Number
+told_index r = option_map (λ i. a_number i.number i.rest.now) r
 
+-- a kind as the code says it
 abbrev pub Made : Option Op → rust.Option Kind → Type 0
 Made expected r = Reads op_of Known expected r

@@ -1,8 +1,9 @@
 -- The lines of a text, as the code says them.
-use Rattle.std.specs.Prelude.{◌≡◌, ◌∷◌, ℕ, ◌+◌, ◌≤◌, ◌<◌, length, drop, get_or}
+use Rattle.std.specs.Prelude.{◌≡◌, List, ◌∷◌, ℕ, ◌+◌, ◌≤◌, ◌<◌, length, drop, get_or}
 use Rattle.theory.specs.Record.{Bytes}
 use Rattle.text.specs.Convert.{lines}
 use Rattle.words.specs.Words.{piece}
+use Rattle.names.specs.declared.lines.Lines.{Lines}
 
 -- the line that starts at a place ends there, with a newline or the text: it is the first of the lines from there on,
 -- and the others come after the newline
@@ -19,3 +20,7 @@ pub record Beyond (text : Bytes) (end r : ℕ) : Type 0 where
   pub inside : r ≤ length text
   pub further : end < length text → end < r
   pub same : drop r text ≡ drop (end + 1) text
+
+-- the lines that are still to come
+abbrev pub lines_left : Lines → List Bytes
+lines_left s = lines s.rest.now

@@ -1,10 +1,13 @@
--- A token that must follow, as the code says it.
-use Rattle.std.specs.Prelude.{ℕ, ◌≤◌, length, drop}
-use Rattle.std.specs.Prelude as rust
-use Rattle.std.specs.Prelude.{Option}
+-- What stands after a token, as the code says it.
+use Rattle.std.specs.Borrow.{Bor}
+use Rattle.std.specs.Prelude.{Option, option_map}
 use Rattle.theory.specs.Record.{Bytes}
-use Rattle.words.specs.Tables.{Reads}
+use Rattle.text.specs.Reading.{Word}
 
--- the place after it
-abbrev pub Passed : Bytes → Option Bytes → rust.Option ℕ → Type 0
-Passed line expected r = Reads (λ a. drop a line) (λ a. a ≤ length line) expected r
+-- what stands after it
+abbrev pub rest_of : Option (Bor Bytes) → Option Bytes
+rest_of r = option_map (λ b. b.now) r
+
+-- a word, and what stands after it
+abbrev pub word_and_rest : Option (Bor Bytes × Bor Bytes) → Option Word
+word_and_rest r = option_map (λ p. record { name = p.0.now; rest = p.1.now }) r

@@ -1,15 +1,14 @@
 // Kinds of terms, and the numbers in them.
-ghost use Rattle.std.specs.Prelude.{◌≡◌, ◌≤◌, ◌<◌, length, drop};
+ghost use Rattle.std.specs.Prelude.{◌≡◌, ◌<◌};
 ghost use Rattle.theory.specs.Record.{shape_of};
 ghost use Rattle.text.specs.Reading.{below, value_end, index, bv_value};
-ghost use Rattle.words.specs.Tables.{told};
-ghost use Rattle.names.specs.Kinds.{Indexed, kinds_end, family_of};
+ghost use Rattle.names.specs.Kinds.{told_index, kinds_end, family_of};
 
+use crate::marks::first_word;
 use words::numbers::numeral;
-use words::tokens::{Token, next_token};
 
 // The largest number of a record's two bytes.
-const MAX_NUMBER: u64 = 65535;
+const MAX_NUMBER: u64 = u16::MAX as u64;
 
 // A kind: its number in a job, and the numbers in it. 0 and 1 are `true` and `false`.
 #[derive(Clone, Copy)]
@@ -19,28 +18,25 @@ pub struct Kind {
     pub y: u64,
 }
 
-// A number that was read, and the place after it.
+// A number that was read, and what stands after it.
 #[derive(Clone, Copy)]
-pub struct Index {
+pub struct Index<'a> {
     pub number: u64,
-    pub next: usize,
+    pub rest: &'a [u8],
 }
 
-// An index, width or amount at `at`.
-pub fn read_index(line: &[u8], at: usize) -> Option<Index>
-    requires { at ≤ length line.now }
-    ensures { Indexed line.now (index (drop at line.now)) result }
+// An index, width or amount.
+pub fn read_index(line: &[u8]) -> Option<Index<'_>>
+    ensures { told_index result ≡ index line.now }
 {
-    let Token::Word(s, e) = next_token(line, at) else {
-        return None;
-    };
-    let number = numeral(&line[s..e], MAX_NUMBER)?;
-    Some(Index { number, next: e })
+    let (word, rest) = first_word(line)?;
+    let number = numeral(word, MAX_NUMBER)?;
+    Some(Index { number, rest })
 }
 
 // The value of the word bvN.
 pub fn bv_value(word: &[u8]) -> Option<u64>
-    ensures { told result ≡ below value_end (bv_value word.now) }
+    ensures { result ≡ below value_end (bv_value word.now) }
 {
     numeral(word.strip_prefix(b"bv")?, u64::MAX)
 }

@@ -1,52 +1,56 @@
-// Tokens that must follow: each function answers the place after the token, if it is the next one.
-ghost use Rattle.std.specs.Prelude.{◌≡◌, ◌≤◌, length, drop};
+// Tokens that must follow: each function returns what stands after its token, if it comes next.
+ghost use Rattle.std.specs.Prelude.{◌≡◌};
 ghost use Rattle.theory.specs.Optional.{is_some};
 ghost use Rattle.text.specs.Tokens.{left, right, end, word, after};
-ghost use Rattle.names.specs.Marks.{Passed};
+ghost use Rattle.text.specs.Reading.{first_word};
+ghost use Rattle.names.specs.Marks.{rest_of, word_and_rest};
 
 use words::tokens::{Token, next_token, same};
 
 // A left parenthesis.
-pub fn left_after(line: &[u8], at: usize) -> Option<usize>
-    requires { at ≤ length line.now }
-    ensures { Passed line.now (after left (drop at line.now)) result }
+pub fn left_after(line: &[u8]) -> Option<&[u8]>
+    ensures { rest_of result ≡ after left line.now }
 {
-    match next_token(line, at) {
-        Token::Left(next) => Some(next),
+    let next = next_token(line);
+    match next.token {
+        Token::Left => Some(next.rest),
         _ => None,
     }
 }
 
 // A right parenthesis.
-pub fn right_after(line: &[u8], at: usize) -> Option<usize>
-    requires { at ≤ length line.now }
-    ensures { Passed line.now (after right (drop at line.now)) result }
+pub fn right_after(line: &[u8]) -> Option<&[u8]>
+    ensures { rest_of result ≡ after right line.now }
 {
-    match next_token(line, at) {
-        Token::Right(next) => Some(next),
+    let next = next_token(line);
+    match next.token {
+        Token::Right => Some(next.rest),
+        _ => None,
+    }
+}
+
+// A word, and what stands after it.
+pub fn first_word(line: &[u8]) -> Option<(&[u8], &[u8])>
+    ensures { word_and_rest result ≡ first_word line.now }
+{
+    let next = next_token(line);
+    match next.token {
+        Token::Word(word) => Some((word, next.rest)),
         _ => None,
     }
 }
 
 // That word.
-pub fn word_after(line: &[u8], at: usize, wanted: &[u8]) -> Option<usize>
-    requires { at ≤ length line.now }
-    ensures { Passed line.now (after (word wanted.now) (drop at line.now)) result }
+pub fn word_after<'a>(line: &'a [u8], wanted: &[u8]) -> Option<&'a [u8]>
+    ensures { rest_of result ≡ after (word wanted.now) line.now }
 {
-    let Token::Word(s, e) = next_token(line, at) else {
-        return None;
-    };
-    if same(&line[s..e], wanted) {
-        Some(e)
-    } else {
-        None
-    }
+    let (word, rest) = first_word(line)?;
+    if same(word, wanted) { Some(rest) } else { None }
 }
 
 // Is nothing left of the line?
-pub fn at_end(line: &[u8], at: usize) -> bool
-    requires { at ≤ length line.now }
-    ensures { result ≡ is_some (after end (drop at line.now)) }
+pub fn at_end(line: &[u8]) -> bool
+    ensures { result ≡ is_some (after end line.now) }
 {
-    matches!(next_token(line, at), Token::End)
+    matches!(next_token(line).token, Token::End)
 }

@@ -1,71 +1,62 @@
 // Declarations, and variables by their names: the declarations are read again for each name.
-ghost use Rattle.std.specs.Prelude.{◌≡◌, ◌≤◌, length, drop};
+ghost use Rattle.std.specs.Prelude.{◌≡◌};
 ghost use Rattle.text.specs.Reading.{sort_in, find_name, variable};
 ghost use Rattle.text.specs.Claim.{declared_by};
 ghost use Rattle.names.specs.Kinds.{declared_in, Made, op_of, Known};
-ghost use Rattle.names.specs.Names.{Sorts, Declares, Varies};
+ghost use Rattle.names.specs.Names.{told_sort, told_declaration, Varies};
 
 use crate::kinds::{Kind, read_index};
-use crate::lines::{line_after, line_end};
-use crate::marks::{at_end, left_after, right_after, word_after};
+use crate::lines::Lines;
+use crate::marks::{at_end, first_word, left_after, right_after, word_after};
 use crate::symbols::{is_symbol, reserved};
-use words::tokens::{Token, next_token, same};
+use terms::kind;
+use words::tokens::same;
 
-// The kinds of variables.
-const BOOL_VARIABLE: u32 = 10;
-
-const VECTOR_VARIABLE: u32 = 11;
-
-// A sort: the width of a vector, none for Bool, and the place after it.
+// A sort: the width of a vector, none for Bool, and what stands after it.
 #[derive(Clone, Copy)]
-pub struct Sort {
+pub struct Sort<'a> {
     pub width: Option<u64>,
-    pub next: usize,
+    pub rest: &'a [u8],
 }
 
-// What a line declares: where the name starts and ends, and the width of a vector.
+// What a line declares: the name, and the width of a vector, none for Bool.
 #[derive(Clone, Copy)]
-pub struct Declaration {
-    pub start: usize,
-    pub end: usize,
+pub struct Declaration<'a> {
+    pub name: &'a [u8],
     pub width: Option<u64>,
 }
 
-// The sort at `at`: Bool, or (_ BitVec n).
+// A sort: Bool, or (_ BitVec n).
 #[tactic(auto, using(crate::proofs::Sets::laws), unfolding(text::specs::Reading::sort_in))]
-fn read_sort(line: &[u8], at: usize) -> Option<Sort>
-    requires { at ≤ length line.now }
-    ensures { Sorts line.now (sort_in (drop at line.now)) result }
+fn read_sort(line: &[u8]) -> Option<Sort<'_>>
+    ensures { told_sort result ≡ sort_in line.now }
 {
-    if let Some(next) = word_after(line, at, b"Bool") {
-        return Some(Sort { width: None, next });
+    if let Some(rest) = word_after(line, b"Bool") {
+        return Some(Sort { width: None, rest });
     }
-    let a = left_after(line, at)?;
-    let b = word_after(line, a, b"_")?;
-    let c = word_after(line, b, b"BitVec")?;
-    let index = read_index(line, c)?;
-    let next = right_after(line, index.next)?;
+    let a = left_after(line)?;
+    let b = word_after(a, b"_")?;
+    let c = word_after(b, b"BitVec")?;
+    let index = read_index(c)?;
+    let rest = right_after(index.rest)?;
     Some(Sort {
         width: Some(index.number),
-        next,
+        rest,
     })
 }
 
 // What a line declares.
-pub fn declared_by(line: &[u8]) -> Option<Declaration>
-    ensures { Declares line.now (declared_by line.now) result }
+pub fn declared_by(line: &[u8]) -> Option<Declaration<'_>>
+    ensures { told_declaration result ≡ declared_by line.now }
 {
-    let a = left_after(line, 0)?;
-    let b = word_after(line, a, b"declare-const")?;
-    let Token::Word(start, end) = next_token(line, b) else {
-        return None;
-    };
-    let sort = read_sort(line, end)?;
-    let last = right_after(line, sort.next)?;
-    if !at_end(line, last) {
+    let a = left_after(line)?;
+    let b = word_after(a, b"declare-const")?;
+    let (name, rest) = first_word(b)?;
+    let sort = read_sort(rest)?;
+    let last = right_after(sort.rest)?;
+    if !at_end(last) {
         return None;
     }
-    let name = &line[start..end];
     if !is_symbol(name) {
         return None;
     }
@@ -73,8 +64,7 @@ pub fn declared_by(line: &[u8]) -> Option<Declaration>
         return None;
     }
     Some(Declaration {
-        start,
-        end,
+        name,
         width: sort.width,
     })
 }
@@ -85,12 +75,12 @@ pub fn variable(k: u64, width: Option<u64>) -> Kind
 {
     match width {
         Some(n) => Kind {
-            number: VECTOR_VARIABLE,
+            number: kind::Kind::BvVar as u32,
             x: n,
             y: k,
         },
         None => Kind {
-            number: BOOL_VARIABLE,
+            number: kind::Kind::BoolVar as u32,
             x: k,
             y: 0,
         },
@@ -101,17 +91,16 @@ pub fn variable(k: u64, width: Option<u64>) -> Kind
 pub fn find_name(declarations: &[u8], word: &[u8]) -> Option<Kind>
     ensures { Made (find_name 0 word.now (declared_in declarations.now)) result }
 {
-    let mut at: usize = 0;
+    // Names are symbols: a constant is none, and costs no walk over the declarations.
+    if !is_symbol(word) {
+        return None;
+    }
     let mut k: u64 = 0;
-    while at < declarations.len() {
-        let start = at;
-        let end = line_end(declarations, start);
-        at = line_after(declarations, end);
-        let line = &declarations[start..end];
+    for line in Lines::new(declarations) {
         let Some(d) = declared_by(line) else {
             continue;
         };
-        if same(word, &line[d.start..d.end]) {
+        if same(word, d.name) {
             return Some(variable(k, d.width));
         }
         k += 1;

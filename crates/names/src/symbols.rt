@@ -6,7 +6,6 @@ ghost use Rattle.theory.specs.Optional.{is_some};
 ghost use Rattle.text.specs.Tokens.{in_symbol};
 ghost use Rattle.text.specs.Reading.{numeral, is_symbol, reserved};
 
-use crate::kinds::family;
 use words::tables::kind_named;
 use words::tokens::{in_symbol, same};
 
@@ -54,8 +53,7 @@ pub fn is_symbol(word: &[u8]) -> bool
 pub fn reserved(word: &[u8]) -> bool
     ensures { result ≡ reserved word.now }
 {
-    let k = kind_named(word);
-    if family(k).is_some() {
+    if kind_named(word).is_some() {
         return true;
     }
     if same(word, b"true") {

@@ -11,14 +11,14 @@ use lib.ListN.{length, get_or}
 use borrow.Enum.Refused.{Among, opened}
 use denote.Enum.Declared.{tag_of}
 use Rattle.theory.specs.Limit.{first_terms}
-use Rattle.theory.specs.Kind.{Op, Equals, kind, arity, takes}
+use Rattle.theory.specs.Kind.{Op, Equals, kind, indices, arity, takes}
 use Rattle.theory.specs.Term.{Term, node, nil, cons, fold, to_list, from_list}
 use Rattle.theory.specs.Sort.{Sort, bool, guard, good, all_are, alike, fitting, result_sort, same_sort, is_bv_sort, sort_of}
 use Rattle.theory.specs.Record.{Bytes}
 use Rattle.theory.specs.Codes.{all_below}
 use Rattle.theory.specs.Verdict.{Verdict, wrong_form}
 use Rattle.theory.specs.RuleTable.{Rule}
-use Rattle.theory.specs.Rule.{args_of, one_of, two_of, form, unary, binary, on_sides, verdict}
+use Rattle.theory.specs.Rule.{args_of, one_of, two_of, nth, index_of, form, unary, binary, on_sides, verdict}
 use Rattle.theory.proofs.Places.{tree_at, tree_of}
 use Rattle.theory.proofs.Run.{good_at}
 use Rattle.theory.proofs.Sorts.{is_bv}
@@ -36,7 +36,7 @@ use Rattle.store.specs.Terms.{TermAt}
 use Rattle.store.specs.declared.gates.Kept.{Kept}
 use Rattle.store.specs.Kept.{IsTermAt, kept_term}
 use Rattle.store.proofs.Keeping.{store_of}
-use Rattle.operand_rules.specs.Rules.{One, Two, Same}
+use Rattle.operand_rules.specs.Rules.{One, OneFits, Two, Same}
 use Rattle.operand_rules.proofs.Tests.{same_eqb}
 use Rattle.theory.proofs.Basics.{true_T}
 use Rattle.theory.proofs.Sound.{same_sort_eq}
@@ -104,6 +104,17 @@ module _ {job work : Bytes} {n p : ℕ} {t : Decoded} (s : TermAt job work n p t
   pub one_form : (o : Op) (x : ℕ) → op_of t ≡ o → operands_of t ≡ OneArg x → (f : Term → Verdict) → unary (kind o) (tree job work n p) f ≡ f (tree job work n x)
   one_form o x e d f = args_form o (OneArg x) e d (λ ts. form (one_of ts) f)
 
+  -- a number in the kind
+  pub index_is : (i : ℕ) (o : Op) → op_of t ≡ o → index_of i (tree job work n p) ≡ nth i (indices o)
+  index_is i o e = ap (index_of i) s.made ∙ ap (λ (q : Op). nth i (indices q)) e
+
+  -- a kind with numbers in it
+  pub indexed_form : (o : Op) (x : ℕ) → op_of t ≡ o → operands_of t ≡ OneArg x → (f : (ℕ → ℕ) → Term → Verdict)
+      → f (λ i. nth i (indices o)) (tree job work n x) ≡ unary (kind o) (tree job work n p) (f (λ i. index_of i (tree job work n p)))
+  indexed_form o x e d f =
+      sym (one_form o x e d (f (λ i. index_of i (tree job work n p)))
+      ∙ ap (λ (g : ℕ → ℕ). f g (tree job work n x)) (ap {B = ℕ → ℕ} (λ (u : Term) (i : ℕ). index_of i u) s.made ∙ ap {B = ℕ → ℕ} (λ (q : Op) (i : ℕ). nth i (indices q)) e))
+
   pub one_below : (x m : ℕ) → operands_of t ≡ OneArg x → p < m → x < m
   one_below x m d h = let l = ltb→lt x p (and_l (ltb x p) _ (below_of (OneArg x) d)) in omega arith
 
@@ -160,6 +171,13 @@ module _ {job work : Bytes} {n p : ℕ} {t : Decoded} (s : TermAt job work n p t
   unfolding verdict
   sides rule {l} {r} e = sym (two_form Equals l r (ap op_of e) (ap operands_of e) (on_sides rule))
 
+-- a term of one argument that fits
+pub one_fitting : (o : Op) (a : Term) → T (good (sort_of (node o (cons a nil)))) → T (fitting o (sort_of a ∷ []))
+unfolding fold
+one_fitting o a g =
+    let ss = sort_of a ∷ [] in
+    and_r (takes (arity o) (length ss)) _ (good_guard (takes (arity o) (length ss) && fitting o ss) (result_sort o ss) g)
+
 -- ---- what a rule's check may take for granted
 module _ (k : Kept) {p : ℕ} {t : Decoded} (s : IsTermAt k p t) (there : p < first_terms + k.lookup.rows) where
   module _ (o : Op) (asks : (ss : List Sort) → fitting o ss ≡ alike ss) where
@@ -180,6 +198,16 @@ module _ (k : Kept) {p : ℕ} {t : Decoded} (s : IsTermAt k p t) (there : p < fi
           right = record { there = right_below s x y _ d there; sort = sym g.1 ∙ b };
           claimed = c;
         }
+
+  -- of an operation of one bit-vector whose kind may have numbers in it
+  pub one_fits : (o : Op) (asks : (r : Sort) → T (fitting o (r ∷ [])) → T (is_bv_sort r)) (x claim : ℕ) → op_of t ≡ o → operands_of t ≡ OneArg x
+      → claim < first_terms + k.lookup.rows → OneFits k o x claim
+  one_fits o asks x claim e d c =
+      let h = one_fitting o (kept_term k x) (fits s (store_of k) there o (OneArg x) e d) in
+      record {
+        one = record { only = record { there = one_below s x _ d there; sort = is_bv (sort_of (kept_term k x)) (asks (sort_of (kept_term k x)) h) }; claimed = c };
+        fits = h;
+      }
 
   pub same_given : (x y claim : ℕ) → op_of t ≡ Equals → operands_of t ≡ TwoArgs x y → claim < first_terms + k.lookup.rows → Same k x y claim
   same_given x y claim e d c = record {

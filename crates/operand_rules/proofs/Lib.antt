@@ -1,3 +1,4 @@
+pub mod Folds
 pub mod Forms
 pub mod Numbers
 pub mod Sorts

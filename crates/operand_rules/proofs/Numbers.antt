@@ -6,11 +6,13 @@ use Prim.Native.Nat.{ℕ, ◌+◌, ◌<◌, ◌≤◌}
 use native.Mathlib.Omega.{arith}
 use lib.Dec.{T, eqb, eqb→eq, leb, leb→le}
 use lib.Ieee.Fits.{and_l, and_r}
-use lib.ListN.{length, take, drop, length-map}
+use lib.ListN.{length, length-map}
 use Rattle.theory.specs.Limit.{first_terms}
 use Rattle.theory.specs.Kind.{Op, False, BvBbTerm, kind, many, takes}
 use Rattle.theory.specs.Term.{Term, Terms, node, nil, same_term, fold, folds, to_list, from_list}
 use Rattle.theory.specs.Sort.{Sort, bad, bool, bv, guard, all_are, sort_width, sort_op, sort_of}
+use Rattle.theory.specs.Value.{value, truth}
+use Rattle.theory.specs.Specimen.{x_and_y}
 use Rattle.theory.specs.Gates.{term_gates}
 use Rattle.theory.specs.Bits.{get_term_bits, select, bb, literally_false}
 use Rattle.theory.specs.Move.{bits}
@@ -22,8 +24,7 @@ use Rattle.theory.proofs.Natural.{Hom}
 use Rattle.theory.proofs.Same.{same_eq, eq_same}
 use Rattle.theory.proofs.Distinct.{tree_1}
 use Rattle.theory.proofs.Sorts.{sized, sorts_sized}
-use Rattle.theory.proofs.Bytes.{words_length}
-use Rattle.theory.proofs.Blast.{folds_from_list, to_from_list}
+use Rattle.theory.proofs.Blast.{bits_of, folds_from_list, to_from_list}
 use Rattle.theory.proofs.Places.{tree_at, tree_of, more_below}
 use Rattle.terms.specs.declared.Args.{Args}
 use Rattle.terms.specs.declared.Term.{Term as Decoded}
@@ -34,7 +35,7 @@ use Rattle.rows.proofs.RowLaws.{link_holds, link_back}
 use Rattle.store.specs.Numbers.{numbers, bit_number, bb_number, is_false_number}
 use Rattle.store.specs.declared.gates.Kept.{Kept}
 use Rattle.store.specs.Lookup.{gates}
-use Rattle.store.specs.Kept.{IsTermAt, kept_terms, kept_term, kept_number}
+use Rattle.store.specs.Kept.{IsTermAt, kept_terms, kept_term, kept_bits, kept_number}
 use Rattle.store.proofs.Keeping.{store_of}
 use Rattle.store.proofs.Lookup.{Few, number_hom, number_exact, bb_hom}
 use Rattle.store.proofs.Claims.{own_numbers, select_numbers, compare_number}
@@ -123,16 +124,20 @@ selected {k} {p} {w} {t} o s d e =
     ∙ select_numbers (kept_terms k) (store_of k).well (few k) p w (there k o.there) (widths o).1
     ∙ ap (λ (rs : List Bytes). bits w (λ i. bit_number (number_length k.lookup.job.now) rs i p)) (store_of k).records_are)
 
-pub argued : {k : Kept} {p w : ℕ} {t : Decoded} {a : Args} (xs : List ℕ) → Operand k p w → IsTermAt k p t → t ≡ D.BvBbTerm a
-    → take a.count xs ≡ words_in k.lookup.job.now a → take w xs ≡ map (kept_number k) (get_term_bits (kept_term k p))
-argued {k} {p} {w} {t} {a} xs o s e d =
+pub argued : {k : Kept} {p w : ℕ} {t : Decoded} {a : Args} {xs : List ℕ} → Operand k p w → IsTermAt k p t → t ≡ D.BvBbTerm a
+    → xs ≡ words_in k.lookup.job.now a → xs ≡ map (kept_number k) (get_term_bits (kept_term k p))
+argued {k} {p} {t = t} {a = a} o s e d =
     let ks = words_in k.lookup.job.now a in
     let us = map (tree_at (kept_terms k)) ks in
     let m : kept_term k p ≡ bb us = s.made ∙ ap (λ (q : Decoded). tree_of (kept_terms k) (op_of q) (arguments_of k.lookup.job.now q)) e in
-    let l : length us ≡ w = bb_width us w (ap sort_of (sym m) ∙ o.sort) in
-    let same : a.count ≡ w = sym (words_length a.bytes a.count (drop a.at k.lookup.job.now)) ∙ sym (length-map ks (tree_at (kept_terms k))) ∙ l in
     let b : T (all_below p ks) = true_T _ (sym (ap (λ (q : Decoded). all_below p (arguments_of k.lookup.job.now q)) e) ∙ s.below) in
     let g = there k o.there in
-    ap (λ (j : ℕ). take j xs) (sym same) ∙ d
+    d
     ∙ sym (ap (map (kept_number k)) (ap get_term_bits m ∙ bb_bits us)
     ∙ own_numbers (kept_terms k) (store_of k).well (few k) ks (more_below p (length (kept_terms k)) (omega arith) ks b))
+
+-- an operand has as many bits as its width says
+pub bits_length : {k : Kept} {x w : ℕ} {xs : List ℕ} → Operand k x w → xs ≡ map (kept_number k) (kept_bits k x) → length xs ≡ w
+bits_length {k} {x} {w} o e =
+    let b = bits_of (x_and_y 0 0) (kept_term k x) w o.sort in
+    ap length e ∙ length-map (kept_bits k x) (kept_number k) ∙ sym (length-map (kept_bits k x) (value (x_and_y 0 0))) ∙ ap length b.reads ∙ length-map b.bits truth ∙ b.size

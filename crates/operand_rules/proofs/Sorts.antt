@@ -28,7 +28,7 @@ use Rattle.store.specs.Kept.{kept_terms, kept_term, kept_number}
 use Rattle.store.proofs.Keeping.{store_of}
 use Rattle.store.specs.Sorts.{sort_read}
 use Rattle.store.specs.declared.sorts.Sort.{Sort}
-use Rattle.store.specs.declared.sorts.Sort.TheVariants.{Bad, Bool as IsBool, Bv}
+use Rattle.store.specs.declared.sorts.Sort.TheVariants.{Bool as IsBool, Bv}
 use Rattle.store.specs.contracts.sorts.Sort as E
 use Rattle.store.proofs.Lookup.{bit_hom, constant_hom}
 use Rattle.operand_rules.specs.Rules.{Operand, width_bits}
@@ -36,10 +36,9 @@ use Rattle.operand_rules.proofs.Numbers.{few}
 use Rattle.theory.proofs.Indexed.{bits_same}
 
 -- the else: no bit-vector
-pub not_bits : (u : Term) (v : Verdict) (r : Sort) → Among (0 ∷ 1 ∷ []) (tag_of E.the_type r) → sort_read r ≡ sort_of u → not_bit_vector ≡ of_bits u v
-not_bits u v Bad k e = ap (λ (s : Th.Sort). cond (is_bv_sort s) v not_bit_vector) e
+pub not_bits : (u : Term) (v : Verdict) (r : Sort) → ((w : ℕ) → r ≡ Bv w → ⊥) → sort_read r ≡ sort_of u → not_bit_vector ≡ of_bits u v
 not_bits u v IsBool k e = ap (λ (s : Th.Sort). cond (is_bv_sort s) v not_bit_vector) e
-not_bits u v (Bv w) k e = absurd (miss (0 ∷ 1 ∷ []) 2 tt (opened k))
+not_bits u v (Bv w) k e = absurd (k w refl)
 
 -- a width fits into as many bits
 const_sort : (w : ℕ) → 1 ≤ w → w ≤ 64 → sort_of (node (Const w w) nil) ≡ bv w

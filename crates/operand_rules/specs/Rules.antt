@@ -1,9 +1,9 @@
 -- Verdicts as the code has them, and what a rule's check may take for granted.
-use Rattle.std.specs.Prelude.{◌≡◌, List, ℕ, ◌+◌, ◌<◌}
+use Rattle.std.specs.Prelude.{◌≡◌, List, [], ◌∷◌, ℕ, T, ◌+◌, ◌<◌}
 use Rattle.theory.specs.Limit.{first_terms}
-use Rattle.theory.specs.Kind.{Const}
+use Rattle.theory.specs.Kind.{Op, Const}
 use Rattle.theory.specs.Term.{Term, node, nil}
-use Rattle.theory.specs.Sort.{bv, sort_of}
+use Rattle.theory.specs.Sort.{bv, fitting, sort_of}
 use Rattle.theory.specs.Bits.{get_term_bits}
 use Rattle.store.specs.declared.gates.Kept.{Kept}
 use Rattle.store.specs.Kept.{kept_term, kept_width}
@@ -34,6 +34,11 @@ pub record Operand (k : Kept) (x w : ℕ) : Type 0 where
 pub record One (k : Kept) (x claim : ℕ) : Type 0 where
   pub only : Operand k x (kept_width k x)
   pub claimed : claim < first_terms + k.lookup.rows
+
+-- an operation of one bit-vector whose width fits the numbers in the operation's kind, and the claim
+pub record OneFits (k : Kept) (o : Op) (x claim : ℕ) : Type 0 where
+  pub one : One k x claim
+  pub fits : T (fitting o (sort_of (kept_term k x) ∷ []))
 
 -- an operation of two bit-vectors of one width, and the claim
 pub record Two (k : Kept) (x y claim : ℕ) : Type 0 where

@@ -1,35 +1,51 @@
 // Rules of bits: xnor, not and neg.
-ghost use Rattle.std.specs.Prelude.{◌≡◌, map, ◌+◌, ◌<◌};
-ghost use Rattle.theory.specs.Bits.{bb, zipped};
+ghost use Rattle.std.specs.Prelude.{◌≡◌, map, ◌+◌, ◌<◌, refl};
+ghost use Rattle.theory.specs.Sort.{is_bv_sort};
+ghost use Rattle.theory.specs.Bits.{bb, get_term_bits, zipped};
 ghost use Rattle.theory.specs.Verdict.{held};
 ghost use Rattle.theory.specs.Term.{two};
-ghost use Rattle.theory.specs.Kind.{Equals};
+ghost use Rattle.theory.specs.Kind.{Equals, BvNot, BvNeg, BvXNor, kind as kind_number};
 ghost use Rattle.theory.specs.Limit.{first_terms};
 ghost use Rattle.theory.specs.Gates.{term_gates};
 ghost use Rattle.theory.specs.Circuit.{negate};
 ghost use Rattle.theory.specs.RuleTable.{by_xnor, by_not, by_neg};
 ghost use Rattle.theory.specs.Rule.{compare, verdict};
-ghost use Rattle.store.specs.Kept.{kept_term, kept_bits};
-ghost use Rattle.operand_rules.specs.Rules.{One, Two, verdict_of};
+ghost use Rattle.store.specs.Kept.{kept_term};
+ghost use Rattle.operand_rules.specs.Rules.{verdict_of};
+ghost use lib.Ieee.Fits.{and_l};
 
 use crate::Verdict;
 use crate::bits::{compare_bits, get_term_bits, width_at};
+use crate::operation::{Binary, Unary, binary_rule, unary_rule};
+use circuits::adder::negate;
 use circuits::bits::{eqs, nots};
 use store::gates::Kept;
 use terms::Term;
 
-// The claim is the term of the bits' equations.
-fn xnor_check(kept: &Kept, x: u32, y: u32, claim: u32) -> Verdict
-    requires { Two kept.now x y claim }
-    ensures { verdict_of result ≡ compare held
-        (zipped (two Equals) (kept_term kept.now x) (kept_term kept.now y))
-        (kept_term kept.now claim) }
-{
-    let w = width_at(kept, x);
-    let xs = get_term_bits(kept, x, w);
-    let ys = get_term_bits(kept, y, w);
-    let bits = eqs(&kept.lookup, xs, ys, w);
-    compare_bits(&kept.lookup, bits, w, claim)
+#[derive(Clone, Copy)]
+struct Equivalence;
+
+impl Binary for Equivalence {
+    ghost kind = { BvXNor };
+
+    ghost verdict = { λ s x y claim. compare held (zipped (two Equals) x y) claim };
+
+    ghost asks = { λ ss. refl };
+
+    fn operands(term: Term) -> Option<(u32, u32)> {
+        let Term::BvXNor(x, y) = term else {
+            return None;
+        };
+        Some((x, y))
+    }
+
+    // The claim is the term of the bits' equations.
+    fn check(self, kept: &Kept, x: u32, y: u32, claim: u32) -> Verdict {
+        let w = width_at(kept, x);
+        let xs = get_term_bits(kept, x, w);
+        let ys = get_term_bits(kept, y, w);
+        compare_bits(&kept.lookup, &eqs(&kept.lookup, &xs, &ys), claim)
+    }
 }
 
 // xnor: (= (bvxnor x y) claim).
@@ -37,25 +53,37 @@ pub fn xnor(kept: &Kept, literal: u32) -> Verdict
     requires { literal < first_terms + kept.now.lookup.rows }
     ensures { verdict_of result ≡ verdict by_xnor (kept_term kept.now literal) }
 {
-    let Term::Equals(l, r) = kept.term_at(literal) else {
-        return Verdict::WrongForm;
-    };
-    let Term::BvXNor(x, y) = kept.term_at(l) else {
-        return Verdict::WrongForm;
-    };
-    xnor_check(kept, x, y, r)
+    binary_rule(Equivalence, kept, literal)
 }
 
-// The claim is the term of the bits inverted.
-fn not_check(kept: &Kept, x: u32, claim: u32) -> Verdict
-    requires { One kept.now x claim }
-    ensures { verdict_of result ≡ compare held
-        (bb (map term_gates.not_gate (kept_bits kept.now x))) (kept_term kept.now claim) }
-{
-    let w = width_at(kept, x);
-    let xs = get_term_bits(kept, x, w);
-    let bits = nots(&kept.lookup, xs, w);
-    compare_bits(&kept.lookup, bits, w, claim)
+#[derive(Clone, Copy)]
+struct Complement;
+
+impl Unary for Complement {
+    ghost kind = { λ s. BvNot };
+
+    ghost number = { kind_number BvNot };
+
+    ghost verdict = { λ i x claim.
+        compare held (bb (map term_gates.not_gate (get_term_bits x))) claim };
+
+    ghost numbered = { λ s. refl };
+
+    ghost asks = { λ s t h. and_l (is_bv_sort t) _ h };
+
+    fn of(term: Term) -> Option<(Complement, u32)> {
+        let Term::BvNot(x) = term else {
+            return None;
+        };
+        Some((Complement, x))
+    }
+
+    // The claim is the term of the bits inverted.
+    fn check(self, kept: &Kept, x: u32, claim: u32) -> Verdict {
+        let w = width_at(kept, x);
+        let xs = get_term_bits(kept, x, w);
+        compare_bits(&kept.lookup, &nots(&kept.lookup, &xs), claim)
+    }
 }
 
 // not: (= (bvnot x) claim).
@@ -63,25 +91,37 @@ pub fn not(kept: &Kept, literal: u32) -> Verdict
     requires { literal < first_terms + kept.now.lookup.rows }
     ensures { verdict_of result ≡ verdict by_not (kept_term kept.now literal) }
 {
-    let Term::Equals(l, r) = kept.term_at(literal) else {
-        return Verdict::WrongForm;
-    };
-    let Term::BvNot(x) = kept.term_at(l) else {
-        return Verdict::WrongForm;
-    };
-    not_check(kept, x, r)
+    unary_rule::<Complement>(kept, literal)
 }
 
-// The claim is the term of the negated number's bits.
-fn neg_check(kept: &Kept, x: u32, claim: u32) -> Verdict
-    requires { One kept.now x claim }
-    ensures { verdict_of result ≡ compare held
-        (bb (negate term_gates (kept_bits kept.now x))) (kept_term kept.now claim) }
-{
-    let w = width_at(kept, x);
-    let xs = get_term_bits(kept, x, w);
-    let bits = circuits::adder::negate(&kept.lookup, xs, w);
-    compare_bits(&kept.lookup, bits, w, claim)
+#[derive(Clone, Copy)]
+struct Negation;
+
+impl Unary for Negation {
+    ghost kind = { λ s. BvNeg };
+
+    ghost number = { kind_number BvNeg };
+
+    ghost verdict = { λ i x claim.
+        compare held (bb (negate term_gates (get_term_bits x))) claim };
+
+    ghost numbered = { λ s. refl };
+
+    ghost asks = { λ s t h. and_l (is_bv_sort t) _ h };
+
+    fn of(term: Term) -> Option<(Negation, u32)> {
+        let Term::BvNeg(x) = term else {
+            return None;
+        };
+        Some((Negation, x))
+    }
+
+    // The claim is the term of the negated number's bits.
+    fn check(self, kept: &Kept, x: u32, claim: u32) -> Verdict {
+        let w = width_at(kept, x);
+        let xs = get_term_bits(kept, x, w);
+        compare_bits(&kept.lookup, &negate(&kept.lookup, &xs), claim)
+    }
 }
 
 // neg: (= (bvneg x) claim).
@@ -89,11 +129,5 @@ pub fn neg(kept: &Kept, literal: u32) -> Verdict
     requires { literal < first_terms + kept.now.lookup.rows }
     ensures { verdict_of result ≡ verdict by_neg (kept_term kept.now literal) }
 {
-    let Term::Equals(l, r) = kept.term_at(literal) else {
-        return Verdict::WrongForm;
-    };
-    let Term::BvNeg(x) = kept.term_at(l) else {
-        return Verdict::WrongForm;
-    };
-    neg_check(kept, x, r)
+    unary_rule::<Negation>(kept, literal)
 }

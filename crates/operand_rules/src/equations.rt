@@ -1,6 +1,7 @@
 // The rules of equations: comp and equality.
-ghost use Rattle.std.specs.Prelude.{◌≡◌, ◌∷◌, [], ◌+◌, ◌<◌};
-ghost use Rattle.theory.specs.Bits.{bb};
+ghost use Rattle.std.specs.Prelude.{◌≡◌, ◌∷◌, [], ◌+◌, ◌<◌, refl};
+ghost use Rattle.theory.specs.Kind.{BvComp};
+ghost use Rattle.theory.specs.Bits.{bb, get_term_bits};
 ghost use Rattle.theory.specs.Verdict.{held};
 ghost use Rattle.theory.specs.Limit.{first_terms};
 ghost use Rattle.theory.specs.Gates.{term_gates};
@@ -8,27 +9,41 @@ ghost use Rattle.theory.specs.Circuit.{equality};
 ghost use Rattle.theory.specs.RuleTable.{by_comp, by_equality};
 ghost use Rattle.theory.specs.Rule.{compare, of_bits, verdict};
 ghost use Rattle.store.specs.Kept.{kept_term, kept_bits};
-ghost use Rattle.operand_rules.specs.Rules.{Two, Same, verdict_of};
+ghost use Rattle.operand_rules.specs.Rules.{Same, verdict_of};
 
 use crate::Verdict;
-use crate::bits::{compare_bits, get_term_bits, width_at};
-use circuits::bits::MAX_BITS;
+use crate::bits::{get_term_bits, width_at};
+use crate::operation::{Binary, binary_rule};
 use store::gates::Kept;
 use store::sorts::Sort;
 use terms::Term;
 
-// The claim is the term of one bit, whether all bits are equal.
-fn comp_check(kept: &Kept, x: u32, y: u32, claim: u32) -> Verdict
-    requires { Two kept.now x y claim }
-    ensures { verdict_of result ≡ compare held
-        (bb (equality term_gates (kept_bits kept.now x) (kept_bits kept.now y) ∷ []))
-        (kept_term kept.now claim) }
-{
-    let w = width_at(kept, x);
-    let xs = get_term_bits(kept, x, w);
-    let ys = get_term_bits(kept, y, w);
-    let bits = [circuits::compare::equality(&kept.lookup, xs, ys, w); MAX_BITS];
-    compare_bits(&kept.lookup, bits, 1, claim)
+#[derive(Clone, Copy)]
+struct Comparison;
+
+impl Binary for Comparison {
+    ghost kind = { BvComp };
+
+    ghost verdict = { λ s x y claim. compare held
+        (bb (equality term_gates (get_term_bits x) (get_term_bits y) ∷ [])) claim };
+
+    ghost asks = { λ ss. refl };
+
+    fn operands(term: Term) -> Option<(u32, u32)> {
+        let Term::BvComp(x, y) = term else {
+            return None;
+        };
+        Some((x, y))
+    }
+
+    // The claim is the term of one bit, whether all bits are equal.
+    fn check(self, kept: &Kept, x: u32, y: u32, claim: u32) -> Verdict {
+        let w = width_at(kept, x);
+        let xs = get_term_bits(kept, x, w);
+        let ys = get_term_bits(kept, y, w);
+        let bit = circuits::compare::equality(&kept.lookup, &xs, &ys);
+        crate::compare(kept.lookup.bb_term(&[bit]), claim)
+    }
 }
 
 // comp: (= (bvcomp x y) claim).
@@ -36,13 +51,7 @@ pub fn comp(kept: &Kept, literal: u32) -> Verdict
     requires { literal < first_terms + kept.now.lookup.rows }
     ensures { verdict_of result ≡ verdict by_comp (kept_term kept.now literal) }
 {
-    let Term::Equals(l, r) = kept.term_at(literal) else {
-        return Verdict::WrongForm;
-    };
-    let Term::BvComp(x, y) = kept.term_at(l) else {
-        return Verdict::WrongForm;
-    };
-    comp_check(kept, x, y, r)
+    binary_rule(Comparison, kept, literal)
 }
 
 // The claim is whether all bits of x and y are equal.
@@ -58,7 +67,7 @@ fn equality_check(kept: &Kept, x: u32, y: u32, claim: u32) -> Verdict
     let w = width as usize;
     let xs = get_term_bits(kept, x, w);
     let ys = get_term_bits(kept, y, w);
-    crate::compare(circuits::compare::equality(&kept.lookup, xs, ys, w), claim)
+    crate::compare(circuits::compare::equality(&kept.lookup, &xs, &ys), claim)
 }
 
 // equality: (= (= x y) claim).

@@ -24,9 +24,7 @@ fn var_check(kept: &Kept, x: u32, claim: u32) -> Verdict
     let Sort::Bv(width) = kept.sort_at(x) else {
         return Verdict::NotBitVector;
     };
-    let w = width as usize;
-    let bits = get_term_bits(kept, x, w);
-    compare_bits(&kept.lookup, bits, w, claim)
+    compare_bits(&kept.lookup, &get_term_bits(kept, x, width as usize), claim)
 }
 
 // var: (= x claim).

@@ -1,5 +1,5 @@
 -- The operations on machine numbers are theory's. Each law is read as: what the code computes ≡ the definition.
-use Rattle.std.proofs.Common.{◌≡◌, ℕ, ◌+◌, ◌-◌, ◌*◌, ◌/◌, ◌%◌, ◌^◌, ◌<◌, ◌≤◌, Bool, true, false, cond, sym, ap, ◌∙◌, subst, ap₂, mod-eq_of_lt, mul-le-mul, div-add-mod', sub-add_cancel, arith, pow_pos, pow_mono, shr_lt, le-ltb, lt-ltb, eq-eqb, ne_eqb}
+use Rattle.std.proofs.Common.{◌≡◌, ℕ, ◌+◌, ◌-◌, ◌*◌, ◌/◌, ◌%◌, ◌^◌, ◌<◌, ◌≤◌, Bool, true, false, cond, sym, ap, ◌∙◌, subst, ap₂, mod-eq_of_lt, sub-add_cancel, arith, pow_pos, pow_mono, shr_lt, le-ltb, lt-ltb, eq-eqb, ne_eqb}
 use native.Mathlib.Nat.{mod_self}
 use lib.Bits.{bit_and, bit_xor, and_mask, xor_lt}
 use lib.Pow.{ones_split, ones_lt, high, mod-mod-pow}
@@ -55,13 +55,13 @@ xnor_is n x y r e = ap (λ (z : ℕ). z - bit_xor x y) e
 pub xor_le : (n x y r : ℕ) → r ≡ 2 ^ n - 1 → x < 2 ^ n → y < 2 ^ n → bit_xor x y ≤ r
 xor_le n x y r e h k = omega (arith, xor_lt n x y h k)
 
-pub add_is : (n x y s r : ℕ) → n ≤ 64 → s ≡ (x + y) % 18446744073709551616 → r ≡ s % 2 ^ n → r ≡ add_n n x y
+pub add_is : (n x y : ℕ) {r : ℕ} → n ≤ 64 → r ≡ (x + y) % 18446744073709551616 % 2 ^ n → r ≡ add_n n x y
 unfolding add_n
-add_is n x y s r h e f = f ∙ ap (λ (z : ℕ). z % 2 ^ n) e ∙ low_low n (x + y) h
+add_is n x y h e = e ∙ low_low n (x + y) h
 
-pub mul_is : (n x y s r : ℕ) → n ≤ 64 → s ≡ (x * y) % 18446744073709551616 → r ≡ s % 2 ^ n → r ≡ mul_n n x y
+pub mul_is : (n x y : ℕ) {r : ℕ} → n ≤ 64 → r ≡ (x * y) % 18446744073709551616 % 2 ^ n → r ≡ mul_n n x y
 unfolding mul_n
-mul_is n x y s r h e f = f ∙ ap (λ (z : ℕ). z % 2 ^ n) e ∙ low_low n (x * y) h
+mul_is n x y h e = e ∙ low_low n (x * y) h
 
 pub shl_is : (n x y r : ℕ) → n ≤ 64 → y < n → r ≡ (x * 2 ^ y) % 18446744073709551616 % 2 ^ n → r ≡ shl_n n x y
 unfolding shl_n
@@ -131,31 +131,3 @@ pub ashr_fits : (n x y r s : ℕ) → n ≤ 64 → y ≤ n → x < 2 ^ n → r �
 ashr_fits n x y r s h l b f g =
     let a : x / 2 ^ y < 2 ^ (n - y) = shr_lt (n - y) y (rw (sub-add_cancel l) b) in
     omega (arith, a, pow_64 n h, pow_mono {i = n - y} {j = n} (omega arith), pow_pos (n - y))
-
--- ---- the product of two numbers by their halves
-half_products : (a b c d : ℕ)
-    → ((a * 4294967296 + b) * (c * 4294967296 + d)) % 18446744073709551616
-    ≡ (b * d + (a * d % 4294967296 + b * c % 4294967296) % 4294967296 * 4294967296) % 18446744073709551616
-half_products a b c d =
-    let m = a * d + b * c in
-    let e : (a * 4294967296 + b) * (c * 4294967296 + d) ≡ 18446744073709551616 * (a * c) + 4294967296 * m + b * d = omega arith in
-    let f : (a * d % 4294967296 + b * c % 4294967296) % 4294967296 ≡ m % 4294967296 = omega arith in
-    whole (a * c) m (b * d) _ _ e f
-  where
-    whole : (k m z p q : ℕ) → p ≡ 18446744073709551616 * k + 4294967296 * m + z → q ≡ m % 4294967296
-        → p % 18446744073709551616 ≡ (z + q * 4294967296) % 18446744073709551616
-    whole k m z p q e f = omega arith
-
-pub product_is : (x y r : ℕ)
-    → r ≡ ((x % 4294967296) * (y % 4294967296) + ((x / 4294967296) * (y % 4294967296) % 4294967296 + (x % 4294967296) * (y / 4294967296) % 4294967296) % 4294967296 * 4294967296) % 18446744073709551616
-    → r ≡ (x * y) % 18446744073709551616
-product_is x y r e =
-    e ∙ sym (half_products (x / 4294967296) (x % 4294967296) (y / 4294967296) (y % 4294967296))
-    ∙ ap₂ (λ (a b : ℕ). (a * b) % 18446744073709551616) (div-add-mod' x 4294967296) (div-add-mod' y 4294967296)
-
--- the product of two halves fits
-pub halves_fit : {a b : ℕ} → a < 4294967296 → b < 4294967296 → a * b < 18446744073709551616
-halves_fit {a} {b} h k = omega (arith, mul-le-mul (le_pred a h) (le_pred b k))
-  where
-    le_pred : (z : ℕ) → z < 4294967296 → z ≤ 4294967295
-    le_pred z l = omega arith

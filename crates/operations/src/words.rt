@@ -27,18 +27,6 @@ pub fn bit(i: u32, x: u64) -> bool
     (x >> i) % 2 == 1
 }
 
-// The product modulo 2^64: of the upper halves only the parts that stay below 2^64 count.
-pub fn wrapping_mul(x: u64, y: u64) -> u64
-    ensures { result ≡ (x * y) % 2 ^ 64 }
-{
-    let xl = x % 4294967296;
-    let xh = x / 4294967296;
-    let yl = y % 4294967296;
-    let yh = y / 4294967296;
-    let upper = (xh * yl % 4294967296 + xl * yh % 4294967296) % 4294967296;
-    std::num::wrapping_add_u64(xl * yl, upper * 4294967296)
-}
-
 pub fn not_n(n: u32, x: u64) -> u64
     requires { Fits n x }
     ensures { result ≡ not_n n x }
@@ -67,21 +55,21 @@ pub fn add_n(n: u32, x: u64, y: u64) -> u64
     requires { Wide n }
     ensures { result ≡ add_n n x y }
 {
-    low(n, std::num::wrapping_add_u64(x, y))
+    low(n, x.wrapping_add(y))
 }
 
 pub fn mul_n(n: u32, x: u64, y: u64) -> u64
     requires { Wide n }
     ensures { result ≡ mul_n n x y }
 {
-    low(n, wrapping_mul(x, y))
+    low(n, x.wrapping_mul(y))
 }
 
 pub fn shl_n(n: u32, x: u64, y: u64) -> u64
     requires { Wide n }
     ensures { result ≡ shl_n n x y }
 {
-    if y < n as u64 {
+    if y < u64::from(n) {
         return low(n, x << y);
     }
     0
@@ -91,7 +79,7 @@ pub fn lshr_n(n: u32, x: u64, y: u64) -> u64
     requires { Wide n }
     ensures { result ≡ lshr_n n x y }
 {
-    if y < n as u64 {
+    if y < u64::from(n) {
         return x >> y;
     }
     0
@@ -102,7 +90,7 @@ pub fn ashr_n(n: u32, x: u64, y: u64) -> u64
     ensures { result ≡ ashr_n n x y }
 {
     let top = bit(n - 1, x);
-    if y < n as u64 {
+    if y < u64::from(n) {
         let s = x >> y;
         if top {
             return s + (ones(n) - ones(n - y as u32));

@@ -15,7 +15,7 @@ use Rattle.theory.specs.Plain.{Plain}
 use Rattle.theory.specs.Places.{tree_at}
 use Rattle.store.specs.Store.{listed}
 use Rattle.sweeps.specs.Variables.{bits_in}
-use Rattle.sweeps.specs.Known.{Known, of_byte}
+use Rattle.sweeps.specs.Known.{Known, known_byte, of_byte}
 use Rattle.sweeps.specs.Calls.{cell_bytes}
 use Rattle.marks.specs.Marks.{mark_of, Next}
 use Rattle.marks.proofs.Threading.{jump}
@@ -68,16 +68,16 @@ module _ {job work : Bytes} {n : ℕ} {inputs : Bytes} {asked : ℕ} {values : B
         to false y u = w p (u refl)
 
     -- a Bool's bit is stored
-    pub know_turn : T (mark_of job work k) → {w : ℕ} → w ≡ sort_width (sort_of (tree_at (listed job work n) k)) → w ≡ 0 → {v : ℕ} {after : Bytes} → v < 18446744073709551616
-        → KnownOn (listed job work n) job work inputs now k v → after ≡ stored_cell now k v → Knowing job work n inputs asked values after (k + 1)
-    know_turn t d y {v} {after} f g e = subst (λ (m : Bytes). Knowing job work n inputs asked values m (k + 1)) (sym e) (record {
+    pub know_turn : T (mark_of job work k) → {w : ℕ} → w ≡ sort_width (sort_of (tree_at (listed job work n) k)) → w ≡ 0 → {b : Known} {v : ℕ} {after : Bytes} → v < 18446744073709551616
+        → KnownOn (listed job work n) job work inputs now k b → v ≡ known_byte b → after ≡ stored_cell now k v → Knowing job work n inputs asked values after (k + 1)
+    know_turn t d y {b} {v} {after} f g said e = subst (λ (m : Bytes). Knowing job work n inputs asked values m (k + 1)) (sym e) (record {
       ready = s.ready;
       most = omega arith;
       length_is = length_cell now k v know_cell ∙ s.length_is;
       above = λ p h. cell_other now k v know_cell p (λ z. absurd (omega arith)) ∙ s.above p (omega arith);
       sound = λ input o. by_place (λ p. p < k + 1 → T (mark_of job work p) → Tells input (listed job work n) inputs (stored_cell now k v) p)
           (λ h m. record {
-            bool_is = λ z. cell_here now k v know_cell f ∙ g input (s.sound input o) (λ i. offset_moved (s.above k (omega arith)) (o k list_low m i));
+            bool_is = λ z. cell_here now k v know_cell f ∙ said ∙ ap known_byte (g input (s.sound input o) (λ i. offset_moved (s.above k (omega arith)) (o k list_low m i)));
             variable_is = λ z. absurd (z (sym d ∙ y));
           })
           (λ p q h m. tells_moved (cell_other now k v know_cell p q) (s.sound input o p (lower p h q) m));
@@ -94,9 +94,6 @@ module _ {job work : Bytes} {n : ℕ} {inputs : Bytes} {asked : ℕ} {values : B
           (λ h m. record { bool_is = λ z. absurd (b m z); variable_is = λ z i. offset_moved (s.above k (omega arith)) (o k list_low m i) })
           (λ p q h m. s.sound input o p (lower p h q) m);
     }
-
-  pub know_same : {now after : Bytes} {k : ℕ} → after ≡ now → Knowing job work n inputs asked values now k → Knowing job work n inputs asked values after k
-  know_same {k = k} e r = subst (λ (z : Bytes). Knowing job work n inputs asked values z k) (sym e) r
 
   -- on to the next marked place
   pub know_next : {now : Bytes} {k q : ℕ} → Knowing job work n inputs asked values now (k + 1) → Next job work asked k q → Knowing job work n inputs asked values now q

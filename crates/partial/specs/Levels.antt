@@ -15,5 +15,6 @@ pub record BitLevel (list : Plain) (job work : Bytes) (n asked : ℕ) (r : Bool)
   pub is : r ≡ bit_level (tree_at list asked)
   pub kinds : r ≡ true → (p : ℕ) → p < first_terms + n → T (mark_of job work p) → T (bit_kind_in (tree_at list p))
 
+-- the same of the asked term
 abbrev pub IsBitLevel : Asked → Bool → Type 0
 IsBitLevel k = BitLevel (kept_terms k.terms) k.terms.job.now k.terms.work.now k.terms.rows k.place

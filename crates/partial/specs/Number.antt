@@ -35,8 +35,10 @@ unfoldable pub derived_number : Plain → ℕ → ℕ → Bytes → ℕ → Deri
 derived_number list number values inputs output =
     derived list (at_place list number) inputs (first_fault (known_tests list (at_place list number) values inputs output))
 
+-- the same of the asked term
 abbrev pub IsDerivable : Asked → Bytes → ℕ → Bool → Type 0
 IsDerivable k = Derivable (kept_terms k.terms) k.terms.job.now k.terms.work.now k.terms.rows k.place
 
+-- the asked term's bits are given
 abbrev pub IsAccepted : Asked → Bytes → Bytes → Bytes → Type 0
 IsAccepted k values = Accepted k.terms.job.now k.terms.work.now k.terms.rows values k.place

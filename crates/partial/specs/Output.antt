@@ -32,8 +32,10 @@ pub record Wrote (list : Plain) (job work inputs values : Bytes) (asked bits : �
   pub holds : (input : Term → List Known) → Sound input list job work inputs values (suc asked)
       → Holds (byte_of input (tree_at list asked)) bits outputs after
 
+-- so many bits of the term at a place may be written
 abbrev pub MayWrite : KnownBits → ℕ → ℕ → Bytes → Type 0
 MayWrite k = Output k.terms.job.now k.terms.work.now k.terms.rows
 
+-- they were
 abbrev pub HasWritten : KnownBits → ℕ → ℕ → Bytes → Bytes → Type 0
 HasWritten k = Wrote (kept_terms k.terms) k.terms.job.now k.terms.work.now k.inputs.now k.values.now

@@ -29,8 +29,10 @@ pub record Passed (list : Plain) (job work inputs : Bytes) (asked : ℕ) (values
   pub length_is : length after ≡ length values
   pub sound : (input : Term → List Known) → Offsets input list job work inputs values → Sound input list job work inputs after (suc asked)
 
+-- the asked term's Bools may be passed over in that buffer
 abbrev pub ReadyIn : Asked → Bytes → Type 0
 ReadyIn k values = Ready k.terms.job.now k.terms.work.now k.terms.rows values k.place
 
+-- they were, and the buffer is after it
 abbrev pub PassedIn : Asked → Bytes → Bytes → Bytes → Type 0
 PassedIn k inputs = Passed (kept_terms k.terms) k.terms.job.now k.terms.work.now inputs k.place

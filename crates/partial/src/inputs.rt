@@ -8,19 +8,18 @@ use digits::variable_bits;
 use evaluation::cells::put_cell;
 use marks::Asked;
 
-// Stores in the cell of each variable that stands in the asked term where its bits begin, the lowest number first.
+// Stores in the cell of each variable that stands in the asked term where its bits begin, the
+// lowest number first.
 pub fn place_inputs(asked: &Asked, values: &mut [u8])
     requires { cell_bytes * length (kept_terms asked.now.terms) ≤ length values.old }
     ensures { InputsPlaced (kept_terms asked.now.terms) asked.now.place values.old values.new }
 {
     let mut at: u64 = 0;
-    let mut k: u32 = 0;
-    while k <= asked.place {
+    for k in asked.places() {
         let b = variable_bits(&asked.terms, k);
         if b != 0 {
             put_cell(values, k, at);
-            at += b as u64;
+            at += u64::from(b);
         }
-        k = asked.next_marked(k);
     }
 }

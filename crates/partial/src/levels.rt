@@ -8,12 +8,10 @@ use ternary::kinds::is_bit_kind;
 pub fn is_bit_level(asked: &Asked) -> bool
     ensures { IsBitLevel asked.now result }
 {
-    let mut k: u32 = 0;
-    while k <= asked.place {
+    for k in asked.places() {
         if !is_bit_kind(&asked.terms, k) {
             return false;
         }
-        k = asked.next_marked(k);
     }
     true
 }

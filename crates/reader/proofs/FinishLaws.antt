@@ -4,10 +4,11 @@ use mathlib.Core.Bool.{Bool, true, false, cond}
 use mathlib.Core.Logic.{◌⊎◌, inl, inr}
 use mathlib.Core.List.{List, [], ◌∷◌}
 use Rattle.std.specs.Prelude as rust
+use Rattle.std.specs.Borrow.{Bor}
 use Rattle.std.specs.Prelude.{Option, None as none, Some as some}
 use Prim.Native.Nat.{ℕ, suc, ◌<◌, ◌≤◌}
 use native.Mathlib.Omega.{arith}
-use lib.ListN.{length, take, drop}
+use lib.ListN.{length, take}
 use lib.Seq.{length-take-le}
 use borrow.Author.Tests.{ne_eqb}
 use Rattle.theory.specs.Limit.{first_terms}
@@ -62,13 +63,13 @@ pub count_is : (numbers : List ℕ) (count : ℕ) → count ≤ length numbers �
 count_is numbers count h = length-take-le count numbers h
 
 -- what was put, with what is left of the line
-module _ {line old new work : Bytes} {from : Spot} {next : ℕ} (h : next ≤ length line) (o : Op) where
+module _ {old new work : Bytes} {from : Spot} {rest : Bor Bytes} (o : Op) where
   pub finish_reads : (ks : List ℕ) {r : rust.Option Put} {p : Put} → takes (arity o) (length ks) ≡ true
       → Puts old new work from (put_term (length old) o (placed_all ks (so_far old from))) r → r ≡ rust.Some p
-      → Reads line old new work from (finish (length old) o (got_all ks (drop next line) (so_far old from))) (rust.Some (record { next = next; number = p.number; spot = p.spot }))
-  finish_reads ks {r} {p} t g e = reads_some (finish_put (length old) o ks (drop next line) (so_far old from) t (read_some g e)) (h, g.fits p e)
+      → Reads old new work from (finish (length old) o (got_all ks rest.now (so_far old from))) (rust.Some (record { rest = rest; number = p.number; spot = p.spot }))
+  finish_reads ks {r} {p} t g e = reads_some (finish_put (length old) o ks rest.now (so_far old from) t (read_some g e)) (g.fits p e)
 
   pub leaf_reads : {r : rust.Option Put} {p : Put}
       → Puts old new work from (put_term (length old) o (placed_all [] (so_far old from))) r → r ≡ rust.Some p
-      → Reads line old new work from (leaf_write (length old) o (drop next line) (so_far old from)) (rust.Some (record { next = next; number = p.number; spot = p.spot }))
-  leaf_reads {r} {p} g e = reads_some (leaf_put (length old) o [] (drop next line) (so_far old from) (read_some g e)) (h, g.fits p e)
+      → Reads old new work from (leaf_write (length old) o rest.now (so_far old from)) (rust.Some (record { rest = rest; number = p.number; spot = p.spot }))
+  leaf_reads {r} {p} g e = reads_some (leaf_put (length old) o [] rest.now (so_far old from) (read_some g e)) (g.fits p e)

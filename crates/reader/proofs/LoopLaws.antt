@@ -3,14 +3,14 @@ use mathlib.Core.Path.{◌≡◌, refl, sym, ap, subst, ◌∙◌}
 use mathlib.Core.Bool.{Bool, true, false, ◌&&◌, cond}
 use mathlib.Core.List.{List, [], ◌∷◌, ◌++◌, append_assoc, append-nil}
 use Rattle.std.specs.Prelude as rust
-use Rattle.std.specs.Prelude.{Option, None as none, Some as some, Result, Ok, Err}
-use Rattle.std.specs.Result.{OkIff, result_ok}
+use Rattle.std.specs.Borrow.{Bor}
+use Rattle.std.specs.Prelude.{Option, None as none, Some as some}
 use Prim.Native.Nat.{ℕ, suc, ◌+◌, ◌-◌, ◌<◌, ◌≤◌}
 use native.Mathlib.Omega.{arith}
 use native.Mathlib.Numerals.{add-one}
 use lib.Dec.{ltb}
 use borrow.Author.Tests.{lt-ltb, le-ltb}
-use lib.ListN.{length, take, drop, set, length-set}
+use lib.ListN.{length, take, set, length-set}
 use lib.Seq.{take-suc-set}
 use Rattle.theory.specs.Limit.{max_arguments}
 use Rattle.theory.specs.Record.{Bytes}
@@ -25,11 +25,6 @@ use Rattle.reader.specs.Reader.{Got, got, GotAll, got_all, read_write, read_writ
 use Rattle.words.proofs.ReadLaws.{read_none, read_some, reads_some}
 use Rattle.writer.proofs.Moves.{moved_none, moved_on}
 use Rattle.reader.proofs.ReaderLaws.{none_more, too_many, one_more}
-
--- ---- a number that has more than two bytes
-pub not_two_bytes : {E P : Type 0} (k : ℕ) (r : Result ℕ E) {q : Option ℕ} → OkIff r P k → q ≡ result_ok r → q ≡ none → P → ⊥
-not_two_bytes k (Ok x) h e f p = absurd cc
-not_two_bytes k (Err x) h e f p = h p
 
 -- ---- the loop
 before_nothing : (q : Option GotAll) → before [] q ≡ q
@@ -60,23 +55,21 @@ never_fits : (ks : List ℕ) (k : ℕ) (q : Option GotAll) → number_end ≤ k 
 never_fits ks k none h = refl
 never_fits ks k (some g) h = ap (λ (b : Bool). cond b (some (got_all (ks ++ (k ∷ []) ++ g.numbers) g.rest g.job)) none) (not_below ks k g.numbers h)
 
-pub record Going (line old out work₀ work : Bytes) (from : Spot) (vars : List Declared) (n at : ℕ) (numbers : List ℕ) (count next : ℕ) (s : Spot) : Type 0 where
+pub record Going (bs old out work₀ work : Bytes) (from : Spot) (vars : List Declared) (n : ℕ) (numbers : List ℕ) (count : ℕ) (rest : Bytes) (s : Spot) : Type 0 where
   pub few : count ≤ max_arguments
   pub long : length numbers ≡ max_arguments
-  pub inside : next ≤ length line
   pub same_out : length out ≡ length old
   pub same_work : length work ≡ length work₀
   pub moved : Moved old out work from s
   pub fit : all_below number_end (take count numbers) ≡ true
-  pub leads : read_write_all n vars (length old) max_arguments (drop at line) (so_far old from)
-      ≡ before (take count numbers) (read_write_all n vars (length old) (max_arguments - count) (drop next line) (so_far out s))
+  pub leads : read_write_all n vars (length old) max_arguments bs (so_far old from)
+      ≡ before (take count numbers) (read_write_all n vars (length old) (max_arguments - count) rest (so_far out s))
 
-pub goes : {line out work : Bytes} {s : Spot} {vars : List Declared} {n at : ℕ} {numbers : List ℕ} → Ready out work s → at ≤ length line → length numbers ≡ max_arguments
-    → Going line out out work work s vars n at numbers 0 at s
-goes {line} {out} {work} {s} {vars} {n} {at} {numbers} r h l = record {
+pub goes : {bs out work : Bytes} {s : Spot} {vars : List Declared} {n : ℕ} {numbers : List ℕ} → Ready out work s → length numbers ≡ max_arguments
+    → Going bs out out work work s vars n numbers 0 bs s
+goes {bs} {out} {work} {s} {vars} {n} {numbers} r l = record {
   few = omega arith;
   long = l;
-  inside = h;
   same_out = refl;
   same_work = refl;
   moved = moved_none r;
@@ -84,24 +77,24 @@ goes {line} {out} {work} {s} {vars} {n} {at} {numbers} r h l = record {
   leads = sym (before_nothing _);
 }
 
-module _ {line old out work₀ work : Bytes} {from : Spot} {vars : List Declared} {n at : ℕ} {numbers : List ℕ} {count next : ℕ} {s : Spot}
-    (g : Going line old out work₀ work from vars n at numbers count next s) where
+module _ {bs old out work₀ work : Bytes} {from : Spot} {vars : List Declared} {n : ℕ} {numbers : List ℕ} {count : ℕ} {rest : Bytes} {s : Spot}
+    (g : Going bs old out work₀ work from vars n numbers count rest s) where
   abbrev pub whole : Option GotAll
-  whole = read_write_all n vars (length old) max_arguments (drop at line) (so_far old from)
+  whole = read_write_all n vars (length old) max_arguments bs (so_far old from)
 
   -- one more argument is read
-  next_leads : {out' work' : Bytes} {r : rust.Option Read} {t : Read} → after right (drop next line) ≡ none → count < max_arguments
-      → Reads line out out' work' s (read_write n vars (length out) (drop next line) (so_far out s)) r → r ≡ rust.Some t
-      → whole ≡ before (take count numbers ++ (t.number ∷ [])) (read_write_all n vars (length old) (max_arguments - (count + 1)) (drop t.next line) (so_far out' t.spot))
+  next_leads : {out' work' : Bytes} {r : rust.Option Read} {t : Read} → after right rest ≡ none → count < max_arguments
+      → Reads out out' work' s (read_write n vars (length out) rest (so_far out s)) r → r ≡ rust.Some t
+      → whole ≡ before (take count numbers ++ (t.number ∷ [])) (read_write_all n vars (length old) (max_arguments - (count + 1)) t.rest.now (so_far out' t.spot))
   next_leads {out'} {work'} {r} {t} c f h e =
       let m : max_arguments - count ≡ suc (max_arguments - (count + 1)) = omega arith in
-      let q : read_write n vars (length old) (drop next line) (so_far out s) ≡ some (got t.number (drop t.next line) (so_far out' t.spot))
-      = ap (λ (z : ℕ). read_write n vars z (drop next line) (so_far out s)) (sym g.same_out) ∙ read_some h e in
+      let q : read_write n vars (length old) rest (so_far out s) ≡ some (got t.number t.rest.now (so_far out' t.spot))
+      = ap (λ (z : ℕ). read_write n vars z rest (so_far out s)) (sym g.same_out) ∙ read_some h e in
       g.leads
-      ∙ ap (λ (z : ℕ). before (take count numbers) (read_write_all n vars (length old) z (drop next line) (so_far out s))) m
-      ∙ ap (before (take count numbers)) (one_more vars (length old) n (max_arguments - (count + 1)) (drop next line) (so_far out s) c)
+      ∙ ap (λ (z : ℕ). before (take count numbers) (read_write_all n vars (length old) z rest (so_far out s))) m
+      ∙ ap (before (take count numbers)) (one_more vars (length old) n (max_arguments - (count + 1)) rest (so_far out s) c)
       ∙ ap (λ (z : Option Got). before (take count numbers) (bind z (λ x. before (x.number ∷ []) (read_write_all n vars (length old) (max_arguments - (count + 1)) x.rest x.job)))) q
-      ∙ before_before (take count numbers) t.number (read_write_all n vars (length old) (max_arguments - (count + 1)) (drop t.next line) (so_far out' t.spot))
+      ∙ before_before (take count numbers) t.number (read_write_all n vars (length old) (max_arguments - (count + 1)) t.rest.now (so_far out' t.spot))
 
   one_longer : count < max_arguments → (k : ℕ) → take (count + 1) (set numbers count k) ≡ take count numbers ++ (k ∷ [])
   one_longer f k =
@@ -109,10 +102,10 @@ module _ {line old out work₀ work : Bytes} {from : Spot} {vars : List Declared
       ap (λ (j : ℕ). take j (set numbers count k)) (add-one count) ∙ take-suc-set numbers count k (omega arith)
 
   -- its number fits
-  pub goes_on : {out' work' : Bytes} {r : rust.Option Read} {t : Read} → after right (drop next line) ≡ none → count < max_arguments
-      → Reads line out out' work' s (read_write n vars (length out) (drop next line) (so_far out s)) r → r ≡ rust.Some t → {k : ℕ} → (t.number < number_end) × (k ≡ t.number)
+  pub goes_on : {out' work' : Bytes} {r : rust.Option Read} {t : Read} → after right rest ≡ none → count < max_arguments
+      → Reads out out' work' s (read_write n vars (length out) rest (so_far out s)) r → r ≡ rust.Some t → {k : ℕ} → (t.number < number_end) × (k ≡ t.number)
       → length out' ≡ length out → length work' ≡ length work
-      → Going line old out' work₀ work' from vars n at (set numbers count k) (count + 1) t.next t.spot
+      → Going bs old out' work₀ work' from vars n (set numbers count k) (count + 1) t.rest.now t.spot
   goes_on {out'} {work'} {r} {t} c f h e {k} b lo lw =
       let fits = h.fits t e in
       let long = g.long in
@@ -121,50 +114,49 @@ module _ {line old out work₀ work : Bytes} {from : Spot} {vars : List Declared
       record {
         few = omega arith;
         long = length-set numbers count k ∙ long;
-        inside = fits.0;
         same_out = lo ∙ so;
         same_work = lw ∙ sw;
-        moved = moved_on g.moved fits.1;
+        moved = moved_on g.moved fits;
         fit = ap (all_below number_end) longer ∙ below_snoc (take count numbers) t.number g.fit b.0;
         leads = next_leads c f h e
-            ∙ ap (λ (l : List ℕ). before l (read_write_all n vars (length old) (max_arguments - (count + 1)) (drop t.next line) (so_far out' t.spot))) (sym longer);
+            ∙ ap (λ (l : List ℕ). before l (read_write_all n vars (length old) (max_arguments - (count + 1)) t.rest.now (so_far out' t.spot))) (sym longer);
       }
     where
       longer : take (count + 1) (set numbers count k) ≡ take count numbers ++ (t.number ∷ [])
       longer = one_longer f k ∙ ap (λ (j : ℕ). take count numbers ++ (j ∷ [])) b.1
 
   -- it does not fit
-  pub goes_large : {out' work' : Bytes} {r : rust.Option Read} {t : Read} → after right (drop next line) ≡ none → count < max_arguments
-      → Reads line out out' work' s (read_write n vars (length out) (drop next line) (so_far out s)) r → r ≡ rust.Some t → number_end ≤ t.number → fitting whole ≡ none
+  pub goes_large : {out' work' : Bytes} {r : rust.Option Read} {t : Read} → after right rest ≡ none → count < max_arguments
+      → Reads out out' work' s (read_write n vars (length out) rest (so_far out s)) r → r ≡ rust.Some t → number_end ≤ t.number → fitting whole ≡ none
   goes_large {out'} {work'} {r} {t} c f h e b =
-      ap fitting (next_leads c f h e) ∙ never_fits (take count numbers) t.number (read_write_all n vars (length old) (max_arguments - (count + 1)) (drop t.next line) (so_far out' t.spot)) b
+      ap fitting (next_leads c f h e) ∙ never_fits (take count numbers) t.number (read_write_all n vars (length old) (max_arguments - (count + 1)) t.rest.now (so_far out' t.spot)) b
 
   -- no more arguments
-  pub goes_out : {a m : ℕ} → after right (drop next line) ≡ some (drop a line) → a ≤ length line → count ≡ m
-      → Lists line old out work from (fitting whole) (rust.Some (record { next = a; count = m; numbers = numbers; spot = s }))
-  goes_out {a} c h e = subst (λ (m : ℕ). Lists line old out work from (fitting whole) (rust.Some (record { next = a; count = m; numbers = numbers; spot = s }))) e
+  pub goes_out : {a : Bor Bytes} {m : ℕ} → after right rest ≡ some a.now → count ≡ m
+      → Lists old out work from (fitting whole) (rust.Some (record { rest = a; count = m; numbers = numbers; spot = s }))
+  goes_out {a} c e = subst (λ (m : ℕ). Lists old out work from (fitting whole) (rust.Some (record { rest = a; count = m; numbers = numbers; spot = s }))) e
       (reads_some
-      (ap fitting (g.leads ∙ ap (before (take count numbers)) (none_more vars (length old) n (max_arguments - count) (drop next line) (so_far out s) (drop a line) c)
-      ∙ ap (λ (l : List ℕ). some (got_all l (drop a line) (so_far out s))) (append-nil (take count numbers)))
-      ∙ ap (λ (b : Bool). cond b (some (got_all (take count numbers) (drop a line) (so_far out s))) none) g.fit)
-      (g.few, h, g.moved))
+      (ap fitting (g.leads ∙ ap (before (take count numbers)) (none_more vars (length old) n (max_arguments - count) rest (so_far out s) a.now c)
+      ∙ ap (λ (l : List ℕ). some (got_all l a.now (so_far out s))) (append-nil (take count numbers)))
+      ∙ ap (λ (b : Bool). cond b (some (got_all (take count numbers) a.now (so_far out s))) none) g.fit)
+      (g.few, g.moved))
 
   -- too many
-  pub goes_over : after right (drop next line) ≡ none → count ≡ max_arguments → fitting whole ≡ none
+  pub goes_over : after right rest ≡ none → count ≡ max_arguments → fitting whole ≡ none
   goes_over c e =
       let m : max_arguments - count ≡ 0 = omega arith in
       ap fitting
-      (g.leads ∙ ap (λ (z : ℕ). before (take count numbers) (read_write_all n vars (length old) z (drop next line) (so_far out s))) m
-      ∙ ap (before (take count numbers)) (too_many vars (length old) n (drop next line) (so_far out s) c))
+      (g.leads ∙ ap (λ (z : ℕ). before (take count numbers) (read_write_all n vars (length old) z rest (so_far out s))) m
+      ∙ ap (before (take count numbers)) (too_many vars (length old) n rest (so_far out s) c))
 
   -- one that is refused
-  pub goes_bad : {out' work' : Bytes} {r : rust.Option Read} → after right (drop next line) ≡ none → count < max_arguments
-      → Reads line out out' work' s (read_write n vars (length out) (drop next line) (so_far out s)) r → r ≡ rust.None → fitting whole ≡ none
+  pub goes_bad : {out' work' : Bytes} {r : rust.Option Read} → after right rest ≡ none → count < max_arguments
+      → Reads out out' work' s (read_write n vars (length out) rest (so_far out s)) r → r ≡ rust.None → fitting whole ≡ none
   goes_bad {out'} {work'} {r} c f h e =
       let m : max_arguments - count ≡ suc (max_arguments - (count + 1)) = omega arith in
       ap fitting
       (g.leads
-      ∙ ap (λ (z : ℕ). before (take count numbers) (read_write_all n vars (length old) z (drop next line) (so_far out s))) m
-      ∙ ap (before (take count numbers)) (one_more vars (length old) n (max_arguments - (count + 1)) (drop next line) (so_far out s) c)
+      ∙ ap (λ (z : ℕ). before (take count numbers) (read_write_all n vars (length old) z rest (so_far out s))) m
+      ∙ ap (before (take count numbers)) (one_more vars (length old) n (max_arguments - (count + 1)) rest (so_far out s) c)
       ∙ ap (λ (z : Option Got). before (take count numbers) (bind z (λ x. before (x.number ∷ []) (read_write_all n vars (length old) (max_arguments - (count + 1)) x.rest x.job))))
-      (ap (λ (z : ℕ). read_write n vars z (drop next line) (so_far out s)) (sym g.same_out) ∙ read_none h e))
+      (ap (λ (z : ℕ). read_write n vars z rest (so_far out s)) (sym g.same_out) ∙ read_none h e))

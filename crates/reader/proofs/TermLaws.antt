@@ -7,7 +7,7 @@ use Rattle.std.specs.Prelude.{Option, None as none, Some as some}
 use Prim.Native.Nat.{ℕ, suc, ◌-◌, ◌≤◌}
 use native.Mathlib.Omega.{arith}
 use native.Mathlib.Decide.{dec_le}
-use lib.ListN.{length, take, drop}
+use lib.ListN.{length, take}
 use Rattle.theory.specs.Limit.{first_terms, max_arguments}
 use Rattle.theory.specs.Kind.{Op, kind}
 use Rattle.theory.specs.Record.{Bytes}
@@ -55,16 +55,16 @@ module _ (vars : List Declared) (room : ℕ) (n : ℕ) (bs job : Bytes) (o : Op)
   at_none f h e = at_more f h ∙ ap (λ (q : Option GotAll). bind q (finish room o)) e
 
 -- a term whose arguments were read and written
-pub branch_reads : (vars : List Declared) (n : ℕ) (bs : Bytes) (o : Op) (rest : Bytes) {line old mid new work work' : Bytes} {from : Spot} {p : rust.Option list.List} {l : list.List} {r : rust.Option Read}
+pub branch_reads : (vars : List Declared) (n : ℕ) (bs : Bytes) (o : Op) (rest : Bytes) {old mid new work work' : Bytes} {from : Spot} {p : rust.Option list.List} {l : list.List} {r : rust.Option Read}
     → ((n ≡ 0) → ⊥) → head vars bs ≡ some (branch o rest)
-    → Lists line old mid work from (fitting (read_write_all (n - 1) vars (length old) max_arguments rest (so_far old from))) p → p ≡ rust.Some l
+    → Lists old mid work from (fitting (read_write_all (n - 1) vars (length old) max_arguments rest (so_far old from))) p → p ≡ rust.Some l
     → length mid ≡ length old
-    → Reads line mid new work' l.spot (finish (length mid) o (got_all (take l.count l.numbers) (drop l.next line) (so_far mid l.spot))) r
-    → Reads line old new work' from (read_write n vars (length old) bs (so_far old from)) r
-branch_reads vars n bs o rest {line} {old} {mid} {new} {work} {work'} {from} {p} {l} {r} f h g w e d = record {
+    → Reads mid new work' l.spot (finish (length mid) o (got_all (take l.count l.numbers) l.rest.now (so_far mid l.spot))) r
+    → Reads old new work' from (read_write n vars (length old) bs (so_far old from)) r
+branch_reads vars n bs o rest {old} {mid} {new} {work} {work'} {from} {p} {l} {r} f h g w e d = record {
   is = d.is
       ∙ sym (at_more vars (length old) n bs (so_far old from) o rest f h
       ∙ ap (λ (q : Option GotAll). bind q (finish (length old) o)) (read_some g w)
-      ∙ ap (λ (m : ℕ). finish m o (got_all (take l.count l.numbers) (drop l.next line) (so_far mid l.spot))) (sym e));
-  fits = λ t u. let f = d.fits t u in (f.0, moved_on (g.fits l w).2 f.1);
+      ∙ ap (λ (m : ℕ). finish m o (got_all (take l.count l.numbers) l.rest.now (so_far mid l.spot))) (sym e));
+  fits = λ t u. moved_on (g.fits l w).1 (d.fits t u);
 }

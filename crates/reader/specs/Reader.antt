@@ -1,5 +1,5 @@
 -- A term that is read and written at one time; its arguments.
-use Rattle.std.specs.Prelude.{◌≡◌, Bool, true, false, cond, List, [], ◌++◌, ℕ, ◌≤◌, length, take, drop}
+use Rattle.std.specs.Prelude.{◌≡◌, Bool, true, false, cond, List, [], ◌++◌, ℕ, ◌≤◌, length, take}
 use Rattle.std.specs.Prelude as rust
 use Rattle.std.specs.Prelude.{Option, None as none, Some as some}
 use Rattle.theory.specs.Limit.{max_arguments}
@@ -68,25 +68,21 @@ before ks p = bind p (λ g. some (got_all (ks ++ g.numbers) g.rest g.job))
 
 -- ---- what the code says
 -- a term was read and written, or refused
-abbrev pub told : Bytes → Bytes → Read → Got
-told line out r = got r.number (drop r.next line) (so_far out r.spot)
+abbrev pub told : Bytes → Read → Got
+told out r = got r.number r.rest.now (so_far out r.spot)
 
-abbrev pub read_moved : Bytes → Bytes → Bytes → Bytes → Spot → Read → Type 0
-read_moved line old new work from r = (r.next ≤ length line) × Moved old new work from r.spot
-
-abbrev pub Reads : Bytes → Bytes → Bytes → Bytes → Spot → Option Got → rust.Option Read → Type 0
-Reads line old new work from expected r = tables.Reads (told line new) (read_moved line old new work from) expected r
+abbrev pub Reads : Bytes → Bytes → Bytes → Spot → Option Got → rust.Option Read → Type 0
+Reads old new work from expected r = tables.Reads (told new) (λ r. Moved old new work from r.spot) expected r
 
 -- arguments were read and written, or refused
-abbrev pub told_list : Bytes → Bytes → list.List → GotAll
-told_list line out l = got_all (take l.count l.numbers) (drop l.next line) (so_far out l.spot)
+abbrev pub told_list : Bytes → list.List → GotAll
+told_list out l = got_all (take l.count l.numbers) l.rest.now (so_far out l.spot)
 
-abbrev pub list_moved : Bytes → Bytes → Bytes → Bytes → Spot → list.List → Type 0
-list_moved line old new work from l =
-    (l.count ≤ max_arguments) × (l.next ≤ length line) × Moved old new work from l.spot
+abbrev pub list_moved : Bytes → Bytes → Bytes → Spot → list.List → Type 0
+list_moved old new work from l = (l.count ≤ max_arguments) × Moved old new work from l.spot
 
-abbrev pub Lists : Bytes → Bytes → Bytes → Bytes → Spot → Option GotAll → rust.Option list.List → Type 0
-Lists line old new work from expected r = tables.Reads (told_list line new) (list_moved line old new work from) expected r
+abbrev pub Lists : Bytes → Bytes → Bytes → Spot → Option GotAll → rust.Option list.List → Type 0
+Lists old new work from expected r = tables.Reads (told_list new) (list_moved old new work from) expected r
 
 -- the arguments of a kind, whatever the numbers in it
 pub record Spanned (k : ℕ) (r : Span) : Type 0 where

@@ -1,5 +1,5 @@
 // A term's reader calls the reader of its arguments, which calls it again.
-ghost use Rattle.std.specs.Prelude.{◌≡◌, ◌≤◌, ◌<◌, length, take, drop};
+ghost use Rattle.std.specs.Prelude.{◌≡◌, ◌≤◌, ◌<◌, length, take};
 ghost use Rattle.theory.specs.Limit.{max_arguments};
 ghost use Rattle.theory.specs.Kind.{arity, takes};
 ghost use Rattle.names.specs.Kinds.{op_of, kinds_end, Known, declared_in};
@@ -12,19 +12,19 @@ use names::marks::right_after;
 use terms::Term;
 use writer::places::{Spot, put_term};
 
-// A term that was read and put: the place after it, its number, and where the job stands then.
+// A term that was read and put: what stands after it, its number, and where the job stands then.
 #[derive(Clone, Copy)]
-pub struct Read {
-    pub next: usize,
+pub struct Read<'a> {
+    pub rest: &'a [u8],
     pub number: usize,
     pub spot: Spot,
 }
 
-// Arguments that were read and put, and whose numbers fit into a record: the place after them,
+// Arguments that were read and put, and whose numbers fit into a record: what stands after them,
 // their numbers, and where the job stands then.
 #[derive(Clone, Copy)]
-pub struct List {
-    pub next: usize,
+pub struct List<'a> {
+    pub rest: &'a [u8],
     pub count: usize,
     pub numbers: [u16; Term::MAX_ARGUMENTS],
     pub spot: Spot,
@@ -64,119 +64,111 @@ fn allowed(kind: Kind, count: usize) -> bool
 }
 
 // Puts a term whose arguments are put, where its kind has so many.
-fn finish(line: &[u8], kind: Kind, list: List, out: &mut [u8], work: &mut [u8]) -> Option<Read>
-    requires inside { list.next ≤ length line.now }
-    requires ready { Ready out.old work.old list.spot }
+fn finish<'a>(kind: Kind, list: &List<'a>, out: &mut [u8], work: &mut [u8]) -> Option<Read<'a>>
+    requires ready { Ready out.old work.old list.now.spot }
     requires known { Known kind }
-    requires few { list.count ≤ max_arguments }
-    ensures { Reads line.now out.old out.new work.new list.spot
+    requires few { list.now.count ≤ max_arguments }
+    ensures { Reads out.old out.new work.new list.now.spot
         (finish (length out.old) (op_of kind)
-        (got_all (take list.count list.numbers) (drop list.next line.now)
-        (so_far out.old list.spot))) result }
+        (got_all (take list.now.count list.now.numbers) list.now.rest.now
+        (so_far out.old list.now.spot))) result }
 {
     if !allowed(kind, list.count) {
         return None;
     }
     let put = put_term(kind, &list.numbers[..list.count], out, work, list.spot)?;
     Some(Read {
-        next: list.next,
+        rest: list.rest,
         number: put.number,
         spot: put.spot,
     })
 }
 
-// Puts a term without arguments; `next` is the place after it.
-fn finish_leaf(
-    line: &[u8],
-    next: usize,
+// Puts a term without arguments; `rest` is what stands after it.
+fn finish_leaf<'a>(
+    rest: &'a [u8],
     kind: Kind,
     out: &mut [u8],
     work: &mut [u8],
     spot: Spot,
-) -> Option<Read>
-    requires inside { next ≤ length line.now }
+) -> Option<Read<'a>>
     requires ready { Ready out.old work.old spot }
     requires known { Known kind }
-    ensures { Reads line.now out.old out.new work.new spot
-        (leaf_write (length out.old) (op_of kind)
-        (drop next line.now) (so_far out.old spot)) result }
+    ensures { Reads out.old out.new work.new spot
+        (leaf_write (length out.old) (op_of kind) rest.now (so_far out.old spot)) result }
 {
     let put = put_term(kind, &[], out, work, spot)?;
     Some(Read {
-        next,
+        rest,
         number: put.number,
         spot: put.spot,
     })
 }
 
-// Reads the term at `at` of the line, nested no deeper than `nesting`, and puts it.
+// Reads the term that a line begins with, nested no deeper than `nesting`, and puts it.
 #[cycle(read_arguments_read_term)]
-pub fn read_term(
-    line: &[u8],
-    at: usize,
+pub fn read_term<'a>(
+    line: &'a [u8],
     nesting: usize,
     declarations: &[u8],
     out: &mut [u8],
     work: &mut [u8],
     spot: Spot,
-) -> Option<Read>
-    requires inside { at ≤ length line.now }
-    requires ready { Ready out.old work.old spot }
-    ensures { Reads line.now out.old out.new work.new spot
+) -> Option<Read<'a>>
+    requires { Ready out.old work.old spot }
+    ensures { Reads out.old out.new work.new spot
         (read_write nesting (declared_in declarations.now) (length out.old)
-        (drop at line.now) (so_far out.old spot)) result }
+        line.now (so_far out.old spot)) result }
 {
-    match begin(line, at, declarations)? {
-        Start::Leaf(kind, next) => finish_leaf(line, next, kind, out, work, spot),
-        Start::Branch(kind, next) => {
+    match begin(line, declarations)? {
+        Start::Leaf(kind, rest) => finish_leaf(rest, kind, out, work, spot),
+        Start::Branch(kind, rest) => {
             if nesting == 0 {
                 return None;
             }
-            let list = read_arguments(line, next, nesting - 1, declarations, out, work, spot)?;
-            finish(line, kind, list, out, work)
+            let list = read_arguments(rest, nesting - 1, declarations, out, work, spot)?;
+            finish(kind, &list, out, work)
         }
     }
 }
 
-// Reads arguments from `at` on up to a closing parenthesis, and puts them.
+// Reads arguments up to a closing parenthesis, and puts them.
 #[cycle(read_arguments_read_term)]
-fn read_arguments(
-    line: &[u8],
-    at: usize,
+fn read_arguments<'a>(
+    line: &'a [u8],
     nesting: usize,
     declarations: &[u8],
     out: &mut [u8],
     work: &mut [u8],
     spot: Spot,
-) -> Option<List>
-    requires inside { at ≤ length line.now }
-    requires ready { Ready out.old work.old spot }
-    ensures { Lists line.now out.old out.new work.new spot
+) -> Option<List<'a>>
+    requires { Ready out.old work.old spot }
+    ensures { Lists out.old out.new work.new spot
         (fitting (read_write_all nesting (declared_in declarations.now) (length out.old)
-        max_arguments (drop at line.now) (so_far out.old spot))) result }
+        max_arguments line.now (so_far out.old spot))) result }
 {
     let mut numbers = [0u16; Term::MAX_ARGUMENTS];
-    let mut next = at;
+    let mut rest = line;
     let mut spot = spot;
     for count in 0..Term::MAX_ARGUMENTS {
-        if let Some(next) = right_after(line, next) {
+        if let Some(rest) = right_after(rest) {
             return Some(List {
-                next,
+                rest,
                 count,
                 numbers,
                 spot,
             });
         }
-        let term = read_term(line, next, nesting, declarations, out, work, spot)?;
+        let term = read_term(rest, nesting, declarations, out, work, spot)?;
         // A number of more than two bytes: no record holds it, and its parent can't be written.
         let number = u16::try_from(term.number).ok()?;
         numbers[count] = number;
-        next = term.next;
+        rest = term.rest;
         spot = term.spot;
     }
-    let next = right_after(line, next)?;
+    let rest = right_after(rest)?;
     Some(List {
-        next,
+        rest,
         count: Term::MAX_ARGUMENTS,
         numbers,
         spot,

@@ -1,16 +1,19 @@
 -- The tests of a step, as the code makes them one after the other.
-use mathlib.Core.Path.{◌≡◌, refl, ap, ◌∙◌}
+use mathlib.Core.Path.{◌≡◌, refl, sym, ap, subst, ◌∙◌}
 use mathlib.Core.Bool.{Bool, true, false, cond}
 use mathlib.Core.List.{List, [], ◌∷◌}
 use Prim.Native.Nat.{ℕ, zero, suc, ◌+◌, ◌-◌, ◌*◌, ◌<◌, ◌≤◌}
 use native.Mathlib.Omega.{arith}
+use native.Mathlib.Decide.{dec_le}
 use lib.Dec.{leb}
 use lib.ListN.{length, drop}
 use Rattle.std.specs.Prelude.{slice_get as get_elem?}
+use Rattle.std.specs.Prelude.{Option, None as none, Some as some, option_map, ok_or, Result, Ok, Err}
+use Rattle.terms.specs.declared.stop.Stop.{Stop}
 use borrow.Author.Tests.{eq-eqb, ne_eqb, le-leb, lt-leb, lt-ltb, le-ltb}
 use Rattle.theory.specs.Limit.{answer_bytes}
 use Rattle.theory.specs.Optional.{is_some}
-use Rattle.theory.specs.RuleTable.{Rule, rules, rule_at, chain_rules, chain_rule_at}
+use Rattle.theory.specs.RuleTable.{Rule, rules, rule_at}
 use Rattle.theory.specs.Record.{Bytes, word, whole, kind_of, body_of, long_kind}
 use Rattle.terms.specs.Framing.{record_at}
 use Rattle.terms.proofs.Parts.{length_part}
@@ -18,52 +21,37 @@ use Rattle.terms.proofs.Reading.{stands, body_there}
 use Rattle.theory.specs.Codes.{first_fault, all_below, step_tests, opening_tests}
 
 -- ---- a rule's number is 1 to 30
--- such a number has a rule
-pub rule_there : (n : ℕ) → 1 ≤ n → n ≤ 30 → is_some (rule_at n) ≡ true
-rule_there zero h k = absurd (omega arith)
-rule_there (suc n) h k = go rules n (omega arith)
+pub rule_some : (n : ℕ) → 1 ≤ n → leb n 30 ≡ is_some (rule_at n)
+rule_some zero h = absurd (omega arith)
+rule_some (suc n) h = go rules n
   where
-    go : (rs : List Rule) (i : ℕ) → i < length rs → is_some (get_elem? rs i) ≡ true
-    go [] i l = absurd (omega arith)
-    go (r ∷ rs) zero l = refl
-    go (r ∷ rs) (suc i) l = go rs i (omega arith)
+    less : (i n : ℕ) → leb (suc (suc i)) (suc n) ≡ leb (suc i) n
+    less i n = by_dec (dec_le (suc i) n)
+      where
+        by_dec : Dec (suc i ≤ n) → leb (suc (suc i)) (suc n) ≡ leb (suc i) n
+        by_dec (yes h) = le-leb (suc (suc i)) (suc n) (omega arith) ∙ sym (le-leb (suc i) n h)
+        by_dec (no h) = lt-leb (suc (suc i)) (suc n) (omega arith) ∙ sym (lt-leb (suc i) n (omega arith))
 
--- 0 has none
-pub rule_low : (n : ℕ) → n < 1 → is_some (rule_at n) ≡ false
+    go : (rs : List Rule) (i : ℕ) → leb (suc i) (length rs) ≡ is_some (get_elem? rs i)
+    go [] i = lt-leb (suc i) 0 (omega arith)
+    go (r ∷ rs) zero = le-leb 1 (suc (length rs)) (omega arith)
+    go (r ∷ rs) (suc i) = less i (length rs) ∙ go rs i
+
+pub rule_low : (n : ℕ) → n < 1 → false ≡ is_some (rule_at n)
 rule_low zero h = refl
 rule_low (suc n) h = absurd (omega arith)
 
--- a greater number has none
-pub rule_high : (n : ℕ) → 30 < n → is_some (rule_at n) ≡ false
-rule_high zero h = absurd (omega arith)
-rule_high (suc n) h = go rules n (omega arith)
-  where
-    go : (rs : List Rule) (i : ℕ) → length rs ≤ i → is_some (get_elem? rs i) ≡ false
-    go [] i l = refl
-    go (r ∷ rs) zero l = absurd (omega arith)
-    go (r ∷ rs) (suc i) l = go rs i (omega arith)
+-- ---- a chain's rule, where its number has one, and else the stop
+pub or_none : {A : Type 0} (p : Option A) {q : Result A Stop} (d : Stop) {e : Stop} → q ≡ ok_or p d → q ≡ Err e → (e ≡ d) × (p ≡ none)
+or_none none d v w = (cc, refl)
+or_none (some x) d v w = absurd (let z : ◌≡◌ {A = ℕ} 0 1 = cc in omega arith)
 
--- ---- a chain's is 31 to 33
-pub chain_there : (n : ℕ) → 31 ≤ n → n ≤ 33 → is_some (chain_rule_at n) ≡ true
-chain_there n h k = rw (le-leb 31 n h) (go (n - 31) (omega arith))
-  where
-    go : (i : ℕ) → i < 3 → is_some (get_elem? chain_rules i) ≡ true
-    go zero l = refl
-    go (suc zero) l = refl
-    go (suc (suc zero)) l = refl
-    go (suc (suc (suc i))) l = absurd (omega arith)
+pub or_some : {A : Type 0} (p : Option A) {q : Result A Stop} (d : Stop) {x : A} → q ≡ ok_or p d → q ≡ Ok x → p ≡ some x
+or_some none d v w = absurd (let z : ◌≡◌ {A = ℕ} 0 1 = cc in omega arith)
+or_some (some y) d v w = cc
 
-pub chain_low : (n : ℕ) → n < 31 → is_some (chain_rule_at n) ≡ false
-chain_low n h = rw (lt-leb 31 n h)
-
-pub chain_high : (n : ℕ) → 33 < n → is_some (chain_rule_at n) ≡ false
-chain_high n h = rw (le-leb 31 n (omega arith)) (go (n - 31) (omega arith))
-  where
-    go : (i : ℕ) → 3 ≤ i → is_some (get_elem? chain_rules i) ≡ false
-    go zero l = absurd (omega arith)
-    go (suc zero) l = absurd (omega arith)
-    go (suc (suc zero)) l = absurd (omega arith)
-    go (suc (suc (suc i))) l = refl
+pub no_chain : {A B : Type 0} (f : A → B) {p : Option B} {q : Option A} → option_map f q ≡ p → q ≡ none → is_some p ≡ false
+no_chain f e n = ap is_some (sym e ∙ ap (option_map f) n)
 
 -- its literal
 pub one_kept : (n k : ℕ) → k < n → all_below n (k ∷ []) ≡ true
@@ -87,13 +75,17 @@ module _ (b terms space answered : ℕ) (known : Bool) (ks : List ℕ) where
       → c ≡ first_fault (step_tests b terms space answered known ks)
   fault_room a k e = e ∙ rw (a, k)
 
--- there is no room for one more answer
-pub no_room : (b space answered : ℕ) → space < answer_bytes b * suc answered → ◌≡◌ {A = ℕ} 19 (cond (leb (answer_bytes b * suc answered) space) 0 19)
-no_room b space answered h = rw (lt-leb (answer_bytes b * suc answered) space h)
+-- there is no room for one more answer, of so many bytes
+pub no_room : (b space answered : ℕ) {size : ℕ} → size ≡ 8 + b → space - size * answered < size → ◌≡◌ {A = ℕ} 19 (cond (leb (answer_bytes b * suc answered) space) 0 19)
+no_room b space answered {size} e h =
+    let k : space - (8 + b) * answered < 8 + b = subst (λ (z : ℕ). space - z * answered < z) e h in
+    rw (lt-leb (answer_bytes b * suc answered) space (omega arith))
 
 -- there is
-pub some_room : (b space answered : ℕ) → answer_bytes b * suc answered ≤ space → ◌≡◌ {A = ℕ} 0 (cond (leb (answer_bytes b * suc answered) space) 0 19)
-some_room b space answered h = rw (le-leb (answer_bytes b * suc answered) space h)
+pub some_room : (b space answered : ℕ) {size : ℕ} → size ≡ 8 + b → size ≤ space - size * answered → ◌≡◌ {A = ℕ} 0 (cond (leb (answer_bytes b * suc answered) space) 0 19)
+some_room b space answered {size} e h =
+    let k : 8 + b ≤ space - (8 + b) * answered = subst (λ (z : ℕ). z ≤ space - z * answered) e h in
+    rw (le-leb (answer_bytes b * suc answered) space (omega arith))
 
 -- ---- a record that says no term, step, chain or back: the job's first may ask for long numbers
 module _ (place : ℕ) (r : Bytes) where

@@ -2,12 +2,13 @@
 use mathlib.Core.Path.{◌≡◌, refl, sym, ap, ap₂, subst, ◌∙◌}
 use mathlib.Core.Bool.{Bool, true, false, cond}
 use mathlib.Core.List.{List, [], ◌∷◌, ◌++◌, map}
-use Rattle.std.specs.Prelude.{Option, None as none, Some as some}
-use Prim.Native.Nat.{ℕ, zero, suc, ◌+◌, ◌-◌, ◌<◌, ◌≤◌}
+use Rattle.std.specs.Prelude.{Option, None as none, Some as some, option_map, Result, Ok, Err, IsErrAnd}
+use Prim.Native.Nat.{ℕ, zero, suc, ◌+◌, ◌-◌, ◌*◌, ◌<◌, ◌≤◌}
 use native.Mathlib.Omega.{arith}
+use lib.Dec.{leb}
 use lib.ListN.{length, take, drop}
 use borrow.Author.Tests.{le-leb, lt-leb}
-use Rattle.theory.specs.Limit.{Limits, capped, first_terms}
+use Rattle.theory.specs.Limit.{Limits, capped, first_terms, answer_bytes}
 use Rattle.theory.specs.Term as T
 use Rattle.theory.specs.Optional.{is_some, collect}
 use Rattle.theory.specs.Verdict.{held, wrong_form, accepted}
@@ -28,14 +29,18 @@ use Rattle.theory.proofs.Origins.{origins_item}
 use Rattle.terms.specs.declared.Args.{Args}
 use Rattle.terms.specs.declared.Item.{Item}
 use Rattle.terms.specs.declared.Item.TheVariants as I
+use Rattle.terms.specs.declared.Fault.{Fault}
+use Rattle.terms.specs.declared.stop.Stop.{Stop}
+use Rattle.terms.specs.declared.stop.Stop.TheVariants as S
+use Rattle.terms.specs.Numbered.{stop_code}
 use Rattle.terms.specs.declared.Term.{Term}
 use Rattle.terms.specs.Framing.{record_at}
-use Rattle.terms.specs.Decoded.{Inside, Placed, item_of, op_of, arguments_of, words_in}
+use Rattle.terms.specs.Decoded.{Inside, PlacedIn, read_of, item_of, fault_of, op_of, arguments_of, words_in}
 use Rattle.rows.specs.Rows.{offsets}
 use Rattle.store.specs.declared.shelf.Terms.{Terms}
 use Rattle.store.specs.KeptTerms.{Holds, kept_terms, kept_term}
 use Rattle.store.specs.Store.{Store, listed}
-use Rattle.intern.specs.Interning.{CutBack, Offered, Taken, code_of, rows_after, list_after, offsets_after, bytes_after, with_term, answer_for}
+use Rattle.intern.specs.Interning.{CutBack, Offered, Taken, with_term, answer_for}
 use Rattle.intern.specs.declared.Interned.{Interned}
 use Rattle.intern.specs.declared.Interned.TheVariants as N
 use Rattle.steps.specs.declared.answers.Reply.{Reply}
@@ -48,20 +53,42 @@ use Rattle.steps.proofs.Judging.{judged_is}
 use Rattle.rows.specs.Layout.{link_size, place_end}
 use Rattle.rows.proofs.RowLaws.{rows_small}
 use Rattle.chains.specs.Premises.{earlier_in, origins}
-use Rattle.records.specs.Turning.{passed, turn, repeats_in, Reading, answers_at, origins_at, memory_item, memory_at, Turned}
+use Rattle.records.specs.Turning.{code_in, turn, Reading, answers_at, origins_at, memory_item, memory_at, Turned}
 use Rattle.steps.proofs.Writing.{none_written}
-use Rattle.theory.proofs.Basics.{T_true}
+use Rattle.std.proofs.lemmas.Result.{err_from_is_err_and}
+use Rattle.records.proofs.StepTests.{fault_6, fault_9, fault_room, one_kept, one_gone}
+use Rattle.theory.proofs.Basics.{T_true, some_inj}
+use Rattle.store.specs.Kept.{Reads}
+use Rattle.chains.specs.declared.ChainRule.{ChainRule as Joining}
+use Rattle.chains.specs.Rules.{rule_of}
+
+-- the error that `?` returns is the one that was met
+pub same_err : {A : Type 0} (r : Result A Stop) {e : Stop} → IsErrAnd r (λ (y : Stop). y ≡ e) → r ≡ Err e
+same_err r h = let p = err_from_is_err_and r h in p.1 ∙ ap (λ (x : Stop). Err x) p.2
 
 -- every place fits into 32 bits
 pub few_terms : {job work : Bytes} {rows : ℕ} → Store job work rows → rows + first_terms < place_end
 few_terms s = let f = rows_small s.table.rows in omega arith
 
 -- a record that was read as an item
-pub reading : {job work : Bytes} {rows at : ℕ} {item k : Item} → Store job work rows → whole (drop at job) ≡ true → item_of job item ≡ read (number_length job) (record_at job at)
-    → Placed job item → item ≡ k → Reading job work rows at k
-reading {job} {work} {rows} {at} s w e p f = subst (Reading job work rows at) f (record { store = s; stands = w; says = e; placed = p })
+pub reading : {job work : Bytes} {rows at : ℕ} (r : Result Item Fault) {k : Item} → Store job work rows → whole (drop at job) ≡ true
+    → read_of job r ≡ read (number_length job) (record_at job at) → PlacedIn job r → r ≡ Ok k → Reading job work rows at k
+reading {job} r s w e p f = record { store = s; stands = w; says = ap (read_of job) (sym f) ∙ e; placed = subst (PlacedIn job) f p }
 
-module _ {job work : Bytes} {rows at : ℕ} {item : Item} (g : Reading job work rows at item) (answers : Bytes) (answered : ℕ) where
+-- the record at `at` says an item, or why it says none
+pub record Told (job work : Bytes) (rows at : ℕ) (item : R.Item) : Type 0 where
+  pub store : Store job work rows
+  pub says : item ≡ read (number_length job) (record_at job at)
+
+told : {job work : Bytes} {rows at : ℕ} {k : Item} → Reading job work rows at k → Told job work rows at (item_of job k)
+told g = record { store = g.store; says = g.says }
+
+pub told_none : {job work : Bytes} {rows at : ℕ} (r : Result Item Fault) (f : Fault) → Store job work rows → read_of job r ≡ read (number_length job) (record_at job at) → r ≡ Err f
+    → Told job work rows at (fault_of f)
+told_none {job} r f s e q = record { store = s; says = ap (read_of job) (sym q) ∙ e }
+
+-- what the record does, by what it says
+module _ {job work : Bytes} {rows at : ℕ} {item : R.Item} (g : Told job work rows at item) (answers : Bytes) (answered : ℕ) where
   -- the list before the record, and the record
   abbrev list : Plain
   list = listed job work rows
@@ -70,32 +97,32 @@ module _ {job work : Bytes} {rows at : ℕ} {item : Item} (g : Reading job work 
   r = record_at job at
 
   -- what the item does to the list, the record does
-  feed_is : feed_item list r (item_of job item) ≡ feed (number_length job) list r
+  feed_is : feed_item list r item ≡ feed (number_length job) list r
   unfolding feed
   feed_is = ap (feed_item list r) g.says
 
   -- the item's repeats are the record's
-  repeats_are : repeat_item list r (item_of job item) ≡ repeat_of (number_length job) list r
+  repeats_are : repeat_item list r item ≡ repeat_of (number_length job) list r
   unfolding repeat_of
   repeats_are = ap (repeat_item list r) g.says
 
   -- the item's answers are the record's
-  answers_are : item_answers (earlier_in job work answers rows answered) list (item_of job item) ≡ answers_at job work answers rows answered at
+  answers_are : item_answers (earlier_in job work answers rows answered) list item ≡ answers_at job work answers rows answered at
   unfolding answers_to
   answers_are = ap (item_answers (earlier_in job work answers rows answered) list) g.says
 
   -- so are the origins job after it
-  origins_are : origins_item (origins job work rows) list at r (item_of job item) ≡ origins_at job work rows at
+  origins_are : origins_item (origins job work rows) list at r item ≡ origins_at job work rows at
   origins_are = ap (origins_item (origins job work rows) list at r) g.says
 
   -- so is the work memory after it
-  memory_same : memory_item job work rows at (item_of job item) ≡ memory_at job work rows at
+  memory_same : memory_item job work rows at item ≡ memory_at job work rows at
   memory_same = ap (memory_item job work rows at) g.says
 
-module _ (limits : Limits) (place : ℕ) {job work : Bytes} {rows at : ℕ} {item : Item} (g : Reading job work rows at item) (answers : Bytes) (answered : ℕ) where
+module _ (limits : Limits) (place : ℕ) {job work : Bytes} {rows at : ℕ} {item : R.Item} (g : Told job work rows at item) (answers : Bytes) (answered : ℕ) where
   -- the code of the item's tests
   abbrev code : ℕ
-  code = first_fault (tests place (number_length job) limits (length work) (length answers) (listed job work rows) answered (record_at job at) (item_of job item))
+  code = first_fault (tests place (number_length job) limits (length work) (length answers) (listed job work rows) answered (record_at job at) item)
 
   -- it is the record's
   fault_is : code ≡ fault place (number_length job) limits (length work) (length answers) (listed job work rows) answered (record_at job at)
@@ -103,9 +130,9 @@ module _ (limits : Limits) (place : ℕ) {job work : Bytes} {rows at : ℕ} {ite
   fault_is = ap (λ (i : R.Item). first_fault (tests place (number_length job) limits (length work) (length answers) (listed job work rows) answered (record_at job at) i)) g.says
 
   -- a turn that writes no answer
-  unanswered : {after : Bytes} {c n m : ℕ} → c ≡ code → after ≡ passed c (memory_at job work rows at) work → Store job after n → listed job after n ≡ passed c (feed (number_length job) (listed job work rows) (record_at job at)) (listed job work rows)
-      → origins job after n ≡ passed c (origins_at job work rows at) (origins job work rows) → passed c (answers_at job work answers rows answered at) [] ≡ []
-      → m ≡ passed c (repeat_of (number_length job) (listed job work rows) (record_at job at)) 0 → Turned limits place job work answers rows answered at after answers (turn c answered n m)
+  unanswered : {after : Bytes} {n m : ℕ} → 0 ≡ code → after ≡ memory_at job work rows at → Store job after n → listed job after n ≡ feed (number_length job) (listed job work rows) (record_at job at)
+      → origins job after n ≡ origins_at job work rows at → answers_at job work answers rows answered at ≡ []
+      → m ≡ repeat_of (number_length job) (listed job work rows) (record_at job at) → Turned limits place job work answers rows answered at after answers (Ok (turn answered n m))
   unanswered e w s l o a q = record {
     code_is = e ∙ fault_is;
     memory_is = w;
@@ -117,35 +144,46 @@ module _ (limits : Limits) (place : ℕ) {job work : Bytes} {rows at : ℕ} {ite
     written_is = sym (ap (with_notes (number_length job) answers answered at) a ∙ none_written (number_length job) answers answered at);
   }
 
-  -- a code stops the job
-  pub stopped : (c : ℕ) → (c ≡ 0 → ⊥) → c ≡ code → Turned limits place job work answers rows answered at work answers (turn c answered rows 0)
-  stopped zero h e = absurd (h refl)
-  stopped (suc c) h e = unanswered e refl g.store refl refl refl refl
+  -- a stop
+  pub halted : {after : Bytes} (s : Stop) → after ≡ work → stop_code s ≡ code → Turned limits place job work answers rows answered at after answers (Err s)
+  halted s w e = record { code_is = e ∙ fault_is; memory_is = w; answers_are = refl }
+
+  pub stopped : (s : Stop) → stop_code s ≡ code → Turned limits place job work answers rows answered at work answers (Err s)
+  stopped s e = halted s refl e
+
+  -- by the code of a result
+  pub stopped_by : {A : Type 0} {q : Result A Stop} {s : Stop} → code_in q ≡ code → q ≡ Err s → Turned limits place job work answers rows answered at work answers (Err s)
+  stopped_by {A} {q} {s} e f = stopped s (sym (ap code_in f) ∙ e)
 
 -- ---- a record that says no term, step, chain or back
 -- the first may ask for long numbers: it changes nothing
-pub opened : (limits : Limits) (place : ℕ) {job work : Bytes} {rows at : ℕ} (g : Reading job work rows at I.Unknown) (answers : Bytes) (answered : ℕ) (c : ℕ)
-    → c ≡ first_fault (opening_tests place (record_at job at)) → Turned limits place job work answers rows answered at work answers (turn c answered rows 0)
-opened limits place g answers answered zero e =
+pub opened : (limits : Limits) (place : ℕ) {job work : Bytes} {rows at : ℕ} (g : Told job work rows at R.unknown) (answers : Bytes) (answered : ℕ)
+    → 0 ≡ first_fault (opening_tests place (record_at job at)) → Turned limits place job work answers rows answered at work answers (Ok (turn answered rows 0))
+opened limits place g answers answered e =
     unanswered limits place g answers answered e (memory_same g answers answered) g.store (feed_is g answers answered) (origins_are g answers answered)
     (sym (answers_are g answers answered)) (repeats_are g answers answered)
-opened limits place g answers answered (suc c) e = stopped limits place g answers answered (suc c) (λ z. omega arith) e
 
 -- ---- a term
 -- what `intern`'s answer says of the record
-found_was : (sorted there roomy : Bool) (n m : ℕ) → N.Found m ≡ answer_for sorted there roomy n → there ≡ true
+found_was : (sorted there roomy : Bool) (n m : ℕ) → Ok (N.Found m) ≡ answer_for sorted there roomy n → there ≡ true
 unfolding answer_for
 found_was true true roomy n m e = refl
 found_was true false true n m e = absurd (let z : ◌≡◌ {A = ℕ} 0 1 = cc in omega arith)
 found_was true false false n m e = absurd (let z : ◌≡◌ {A = ℕ} 0 1 = cc in omega arith)
 found_was false there roomy n m e = absurd (let z : ◌≡◌ {A = ℕ} 0 1 = cc in omega arith)
 
-new_was : (sorted there roomy : Bool) (n m : ℕ) → N.New m ≡ answer_for sorted there roomy n → there ≡ false
+new_was : (sorted there roomy : Bool) (n m : ℕ) → Ok (N.New m) ≡ answer_for sorted there roomy n → there ≡ false
 unfolding answer_for
 new_was true true roomy n m e = absurd (let z : ◌≡◌ {A = ℕ} 0 1 = cc in omega arith)
 new_was true false true n m e = refl
 new_was true false false n m e = absurd (let z : ◌≡◌ {A = ℕ} 0 1 = cc in omega arith)
 new_was false there roomy n m e = absurd (let z : ◌≡◌ {A = ℕ} 0 1 = cc in omega arith)
+
+-- what becomes of the record by that answer
+abbrev pub kept_turn : ℕ → Result Interned Stop → Result Turn Stop
+kept_turn answered (Err s) = Err s
+kept_turn answered (Ok (N.Found n)) = Ok (turn answered n 1)
+kept_turn answered (Ok (N.New n)) = Ok (turn answered n 0)
 
 -- what `intern` asks of a term that it is offered
 pub offered : {job work : Bytes} {rows at : ℕ} {t : Term} → Reading job work rows at (I.Term t) → all_below (rows + first_terms) (arguments_of job t) ≡ true → Offered job work rows at t
@@ -166,95 +204,61 @@ module _ (limits : Limits) (place : ℕ) {job work : Bytes} {rows at : ℕ} {t :
       ap (λ (n : ℕ). all_below n (arguments_of job t)) same ∙ e
 
   -- an argument is not kept
-  pub not_below : all_below (rows + first_terms) (arguments_of job t) ≡ false → Turned limits place job work answers rows answered at work answers (turn 6 answered rows 0)
-  not_below e = stopped limits place g answers answered 6 (λ z. omega arith) (rw (first_test e))
+  pub not_below : all_below (rows + first_terms) (arguments_of job t) ≡ false → Turned limits place job work answers rows answered at work answers (Err S.NoTerm)
+  not_below e = stopped limits place (told g) answers answered S.NoTerm (rw (first_test e))
 
   -- the origins job after it, by whether it was there
-  term_origins : {after : Bytes} {a : Interned} → Taken limits job work after rows at t a → origins job after (rows_after a rows) ≡ passed (code_of a) (origins_at job work rows at) (origins job work rows)
-  unfolding origins answer_for
-  term_origins {after} {a} k = ap (λ (os : List ℕ). 0 ∷ 0 ∷ map suc os) k.offsets_are ∙ go a k.answer_is
-    where
-      there : Bool
-      there = has (listed job work rows) (record_at job at)
+  snoc_map : (os : List ℕ) → map suc (os ++ (at ∷ [])) ≡ map suc os ++ (suc at ∷ [])
+  snoc_map [] = refl
+  snoc_map (o ∷ os) = ap (λ (xs : List ℕ). suc o ∷ xs) (snoc_map os)
 
-      put_at : (b : Bool) → has (listed job work rows) (record_at job at) ≡ b → cond b (origins job work rows) (origins job work rows ++ (suc at ∷ [])) ≡ origins_at job work rows at
-      put_at b e = sym (ap (λ (x : Bool). cond x (origins job work rows) (origins job work rows ++ (suc at ∷ []))) e) ∙ origins_are g answers answered
+  put_at : (b : Bool) → has (listed job work rows) (record_at job at) ≡ b → cond b (origins job work rows) (origins job work rows ++ (suc at ∷ [])) ≡ origins_at job work rows at
+  put_at b e = sym (ap (λ (x : Bool). cond x (origins job work rows) (origins job work rows ++ (suc at ∷ []))) e) ∙ origins_are (told g) answers answered
 
-      snoc_map : (os : List ℕ) → map suc (os ++ (at ∷ [])) ≡ map suc os ++ (suc at ∷ [])
-      snoc_map [] = refl
-      snoc_map (o ∷ os) = ap (λ (xs : List ℕ). suc o ∷ xs) (snoc_map os)
+  term_origins : (after : Bytes) (n : ℕ) (b : Bool) → has (listed job work rows) (record_at job at) ≡ b
+      → offsets (link_size job) after n ≡ cond b (offsets (link_size job) work rows) (offsets (link_size job) work rows ++ (at ∷ [])) → origins job after n ≡ origins_at job work rows at
+  unfolding origins
+  term_origins after n true e f = ap (λ (os : List ℕ). 0 ∷ 0 ∷ map suc os) f ∙ put_at true e
+  term_origins after n false e f =
+      ap (λ (os : List ℕ). 0 ∷ 0 ∷ map suc os) f ∙ ap (λ (xs : List ℕ). 0 ∷ 0 ∷ xs) (snoc_map (offsets (link_size job) work rows)) ∙ put_at false e
 
-      go : (x : Interned) → x ≡ answer_for (well_sorted (capped (number_length job) limits) (term_of (listed job work rows) (op_of t) (arguments_of job t))) (has (listed job work rows) (record_at job at)) (room (number_length job) (capped (number_length job) limits) (length work) (listed job work rows)) rows
-          → 0 ∷ 0 ∷ map suc (offsets_after x at (offsets (link_size job) work rows)) ≡ passed (code_of x) (origins_at job work rows at) (origins job work rows)
-      go N.Unsorted e = refl
-      go N.Spent e = refl
-      go (N.Found m) e = put_at true (found_was (well_sorted (capped (number_length job) limits) (term_of (listed job work rows) (op_of t) (arguments_of job t))) _ (room (number_length job) (capped (number_length job) limits) (length work) (listed job work rows)) rows m e)
-      go (N.New m) e =
-          ap (λ (xs : List ℕ). 0 ∷ 0 ∷ xs) (snoc_map (offsets (link_size job) work rows))
-          ∙ put_at false (new_was (well_sorted (capped (number_length job) limits) (term_of (listed job work rows) (op_of t) (arguments_of job t))) _ (room (number_length job) (capped (number_length job) limits) (length work) (listed job work rows)) rows m e)
-
-  -- the work memory after it, by whether it was there
-  term_memory : {after : Bytes} {a : Interned} → Taken limits job work after rows at t a → after ≡ passed (code_of a) (memory_at job work rows at) work
-  unfolding answer_for
-  term_memory {after} {a} k = k.memory_is ∙ go a k.answer_is
-    where
-      put_row : (b : Bool) → has (listed job work rows) (record_at job at) ≡ b
-          → cond b work (with_term job work rows at (tree_of (listed job work rows) (op_of t) (arguments_of job t))) ≡ memory_at job work rows at
-      put_row b e =
-          sym (ap (λ (x : Bool). cond x work (with_term job work rows at (tree_of (listed job work rows) (op_of t) (arguments_of job t)))) e) ∙ memory_same g answers answered
-
-      go : (x : Interned) → x ≡ answer_for (well_sorted (capped (number_length job) limits) (term_of (listed job work rows) (op_of t) (arguments_of job t))) (has (listed job work rows) (record_at job at)) (room (number_length job) (capped (number_length job) limits) (length work) (listed job work rows)) rows
-          → bytes_after x work (with_term job work rows at (tree_of (listed job work rows) (op_of t) (arguments_of job t))) ≡ passed (code_of x) (memory_at job work rows at) work
-      go N.Unsorted e = refl
-      go N.Spent e = refl
-      go (N.Found m) e = put_row true (found_was (well_sorted (capped (number_length job) limits) (term_of (listed job work rows) (op_of t) (arguments_of job t))) _ (room (number_length job) (capped (number_length job) limits) (length work) (listed job work rows)) rows m e)
-      go (N.New m) e = put_row false (new_was (well_sorted (capped (number_length job) limits) (term_of (listed job work rows) (op_of t) (arguments_of job t))) _ (room (number_length job) (capped (number_length job) limits) (length work) (listed job work rows)) rows m e)
+  -- the work memory after it
+  put_row : (b : Bool) → has (listed job work rows) (record_at job at) ≡ b
+      → cond b work (with_term job work rows at (tree_of (listed job work rows) (op_of t) (arguments_of job t))) ≡ memory_at job work rows at
+  put_row b e =
+      sym (ap (λ (x : Bool). cond x work (with_term job work rows at (tree_of (listed job work rows) (op_of t) (arguments_of job t)))) e) ∙ memory_same (told g) answers answered
 
   -- a repeat, where it was there
-  term_repeats : {after : Bytes} {a : Interned} → Taken limits job work after rows at t a → repeats_in a ≡ passed (code_of a) (repeat_of (number_length job) (listed job work rows) (record_at job at)) 0
-  unfolding answer_for
-  term_repeats {after} {a} k = go a k.answer_is
-    where
-      counts : (b : Bool) → has (listed job work rows) (record_at job at) ≡ b → cond b 1 0 ≡ repeat_of (number_length job) (listed job work rows) (record_at job at)
-      counts b e = sym (ap (λ (x : Bool). cond x 1 0) e) ∙ repeats_are g answers answered
-
-      go : (x : Interned) → x ≡ answer_for (well_sorted (capped (number_length job) limits) (term_of (listed job work rows) (op_of t) (arguments_of job t))) (has (listed job work rows) (record_at job at)) (room (number_length job) (capped (number_length job) limits) (length work) (listed job work rows)) rows
-          → repeats_in x ≡ passed (code_of x) (repeat_of (number_length job) (listed job work rows) (record_at job at)) 0
-      go N.Unsorted e = refl
-      go N.Spent e = refl
-      go (N.Found m) e = counts true (found_was (well_sorted (capped (number_length job) limits) (term_of (listed job work rows) (op_of t) (arguments_of job t))) _ (room (number_length job) (capped (number_length job) limits) (length work) (listed job work rows)) rows m e)
-      go (N.New m) e = counts false (new_was (well_sorted (capped (number_length job) limits) (term_of (listed job work rows) (op_of t) (arguments_of job t))) _ (room (number_length job) (capped (number_length job) limits) (length work) (listed job work rows)) rows m e)
+  counts : (b : Bool) → has (listed job work rows) (record_at job at) ≡ b → cond b 1 0 ≡ repeat_of (number_length job) (listed job work rows) (record_at job at)
+  counts b e = sym (ap (λ (x : Bool). cond x 1 0) e) ∙ repeats_are (told g) answers answered
 
   -- the term is offered to `intern`, whose answer says the rest
-  pub term_turned : {after : Bytes} {a : Interned} → all_below (rows + first_terms) (arguments_of job t) ≡ true → Taken limits job work after rows at t a
-      → {u : Turn} → u ≡ turn (code_of a) answered (rows_after a rows) (repeats_in a) → Turned limits place job work answers rows answered at after answers u
-  term_turned {after} {a} e k d =
-      subst (Turned limits place job work answers rows answered at after answers) (sym d)
-      (unanswered limits place g answers answered (k.code_is ∙ rw (first_test e)) (term_memory k) k.store (k.listed_is ∙ by_code a) (term_origins k) (no_answers a) (term_repeats k))
+  pub term_turned : {after : Bytes} {a : Result Interned Stop} → all_below (rows + first_terms) (arguments_of job t) ≡ true → Taken limits job work after rows at t a
+      → {b : Result Interned Stop} → a ≡ b → Turned limits place job work answers rows answered at after answers (kept_turn answered b)
+  term_turned {after} {a} e taken {b} q = go b (subst (Taken limits job work after rows at t) q taken)
     where
-      by_code : (x : Interned) → list_after x (listed job work rows) (feed (number_length job) (listed job work rows) (record_at job at)) ≡ passed (code_of x) (feed (number_length job) (listed job work rows) (record_at job at)) (listed job work rows)
-      by_code N.Unsorted = refl
-      by_code N.Spent = refl
-      by_code (N.Found m) = refl
-      by_code (N.New m) = refl
-
-      no_answers : (x : Interned) → passed (code_of x) (answers_at job work answers rows answered at) [] ≡ []
-      no_answers N.Unsorted = refl
-      no_answers N.Spent = refl
-      no_answers (N.Found m) = sym (answers_are g answers answered)
-      no_answers (N.New m) = sym (answers_are g answers answered)
+      go : (x : Result Interned Stop) → Taken limits job work after rows at t x → Turned limits place job work answers rows answered at after answers (kept_turn answered x)
+      go (Err s) k = halted limits place (told g) answers answered s k.memory_is (k.code_is ∙ rw (first_test e))
+      go (Ok (N.Found m)) k =
+          let there = found_was _ _ _ _ _ k.answer_is in
+          unanswered limits place (told g) answers answered (k.code_is ∙ rw (first_test e)) (k.memory_is ∙ put_row true there) k.store k.listed_is
+          (term_origins after m true there k.offsets_are) (sym (answers_are (told g) answers answered)) (counts true there)
+      go (Ok (N.New m)) k =
+          let there = new_was _ _ _ _ _ k.answer_is in
+          unanswered limits place (told g) answers answered (k.code_is ∙ rw (first_test e)) (k.memory_is ∙ put_row false there) k.store k.listed_is
+          (term_origins after m false there k.offsets_are) (sym (answers_are (told g) answers answered)) (counts false there)
 
 -- ---- a back
 module _ (limits : Limits) (place : ℕ) {job work : Bytes} {rows at n : ℕ} (g : Reading job work rows at (I.Back n)) (answers : Bytes) (answered : ℕ) where
   -- its count is too low
-  pub back_low : n < first_terms → Turned limits place job work answers rows answered at work answers (turn 18 answered rows 0)
-  back_low h = stopped limits place g answers answered 18 (λ z. omega arith) (rw (lt-leb first_terms n h))
+  pub back_low : n < first_terms → Turned limits place job work answers rows answered at work answers (Err S.NoBack)
+  back_low h = stopped limits place (told g) answers answered S.NoBack (rw (lt-leb first_terms n h))
 
   -- its count is too high
-  pub back_high : first_terms ≤ n → rows + first_terms < n → Turned limits place job work answers rows answered at work answers (turn 18 answered rows 0)
+  pub back_high : first_terms ≤ n → rows + first_terms < n → Turned limits place job work answers rows answered at work answers (Err S.NoBack)
   back_high h k =
       let c = g.store.count in
-      stopped limits place g answers answered 18 (λ z. omega arith) (rw (le-leb first_terms n h, lt-leb n (length (listed job work rows)) (omega arith)))
+      stopped limits place (told g) answers answered S.NoBack (rw (le-leb first_terms n h, lt-leb n (length (listed job work rows)) (omega arith)))
 
   back_origins : {after : Bytes} → first_terms ≤ n → CutBack job work after rows n → origins job after (n - first_terms) ≡ origins_at job work rows at
   unfolding origins
@@ -262,68 +266,95 @@ module _ (limits : Limits) (place : ℕ) {job work : Bytes} {rows at n : ℕ} (g
       let z : n ≡ suc (suc (n - first_terms)) = omega arith in
       ap (λ (os : List ℕ). 0 ∷ 0 ∷ map suc os) b.offsets_are
       ∙ ap (λ (os : List ℕ). 0 ∷ 0 ∷ os) (map_take suc (n - first_terms) (offsets (link_size job) work rows))
-      ∙ ap (λ (i : ℕ). take i (origins job work rows)) (sym z) ∙ origins_are g answers answered
+      ∙ ap (λ (i : ℕ). take i (origins job work rows)) (sym z) ∙ origins_are (told g) answers answered
 
   -- the list is cut back
   pub back_turned : {after : Bytes} → first_terms ≤ n → n ≤ rows + first_terms → CutBack job work after rows n
-      → Turned limits place job work answers rows answered at after answers (turn 0 answered (n - first_terms) 0)
+      → Turned limits place job work answers rows answered at after answers (Ok (turn answered (n - first_terms) 0))
   back_turned h k b =
       let c = g.store.count in
-      unanswered limits place g answers answered (rw (le-leb first_terms n h, le-leb n (length (listed job work rows)) (omega arith)))
-      (b.memory_is ∙ memory_same g answers answered) b.store
-      (b.listed_is ∙ feed_is g answers answered) (back_origins h b) (sym (answers_are g answers answered)) (repeats_are g answers answered)
+      unanswered limits place (told g) answers answered (rw (le-leb first_terms n h, le-leb n (length (listed job work rows)) (omega arith)))
+      (b.memory_is ∙ memory_same (told g) answers answered) b.store
+      (b.listed_is ∙ feed_is (told g) answers answered) (back_origins h b) (sym (answers_are (told g) answers answered)) (repeats_are (told g) answers answered)
+
+-- ---- a step of either kind: its answer is written
+module _ (limits : Limits) (place : ℕ) {job work : Bytes} {rows at : ℕ} {item : R.Item} (g : Told job work rows at item) (answers : Bytes) (answered : ℕ) where
+  answering : {a : Answer} {after : Bytes} → 0 ≡ code limits place g answers answered → memory_item job work rows at item ≡ work
+      → feed_item (listed job work rows) (record_at job at) item ≡ listed job work rows → origins_item (origins job work rows) (listed job work rows) at (record_at job at) item ≡ origins job work rows
+      → repeat_item (listed job work rows) (record_at job at) item ≡ 0
+      → item_answers (earlier_in job work answers rows answered) (listed job work rows) item ≡ a ∷ []
+      → after ≡ with_notes (number_length job) answers answered at (a ∷ []) → {u : Turn} → u ≡ turn (answered + 1) rows 0
+      → Turned limits place job work answers rows answered at work after (Ok u)
+  answering {a} {after} e m l o q one wrote d =
+      let told : answers_at job work answers rows answered at ≡ a ∷ [] = sym (answers_are g answers answered) ∙ one in
+      subst (λ (t : Turn). Turned limits place job work answers rows answered at work after (Ok t)) (sym d)
+      (record {
+        code_is = e ∙ fault_is limits place g answers answered;
+        memory_is = sym m ∙ memory_same g answers answered;
+        store = g.store;
+        listed_is = sym l ∙ feed_is g answers answered;
+        origins_are = sym o ∙ origins_are g answers answered;
+        repeats_is = sym q ∙ repeats_are g answers answered;
+        answers_is = sym (ap (λ (xs : List Answer). answered + length xs) told);
+        written_is = wrote ∙ sym (ap (with_notes (number_length job) answers answered at) told);
+      })
 
 -- ---- a step
-module _ (limits : Limits) (place : ℕ) {job work : Bytes} {rows at rule : ℕ} {literals : Args} (g : Reading job work rows at (I.Step rule literals)) (answers : Bytes) (answered : ℕ) {c : ℕ}
-    (f : c ≡ first_fault (step_tests (number_length job) (rows + first_terms) (length answers) answered (is_some (rule_at rule)) (words_in job literals))) where
-  -- as many terms are kept as the code counts
-  same_code : c ≡ code limits place g answers answered
+module _ (limits : Limits) (place : ℕ) {job work : Bytes} {rows at rule : ℕ} {literals : Args} (g : Reading job work rows at (I.Step rule literals)) (answers : Bytes) (answered : ℕ) where
+  -- its tests, where the rows say how many terms are kept
+  abbrev step_tested : ℕ
+  step_tested = first_fault (step_tests (number_length job) (rows + first_terms) (length answers) answered (is_some (rule_at rule)) (words_in job literals))
+
+  same_code : step_tested ≡ code limits place (told g) answers answered
   same_code =
       let n = g.store.count in
       let e : rows + first_terms ≡ length (listed job work rows) = omega arith in
-      f ∙ ap (λ (k : ℕ). first_fault (step_tests (number_length job) k (length answers) answered (is_some (rule_at rule)) (words_in job literals))) e
+      ap (λ (k : ℕ). first_fault (step_tests (number_length job) k (length answers) answered (is_some (rule_at rule)) (words_in job literals))) e
 
   -- a test fails
-  pub step_stopped : (c ≡ 0 → ⊥) → Turned limits place job work answers rows answered at work answers (turn c answered rows 0)
-  step_stopped h = stopped limits place g answers answered c h same_code
+  pub step_stopped : (s : Stop) → stop_code s ≡ step_tested → Turned limits place job work answers rows answered at work answers (Err s)
+  step_stopped s f = stopped limits place (told g) answers answered s (f ∙ same_code)
+
+  pub step_unkept : all_below (rows + first_terms) (words_in job literals) ≡ false → Turned limits place job work answers rows answered at work answers (Err S.NoTerm)
+  step_unkept a = step_stopped S.NoTerm (fault_6 (number_length job) (rows + first_terms) (length answers) answered (is_some (rule_at rule)) (words_in job literals) a)
+
+  module _ (a : all_below (rows + first_terms) (words_in job literals) ≡ true) where
+    pub step_unruled : is_some (rule_at rule) ≡ false → Turned limits place job work answers rows answered at work answers (Err S.NoRule)
+    step_unruled k = step_stopped S.NoRule (fault_9 (number_length job) (rows + first_terms) (length answers) answered (is_some (rule_at rule)) (words_in job literals) a k)
+
+    module _ (k : is_some (rule_at rule) ≡ true) {A : Type 0} {q : Result A Stop} (r : code_in q ≡ cond (leb (answer_bytes (number_length job) * suc answered) (length answers)) 0 19) where
+      step_room : {c : Result A Stop} → q ≡ c → code_in c ≡ step_tested
+      step_room e = fault_room (number_length job) (rows + first_terms) (length answers) answered (is_some (rule_at rule)) (words_in job literals) a k (sym (ap code_in e) ∙ r)
+
+      pub step_full : {s : Stop} → q ≡ Err s → Turned limits place job work answers rows answered at work answers (Err s)
+      step_full {s} e = step_stopped s (step_room e)
+
+      pub step_free : {x : A} → q ≡ Ok x → 0 ≡ step_tested
+      step_free e = step_room e
 
   -- all tests pass: the literals are kept, there is such a rule, and there is room for the answer
-  pub step_right : c ≡ 0 → StepPassed (number_length job) (length answers) (listed job work rows) answered rule (words_in job literals)
-  step_right z = step_passed place (number_length job) limits (length work) (length answers) (listed job work rows) answered (record_at job at) rule (words_in job literals) (sym same_code ∙ z)
+  module _ (f : 0 ≡ step_tested) where
+    pub step_right : StepPassed (number_length job) (length answers) (listed job work rows) answered rule (words_in job literals)
+    step_right = step_passed place (number_length job) limits (length work) (length answers) (listed job work rows) answered (record_at job at) rule (words_in job literals) (sym (f ∙ same_code))
 
-  -- so they may be answered
-  pub step_literals : c ≡ 0 → (k : Kept) → Finds k.lookup job work rows → Literals k literals
-  step_literals z k h =
-      let p = step_right z in record {
-        inside = subst (λ (j : Bytes). Inside j literals) (sym h.job_is) g.placed;
-        below = ap (λ (j : Bytes). all_below (first_terms + k.lookup.rows) (words_in j literals)) h.job_is ∙ ap (λ (r : ℕ). all_below (first_terms + r) (words_in job literals)) h.rows_are
-            ∙ ap (λ (n : ℕ). all_below n (words_in job literals)) (sym g.store.count) ∙ T_true _ p.below;
-      }
+    -- so they may be answered
+    pub step_literals : (k : Kept) → Finds k.lookup job work rows → Literals k literals
+    step_literals k h =
+        let p = step_right in record {
+          inside = subst (λ (j : Bytes). Inside j literals) (sym h.job_is) g.placed;
+          below = ap (λ (j : Bytes). all_below (first_terms + k.lookup.rows) (words_in j literals)) h.job_is ∙ ap (λ (r : ℕ). all_below (first_terms + r) (words_in job literals)) h.rows_are
+              ∙ ap (λ (n : ℕ). all_below n (words_in job literals)) (sym g.store.count) ∙ T_true _ p.below;
+        }
 
-  -- and there is such a rule
-  pub step_ruled : c ≡ 0 → is_some (rule_at rule) ≡ true
-  step_ruled z = ap is_some (step_right z).rule_is
-
-  -- its answer is written
-  pub step_turned : c ≡ 0 → {reply : Reply} {after : Bytes}
-      → ((by : Rule) → rule_at rule ≡ some by → given rule reply ≡ answer_to rule by (map (tree_at (listed job work rows)) (words_in job literals)))
-      → after ≡ with_notes (number_length job) answers answered at (given rule reply ∷ []) → {u : Turn} → u ≡ turn 0 (answered + 1) rows 0 → Turned limits place job work answers rows answered at work after u
-  step_turned z {reply} {after} says wrote d =
-      let p = step_right z in
-      let one : answers_at job work answers rows answered at ≡ given rule reply ∷ []
-      = sym (answers_are g answers answered) ∙ step_answer (number_length job) (length answers) (listed job work rows) answered rule (words_in job literals) p
-      ∙ ap (λ (a : Answer). a ∷ []) (sym (says p.rule p.rule_is)) in
-      subst (Turned limits place job work answers rows answered at work after) (sym d)
-      (record {
-        code_is = sym z ∙ same_code ∙ fault_is limits place g answers answered;
-        memory_is = memory_same g answers answered;
-        store = g.store;
-        listed_is = feed_is g answers answered;
-        origins_are = origins_are g answers answered;
-        repeats_is = repeats_are g answers answered;
-        answers_is = sym (ap (λ (xs : List Answer). answered + length xs) one);
-        written_is = wrote ∙ sym (ap (with_notes (number_length job) answers answered at) one);
-      })
+    -- its answer is written
+    pub step_turned : {reply : Reply} {after : Bytes}
+        → ((by : Rule) → rule_at rule ≡ some by → given rule reply ≡ answer_to rule by (map (tree_at (listed job work rows)) (words_in job literals)))
+        → after ≡ with_notes (number_length job) answers answered at (given rule reply ∷ []) → {u : Turn} → u ≡ turn (answered + 1) rows 0 → Turned limits place job work answers rows answered at work after (Ok u)
+    step_turned {reply} {after} says wrote d =
+        let p = step_right in
+        answering limits place (told g) answers answered (f ∙ same_code) refl refl refl refl
+        (step_answer (number_length job) (length answers) (listed job work rows) answered rule (words_in job literals) p ∙ ap (λ (a : Answer). a ∷ []) (sym (says p.rule p.rule_is)))
+        wrote d
 
 -- ---- a chain
 -- an accepted chain has two sides
@@ -338,47 +369,67 @@ pub verdict_told : (t : Terms) {job work : Bytes} {rows : ℕ} → Holds t job w
     ≡ joined by (premises_at (earlier_in job work answers rows answered) (listed job work rows) (words_in job premises)) (tree_at (listed job work rows) literal)
 verdict_told t h answers answered premises literal by = rw (h.job_is, h.work_is, h.rows_are) refl
 
-module _ (limits : Limits) (place : ℕ) {job work : Bytes} {rows at rule literal : ℕ} {premises : Args} (g : Reading job work rows at (I.Chain rule premises literal)) (answers : Bytes) (answered : ℕ) {b c : ℕ} (d : b ≡ number_length job)
-    (f : c ≡ first_fault (step_tests b (rows + first_terms) (length answers) answered (is_some (chain_rule_at rule)) (literal ∷ []))) where
-  chain_code : c ≡ code limits place g answers answered
-  chain_code =
+-- the terms of a store that was taken up
+pub terms_hold : (k : Kept) (t : Terms) {job work : Bytes} {rows : ℕ} → Finds k.lookup job work rows → Reads k t → Holds t job work rows
+terms_hold k t f h = record { job_is = h.job_is ∙ f.job_is; work_is = h.work_is ∙ f.work_is; rows_are = h.rows_are ∙ f.rows_are }
+
+-- a rule that was found by its number
+pub rule_found : (n : ℕ) (q : Option Joining) {j : Joining} → option_map rule_of q ≡ chain_rule_at n → q ≡ some j → chain_rule_at n ≡ some (rule_of j)
+rule_found n q e f = sym e ∙ ap (option_map rule_of) f
+
+module _ (limits : Limits) (place : ℕ) {job work : Bytes} {rows at rule literal : ℕ} {premises : Args} (g : Reading job work rows at (I.Chain rule premises literal)) (answers : Bytes) (answered : ℕ) where
+  -- its tests, where the rows say how many terms are kept
+  abbrev chain_tested : ℕ
+  chain_tested = first_fault (step_tests (number_length job) (rows + first_terms) (length answers) answered (is_some (chain_rule_at rule)) (literal ∷ []))
+
+  chain_same : chain_tested ≡ code limits place (told g) answers answered
+  chain_same =
       let n = g.store.count in
       let e : rows + first_terms ≡ length (listed job work rows) = omega arith in
-      f ∙ ap₂ (λ (m k : ℕ). first_fault (step_tests m k (length answers) answered (is_some (chain_rule_at rule)) (literal ∷ []))) d e
+      ap (λ (k : ℕ). first_fault (step_tests (number_length job) k (length answers) answered (is_some (chain_rule_at rule)) (literal ∷ []))) e
 
   -- a test fails
-  pub chain_stopped : (c ≡ 0 → ⊥) → Turned limits place job work answers rows answered at work answers (turn c answered rows 0)
-  chain_stopped h = stopped limits place g answers answered c h chain_code
+  pub chain_stopped : (s : Stop) → stop_code s ≡ chain_tested → Turned limits place job work answers rows answered at work answers (Err s)
+  chain_stopped s f = stopped limits place (told g) answers answered s (f ∙ chain_same)
 
-  -- all tests pass
-  pub chain_right : c ≡ 0 → ChainPassed (number_length job) (length answers) (listed job work rows) answered rule literal
-  chain_right z = chain_passed place (number_length job) limits (length work) (length answers) (listed job work rows) answered (record_at job at) rule (words_in job premises) literal (sym chain_code ∙ z)
+  pub chain_unkept : rows + first_terms ≤ literal → Turned limits place job work answers rows answered at work answers (Err S.NoTerm)
+  chain_unkept h =
+      chain_stopped S.NoTerm (fault_6 (number_length job) (rows + first_terms) (length answers) answered (is_some (chain_rule_at rule)) (literal ∷ []) (one_gone (rows + first_terms) literal h))
 
-  -- so its literal is kept
-  pub chain_below : c ≡ 0 → literal < first_terms + rows
-  chain_below z = let p = (chain_right z).below in let q = g.store.count in omega arith
+  module _ (h : literal < rows + first_terms) where
+    pub chain_unruled : is_some (chain_rule_at rule) ≡ false → Turned limits place job work answers rows answered at work answers (Err S.NoRule)
+    chain_unruled k =
+        chain_stopped S.NoRule (fault_9 (number_length job) (rows + first_terms) (length answers) answered (is_some (chain_rule_at rule)) (literal ∷ []) (one_kept (rows + first_terms) literal h) k)
 
-  -- its answer is written
-  pub chain_turned : c ≡ 0 → {v : Said} {reply : Reply} {after : Bytes}
-      → ((by : ChainRule) → chain_rule_at rule ≡ some by → v ≡ joined by (premises_at (earlier_in job work answers rows answered) (listed job work rows) (words_in job premises)) (tree_at (listed job work rows) literal))
-      → Judged v (tree_at (listed job work rows) literal) reply
-      → after ≡ with_notes (number_length job) answers answered at (given rule reply ∷ []) → {u : Turn} → u ≡ turn 0 (answered + 1) rows 0 → Turned limits place job work answers rows answered at work after u
-  chain_turned z {v} {reply} {after} says j wrote o =
-      let p = chain_right z in
-      let q = premises_at (earlier_in job work answers rows answered) (listed job work rows) (words_in job premises) in
-      let t = tree_at (listed job work rows) literal in
-      let e = says p.rule p.rule_is in
-      let one : answers_at job work answers rows answered at ≡ given rule reply ∷ []
-      = sym (answers_are g answers answered) ∙ chain_answer (number_length job) (earlier_in job work answers rows answered) (length answers) (listed job work rows) answered rule literal (words_in job premises) p
-      ∙ ap (λ (a : Answer). a ∷ []) (sym (judged_is rule j (λ a. joined_depth p.rule q t (ap accepted (sym e) ∙ a)) ∙ ap (λ (w : Said). judged rule w t) e)) in
-      subst (Turned limits place job work answers rows answered at work after) (sym o)
-      (record {
-        code_is = sym z ∙ chain_code ∙ fault_is limits place g answers answered;
-        memory_is = memory_same g answers answered;
-        store = g.store;
-        listed_is = feed_is g answers answered;
-        origins_are = origins_are g answers answered;
-        repeats_is = repeats_are g answers answered;
-        answers_is = sym (ap (λ (xs : List Answer). answered + length xs) one);
-        written_is = wrote ∙ sym (ap (with_notes (number_length job) answers answered at) one);
-      })
+    module _ (k : is_some (chain_rule_at rule) ≡ true) {A : Type 0} {q : Result A Stop} (r : code_in q ≡ cond (leb (answer_bytes (number_length job) * suc answered) (length answers)) 0 19) where
+      chain_room : {c : Result A Stop} → q ≡ c → code_in c ≡ chain_tested
+      chain_room e =
+          fault_room (number_length job) (rows + first_terms) (length answers) answered (is_some (chain_rule_at rule)) (literal ∷ []) (one_kept (rows + first_terms) literal h) k
+          (sym (ap code_in e) ∙ r)
+
+      pub chain_full : {s : Stop} → q ≡ Err s → Turned limits place job work answers rows answered at work answers (Err s)
+      chain_full {s} e = chain_stopped s (chain_room e)
+
+      pub chain_free : {x : A} → q ≡ Ok x → 0 ≡ chain_tested
+      chain_free e = chain_room e
+
+  -- all tests pass: there is such a rule, the literal is kept, and there is room for the answer
+  module _ (f : 0 ≡ chain_tested) where
+    pub chain_right : ChainPassed (number_length job) (length answers) (listed job work rows) answered rule literal
+    chain_right = chain_passed place (number_length job) limits (length work) (length answers) (listed job work rows) answered (record_at job at) rule (words_in job premises) literal (sym (f ∙ chain_same))
+
+    -- its answer is written
+    pub chain_turned : {by : ChainRule} → chain_rule_at rule ≡ some by → {v : Said} {reply : Reply} {after : Bytes}
+        → v ≡ joined by (premises_at (earlier_in job work answers rows answered) (listed job work rows) (words_in job premises)) (tree_at (listed job work rows) literal)
+        → Judged v (tree_at (listed job work rows) literal) reply
+        → after ≡ with_notes (number_length job) answers answered at (given rule reply ∷ []) → {u : Turn} → u ≡ turn (answered + 1) rows 0 → Turned limits place job work answers rows answered at work after (Ok u)
+    chain_turned {by} known {v} {reply} {after} e j wrote o =
+        let p = chain_right in
+        let q = premises_at (earlier_in job work answers rows answered) (listed job work rows) (words_in job premises) in
+        let t = tree_at (listed job work rows) literal in
+        let same : p.rule ≡ by = some_inj p.rule by (sym p.rule_is ∙ known) in
+        let said : v ≡ joined p.rule q t = e ∙ ap (λ (x : ChainRule). joined x q t) (sym same) in
+        answering limits place (told g) answers answered (f ∙ chain_same) refl refl refl refl
+        (chain_answer (number_length job) (earlier_in job work answers rows answered) (length answers) (listed job work rows) answered rule literal (words_in job premises) p
+        ∙ ap (λ (a : Answer). a ∷ []) (sym (judged_is rule j (λ a. joined_depth p.rule q t (ap accepted (sym said) ∙ a)) ∙ ap (λ (w : Said). judged rule w t) said)))
+        wrote o

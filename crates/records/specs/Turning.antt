@@ -1,5 +1,5 @@
 -- One record of a job: what it says, and what became of it.
-use Rattle.std.specs.Prelude.{◌≡◌, true, cond, List, [], ℕ, zero, suc, ◌+◌, length, drop}
+use Rattle.std.specs.Prelude.{◌≡◌, true, cond, List, ℕ, ◌+◌, length, drop, Result, Ok, Err}
 use Rattle.theory.specs.Limit.{Limits}
 use Rattle.theory.specs.Record.{Bytes, whole, read, number_length}
 use Rattle.theory.specs.Record as R
@@ -10,31 +10,24 @@ use Rattle.theory.specs.Job.{answers_to}
 use Rattle.theory.specs.Places.{tree_of}
 use Rattle.theory.specs.Origins.{origins_item}
 use Rattle.terms.specs.declared.Item.{Item}
+use Rattle.terms.specs.declared.stop.Stop.{Stop}
+use Rattle.terms.specs.Numbered.{stop_code}
 use Rattle.terms.specs.Framing.{record_at}
 use Rattle.terms.specs.Decoded.{Placed, item_of}
 use Rattle.store.specs.Store.{Store, listed}
 use Rattle.intern.specs.Interning.{with_term, without_terms}
-use Rattle.intern.specs.declared.Interned.{Interned}
-use Rattle.intern.specs.declared.Interned.TheVariants.{Unsorted, Spent, Found, New}
 use Rattle.records.specs.declared.Turn.{Turn}
 use Rattle.steps.specs.Answering.{with_notes}
 use Rattle.chains.specs.Premises.{earlier_in, origins}
 
--- the first where the code is 0, else the second
-abbrev pub passed : {A : Type 0} → ℕ → A → A → A
-passed zero x y = x
-passed (suc code) x y = y
+-- the code that a result stops the job with, 0 where it stops none
+abbrev pub code_in : {A : Type 0} → Result A Stop → ℕ
+code_in (Ok x) = 0
+code_in (Err s) = stop_code s
 
 -- a turn by its parts
-abbrev pub turn : ℕ → ℕ → ℕ → ℕ → Turn
-turn code answers rows repeats = record { code = code; answers = answers; rows = rows; repeats = repeats }
-
--- the repeats that an answer of `intern` tells: 1 where the term was found
-abbrev pub repeats_in : Interned → ℕ
-repeats_in Unsorted = 0
-repeats_in Spent = 0
-repeats_in (Found m) = 1
-repeats_in (New m) = 0
+abbrev pub turn : ℕ → ℕ → ℕ → Turn
+turn answers rows repeats = record { answers = answers; rows = rows; repeats = repeats }
 
 -- a whole record stands at `at`, and was read as this item
 pub record Reading (job work : Bytes) (rows at : ℕ) (item : Item) : Type 0 where
@@ -68,18 +61,33 @@ memory_item job work rows at R.misfit = work
 abbrev pub memory_at : Bytes → Bytes → ℕ → ℕ → Bytes
 memory_at job work rows at = memory_item job work rows at (read (number_length job) (record_at job at))
 
--- what became of the record at `at`, before which `place` records stand, under stated limits, by theory's tests, plain list, repeats and
--- answers; where a code stops the job, both memories stay as they were, and it is no repeat
-pub record Turned (limits : Limits) (place : ℕ) (job work answers : Bytes) (rows answered at : ℕ)
+-- the code of theory's tests of the record at `at`, before which `place` records stand, under stated limits, or 0
+abbrev pub fault_at : Limits → ℕ → Bytes → Bytes → Bytes → ℕ → ℕ → ℕ → ℕ
+fault_at limits place job work answers rows answered at =
+    fault place (number_length job) limits (length work) (length answers) (listed job work rows) answered (record_at job at)
+
+-- it passed: both memories and the counts after it, by theory's plain list, repeats and answers
+pub record Passed (limits : Limits) (place : ℕ) (job work answers : Bytes) (rows answered at : ℕ)
     (work' answers' : Bytes) (t : Turn) : Type 0 where
-  pub code_is : t.code
-      ≡ fault place (number_length job) limits (length work) (length answers) (listed job work rows) answered (record_at job at)
-  pub memory_is : work' ≡ passed t.code (memory_at job work rows at) work
+  pub code_is : 0 ≡ fault_at limits place job work answers rows answered at
+  pub memory_is : work' ≡ memory_at job work rows at
   pub store : Store job work' t.rows
-  pub listed_is : listed job work' t.rows
-      ≡ passed t.code (feed (number_length job) (listed job work rows) (record_at job at)) (listed job work rows)
-  pub origins_are : origins job work' t.rows ≡ passed t.code (origins_at job work rows at) (origins job work rows)
-  pub repeats_is : t.repeats ≡ passed t.code (repeat_of (number_length job) (listed job work rows) (record_at job at)) 0
-  pub answers_is : t.answers ≡ answered + length (passed t.code (answers_at job work answers rows answered at) [])
-  pub written_is : answers'
-      ≡ with_notes (number_length job) answers answered at (passed t.code (answers_at job work answers rows answered at) [])
+  pub listed_is : listed job work' t.rows ≡ feed (number_length job) (listed job work rows) (record_at job at)
+  pub origins_are : origins job work' t.rows ≡ origins_at job work rows at
+  pub repeats_is : t.repeats ≡ repeat_of (number_length job) (listed job work rows) (record_at job at)
+  pub answers_is : t.answers ≡ answered + length (answers_at job work answers rows answered at)
+  pub written_is : answers' ≡ with_notes (number_length job) answers answered at (answers_at job work answers rows answered at)
+
+-- it stops the job by the code of the first test that fails, and both memories stay as they were
+pub record Halted (limits : Limits) (place : ℕ) (job work answers : Bytes) (rows answered at : ℕ)
+    (work' answers' : Bytes) (s : Stop) : Type 0 where
+  pub code_is : stop_code s ≡ fault_at limits place job work answers rows answered at
+  pub memory_is : work' ≡ work
+  pub answers_are : answers' ≡ answers
+
+-- what became of it
+abbrev pub Turned : Limits → ℕ → Bytes → Bytes → Bytes → ℕ → ℕ → ℕ → Bytes → Bytes → Result Turn Stop → Type 0
+Turned limits place job work answers rows answered at work' answers' (Ok t) =
+    Passed limits place job work answers rows answered at work' answers' t
+Turned limits place job work answers rows answered at work' answers' (Err s) =
+    Halted limits place job work answers rows answered at work' answers' s

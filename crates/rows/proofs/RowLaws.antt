@@ -126,6 +126,9 @@ same_sound (a ∷ x) (b ∷ y) e =
     let q : x ≡ y = same_sound x y (and_second (eqb a b) (same_numbers x y) e) in
     cc
 
+pub same_equal : {x y : Bytes} → x ≡ y → same_numbers x y ≡ true
+same_equal {x} e = rw (← e) (same_refl x)
+
 pub same_differ : (x y : Bytes) → (x ≡ y → ⊥) → same_numbers x y ≡ false
 same_differ x y h = go (same_numbers x y) refl
   where

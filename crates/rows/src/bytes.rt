@@ -4,14 +4,8 @@ ghost use Rattle.std.proofs.lemmas.List.Edits.{sets};
 ghost use Rattle.theory.specs.Record.{bytes_of};
 ghost use Rattle.rows.specs.Layout.{Bounded, number_at};
 
-// A byte as a number.
-pub fn wide(x: u8) -> usize
-    ensures { Bounded result x 256 }
-{
-    x as usize
-}
-
 // The number of N bytes at a place.
+#[tactic(auto, using(terms::proofs::Numbers::sum_turn, terms::proofs::Numbers::sum_small))]
 pub fn number_of<const N: usize>(s: &[u8], at: usize) -> usize
     requires inside { at + N ≤ length s.now }
     requires short { N ≤ 4 }
@@ -19,14 +13,15 @@ pub fn number_of<const N: usize>(s: &[u8], at: usize) -> usize
 {
     let mut x: usize = 0;
     for i in (0..N).rev() {
-        x = 256 * x + wide(s[at + i]);
+        x = 256 * x + usize::from(s[at + i]);
     }
     x
 }
 
 // The number at a place, of up to four bytes.
 pub fn number(s: &[u8], at: usize, len: usize) -> usize
-    requires { (at + len ≤ length s.now) × (len ≤ 4) }
+    requires inside { at + len ≤ length s.now }
+    requires short { len ≤ 4 }
     ensures { Bounded result (number_at s.now at len) (256 ^ len) }
 {
     match len {
@@ -40,6 +35,7 @@ pub fn number(s: &[u8], at: usize, len: usize) -> usize
 
 // Stores `len` bytes of a number.
 #[inline]
+#[tactic(auto, using(crate::proofs::RowLaws::put_turn))]
 fn put_bytes(s: &mut [u8], at: usize, len: usize, x: usize)
     requires { at + len ≤ length s.old }
     ensures { s.new ≡ sets s.old at (bytes_of len x) }
@@ -47,7 +43,7 @@ fn put_bytes(s: &mut [u8], at: usize, len: usize, x: usize)
     let mut rest = x;
     for i in 0..len {
         s[at + i] = (rest % 256) as u8;
-        rest = rest / 256;
+        rest /= 256;
     }
 }
 
@@ -59,7 +55,8 @@ pub fn put_number_of<const N: usize>(s: &mut [u8], at: usize, x: usize)
     put_bytes(s, at, N, x);
 }
 
-// Stores `len` bytes of a number. A call for each length that is common: each is then compiled for its length.
+// Stores `len` bytes of a number. A call for each length that is common: each is then compiled for
+// its length.
 pub fn put_number(s: &mut [u8], at: usize, len: usize, x: usize)
     requires { at + len ≤ length s.old }
     ensures { s.new ≡ sets s.old at (bytes_of len x) }

@@ -1,8 +1,9 @@
 // The rows of the work memory, each of them for a record that the job keeps.
 //
-// A record stands in the job and stays there; the work memory has a row for each kept record, in the order in which they came. Row k has
-// place 2 + k, since places 0 and 1 are `true` and `false`. Callers say how many rows there are, and the bytes of a link: a row has two such
-// numbers, its measure (the depth of its term, or its width) and a link to an earlier row.
+// A record stands in the job and stays there; the work memory has a row for each kept record, in
+// the order in which they came. Row k has place 2 + k, since places 0 and 1 are `true` and `false`.
+// Callers say how many rows there are, and the bytes of a link: a row has two such numbers, its
+// measure (the depth of its term, or its width) and a link to an earlier row.
 //
 // To read: layout (sizes), bytes (numbers), and here the parts of a row.
 #![tactic(auto)]
@@ -64,6 +65,7 @@ pub fn link_at<const L: usize>(work: &[u8], k: usize) -> usize
 }
 
 // Stores row n.
+#[tactic(auto, using(crate::proofs::RowLaws::stored_parts))]
 pub fn put_row<const L: usize>(
     work: &mut [u8],
     n: usize,
@@ -81,7 +83,8 @@ pub fn put_row<const L: usize>(
     put_number_of::<L>(work, at + OFFSET_BYTES + L, link);
 }
 
-// Where row k's record stands, in the job's own number length. A call for each of the two: each is then compiled for its length.
+// Where row k's record stands, in the job's own number length. A call for each of the two: each is
+// then compiled for its length.
 pub fn offset_at(job: &[u8], work: &[u8], k: usize) -> usize
     requires { k * row_size (link_size job.now) + row_size (link_size job.now) ≤ length work.now }
     ensures { Bounded result (offset_at (link_size job.now) work.now k) max_job }

@@ -1,8 +1,7 @@
 -- The walk over the records: what holds between two of them, and where the job stops.
 use mathlib.Core.Path.{◌≡◌, refl, sym, ap, ap₂, subst, subst₂, ◌∙◌}
 use mathlib.Core.Bool.{Bool, true, false, cond}
-use mathlib.Core.Logic.{◌⊎◌, inl, inr, ⊎_elim}
-use mathlib.Core.List.{List, [], ◌∷◌, ◌++◌, foldl, append-nil}
+use mathlib.Core.List.{List, [], ◌∷◌, ◌++◌, foldl}
 use Prim.Native.Nat.{ℕ, zero, suc, ◌+◌, ◌-◌, ◌*◌, ◌<◌, ◌≤◌}
 use native.Mathlib.Omega.{arith}
 use native.Mathlib.Numerals.{add-one}
@@ -19,7 +18,7 @@ use Rattle.theory.specs.Chain.{Earlier}
 use Rattle.theory.specs.Job.{answers_to, recall, Outcome, Returned, outcome, returned, run_from, run, answers_after}
 use Rattle.theory.proofs.Basics.{foldl_append}
 use Rattle.theory.proofs.Written.{new_small}
-use Rattle.theory.proofs.Origins.{Mark, origins_item, marks_item, Tracks, tracks_start, tracks_next}
+use Rattle.theory.proofs.Origins.{Mark, marks_item, Tracks, tracks_start, tracks_next}
 use Rattle.terms.specs.Framing.{record_at}
 use Rattle.terms.proofs.Reading.{stands}
 use Rattle.rows.specs.Rows.{column, offsets}
@@ -32,8 +31,12 @@ use Rattle.records.specs.declared.Turn.{Turn}
 use Rattle.runs.specs.declared.walk.State.{State}
 use Rattle.steps.specs.Answering.{with_notes, step_place, sealed}
 use Rattle.chains.specs.Premises.{marks_in, origins, earlier_in}
-use Rattle.records.specs.Turning.{passed, memory_at, Turned}
-use Rattle.runs.specs.Walking.{state, moved, Standing, Next, broken, taken, memory_run, memory_left, Walked}
+use Rattle.records.specs.Turning.{memory_at, fault_at, Passed, Turned}
+use Rattle.runs.specs.Walking.{state, stop_number, moved, Next, broken, taken, stopped, memory_run, memory_left, Walked}
+use Rattle.terms.specs.declared.stop.Stop.{Stop}
+use Rattle.terms.specs.declared.stop.Stop.TheVariants as C
+use Rattle.terms.specs.Numbered.{stop_code}
+use Rattle.std.specs.Prelude.{None, Some, Result, Ok, Err}
 use Rattle.steps.proofs.Writing.{Note, written_fits, one_answer}
 use Rattle.runs.proofs.Notes.{answers_of, at_record, notes_after, answers_more, notes_more, notes_sealed, marks_more, places_more}
 use Rattle.theory.proofs.Positions.{records_whole, records_broken, none_left, ends_whole, ends_broken}
@@ -55,12 +58,21 @@ one_repeat : (b : ℕ) (list : Plain) (r : Bytes) → repeat_of b list r ≤ 1
 unfolding repeat_of
 one_repeat b list r = one_item list r (read b r)
 
-pub turn_repeats : {limits : Limits} {job work answers work' answers' : Bytes} {place rows answered at : ℕ} {t : Turn} → Turned limits place job work answers rows answered at work' answers' t → t.repeats ≤ 1
-turn_repeats {limits} {job} {work} {answers} {work'} {answers'} {place} {rows} {answered} {at} {t} h = subst (λ (n : ℕ). n ≤ 1) (sym h.repeats_is) (go t.code)
-  where
-    go : (c : ℕ) → passed c (repeat_of (number_length job) (listed job work rows) (record_at job at)) 0 ≤ 1
-    go zero = one_repeat (number_length job) (listed job work rows) (record_at job at)
-    go (suc c) = omega arith
+pub turn_repeats : {limits : Limits} {job work answers work' answers' : Bytes} {place rows answered at : ℕ} {t : Turn} → Passed limits place job work answers rows answered at work' answers' t → t.repeats ≤ 1
+turn_repeats {limits} {job} {work} {answers} {work'} {answers'} {place} {rows} {answered} {at} p =
+    subst (λ (n : ℕ). n ≤ 1) (sym p.repeats_is) (one_repeat (number_length job) (listed job work rows) (record_at job at))
+
+-- what became of the record where a job stands
+pub turned_as : (limits : Limits) (job work answers work' answers' : Bytes) (s : State) {q r : Result Turn Stop} → q ≡ r
+    → Turned limits s.records job work answers s.rows s.answers s.at work' answers' q → Turned limits s.records job work answers s.rows s.answers s.at work' answers' r
+turned_as limits job work answers work' answers' s e h = subst (Turned limits s.records job work answers s.rows s.answers s.at work' answers') e h
+
+-- ---- results
+ok_same : {x y : State} → ◌≡◌ {A = Result State Stop} (Ok x) (Ok y) → x ≡ y
+ok_same e = cc
+
+err_same : {x y : Stop} → ◌≡◌ {A = Result State Stop} (Err x) (Err y) → x ≡ y
+err_same e = cc
 
 -- ---- the run, record by record
 module _ (b : ℕ) (limits : Limits) (work space end done repeats : ℕ) (earlier : Earlier) (list : Plain) (answers : List Answer) where
@@ -169,7 +181,7 @@ pub record Stopped (limits : Limits) (job from old work answers : Bytes) (s : St
   pub given : List Note
   pub holding : Holding job from old work answers s given
   pub done : Done job from work s.at s.records s.rows
-  pub ended : run limits job (length from) (length old) ≡ outcome s.stop s.records s.repeats (answers_of given) (listed job work s.rows)
+  pub ended : run limits job (length from) (length old) ≡ outcome (stop_number s.stop) s.records s.repeats (answers_of given) (listed job work s.rows)
 
 -- before the first record no step is there, and `true` and `false` are the only terms
 none_earlier : (job work answers : Bytes) → earlier_in job work answers 0 0 ≡ []
@@ -186,7 +198,7 @@ unfolding memory_run
 start_memory job from = refl
 
 -- at the first record
-pub begins : (limits : Limits) {job work after : Bytes} (old : Bytes) → length job ≤ max_job → Started job work after → Between limits job after old after old (state 0 0 0 0 0 0)
+begins : (limits : Limits) {job work after : Bytes} (old : Bytes) → length job ≤ max_job → Started job work after → Between limits job after old after old (state 0 None 0 0 0 0)
 begins limits {job} {work} {after} old h s = record {
   given = [];
   tracks = start_tracks old h s;
@@ -214,13 +226,9 @@ begins limits {job} {work} {after} old h s = record {
       ∙ ap₂ (λ (earlier : Earlier) (list : Plain). run_from (number_length job) limits (length after) (length old) (ending job) 0 0 earlier list [] (records_of job)) (sym (none_earlier job after old)) (sym s.listed_is);
 }
 
--- what the next record may take for granted
-pub standing : {limits : Limits} {job from old work answers : Bytes} {s : State} → Between limits job from old work answers s → Standing job work answers s
-standing b =
-    let h = b.holding in
-    let l = h.same_answers in
-    let r = h.roomy in
-    record { noted = record { store = h.store; roomy = omega arith; places = h.places }; counted = h.few; repeated = h.rarer }
+pub begun : (limits : Limits) {job work after : Bytes} (old : Bytes) → length job ≤ max_job → Started job work after → {s : State} → s ≡ state 0 None 0 0 0 0
+    → (s.stop ≡ None) × Between limits job after old after old s
+begun limits {job} {work} {after} old h e {s} q = subst (λ (x : State). (x.stop ≡ None) × Between limits job after old after old x) (sym q) (refl, begins limits old h e)
 
 -- no record is left: the run ends with the ending's code
 last : {limits : Limits} {job from old work answers : Bytes} {s : State} (b : Between limits job from old work answers s) → records_of (drop s.at job) ≡ [] → {c : ℕ} → ending job ≡ c
@@ -230,13 +238,13 @@ last {limits} {job} {from} {old} {work} {answers} {s} b none e =
     ∙ ap (λ (x : ℕ). outcome x s.records s.repeats (answers_of b.given) (listed job work s.rows)) e
 
 -- the job ends where nothing is left
-pub ends : {limits : Limits} {job from old work answers : Bytes} {s : State} → Between limits job from old work answers s → s.stop ≡ 0 → length job ≤ s.at → Stopped limits job from old work answers s
+pub ends : {limits : Limits} {job from old work answers : Bytes} {s : State} → Between limits job from old work answers s → s.stop ≡ None → length job ≤ s.at → Stopped limits job from old work answers s
 ends {limits} {job} {from} {old} {work} {answers} {s} b z h =
     let w = b.holding.within in
     let l = length-drop s.at job in
     let none : records_of (drop s.at job) ≡ [] = records_broken (drop s.at job) (none_left (drop s.at job) (omega arith)) in
     let total : total_length (records_of job) ≡ length job = b.before ∙ ap (λ (rs : List Bytes). s.at + total_length rs) none ∙ omega arith in
-    record { given = b.given; holding = b.holding; done = b.done; ended = last b none (ends_whole job total ∙ sym z) }
+    record { given = b.given; holding = b.holding; done = b.done; ended = last b none (ends_whole job total ∙ sym (ap stop_number z)) }
 
 -- what the host is told of a job that stopped
 pub walked : {limits : Limits} {job from old work answers : Bytes} {s : State} → length job ≤ max_job → Stopped limits job from old work answers s
@@ -253,7 +261,7 @@ walked {limits} {job} {from} {old} {work} {answers} {s} short t {lent} same =
     let m : length (answers_of t.given) ≡ length t.given = length-map t.given (λ (x : Note). x.1) in
     let y = h.roomy in
     let z = h.same_answers in
-    let e : run limits job (length lent) (length old) ≡ outcome s.stop s.records s.repeats (answers_of t.given) (listed job work s.rows) = ap (λ (m : ℕ). run limits job m (length old)) (sym (ap length same ∙ length_cleared lent)) ∙ t.ended in
+    let e : run limits job (length lent) (length old) ≡ outcome (stop_number s.stop) s.records s.repeats (answers_of t.given) (listed job work s.rows) = ap (λ (m : ℕ). run limits job m (length old)) (sym (ap length same ∙ length_cleared lent)) ∙ t.ended in
     let terms : s.rows + first_terms ≡ length (listed job work s.rows) = omega arith in
     record {
       result_is = ap₂ (λ (x y : ℕ). told_of x y) (c ∙ sym m) terms ∙ ap returned (sym e);
@@ -270,7 +278,7 @@ walked {limits} {job} {from} {old} {work} {answers} {s} short t {lent} same =
     }
   where
     told_of : ℕ → ℕ → Returned
-    told_of x y = record { stop = s.stop; records = s.records; answers = x; terms = y; repeats = s.repeats }
+    told_of x y = record { stop = stop_number s.stop; records = s.records; answers = x; terms = y; repeats = s.repeats }
 
 -- ---- the work memory that a job leaves, by the test of its length
 module _ (limits : Limits) (job work : Bytes) (space : ℕ) where
@@ -287,32 +295,17 @@ module _ (limits : Limits) (job work : Bytes) (space : ℕ) where
       → work' ≡ memory_left limits job work space
   left_short h e k = e ∙ ap (memory_run job (cleared work)) k ∙ by_test (le-leb (length job) max_job h)
 
--- ---- one record: the state after it, by the code
-module _ (size : ℕ) (s : State) (t : Turn) where
-  -- past the record
-  pub moved_on : t.code ≡ 0 → {m : ℕ} → m ≡ size → state (s.at + m) 0 (s.records + 1) t.answers t.rows (s.repeats + t.repeats) ≡ moved size s t
-  moved_on e {m} f = rw (f, e)
-
-  -- stopped at it
-  pub moved_not : (t.code ≡ 0 → ⊥) → state s.at t.code s.records t.answers t.rows s.repeats ≡ moved size s t
-  moved_not h = go t.code h
-    where
-      go : (c : ℕ) → (c ≡ 0 → ⊥) → state s.at c s.records t.answers t.rows s.repeats
-          ≡ passed c (state (s.at + size) 0 (s.records + 1) t.answers t.rows (s.repeats + t.repeats)) (state s.at c s.records t.answers t.rows s.repeats)
-      go zero k = absurd (k refl)
-      go (suc c) k = refl
-
+-- ---- one record
 module _ {limits : Limits} {job from old work answers : Bytes} {s : State} (b : Between limits job from old work answers s) (more : s.at < length job) (work' answers' : Bytes)
     (lw : length work' ≡ length work) (la : length answers' ≡ length answers) where
-  -- no whole record: code 3
-  broke : whole (drop s.at job) ≡ false → work' ≡ work → answers' ≡ answers
-      → Stopped limits job from old work' answers' (state s.at 3 s.records s.answers s.rows s.repeats)
-  broke w p q =
+  -- the run stops here, and nothing is changed
+  unmoved : work' ≡ work → answers' ≡ answers → (c : Stop)
+      → run limits job (length from) (length old) ≡ outcome (stop_code c) s.records s.repeats (answers_of b.given) (listed job work s.rows)
+      → Stopped limits job from old work' answers' (state s.at (Some c) s.records s.answers s.rows s.repeats)
+  unmoved p q c e =
       let h = b.holding in
-      let none : records_of (drop s.at job) ≡ [] = records_broken (drop s.at job) w in
-      let total : total_length (records_of job) ≡ s.at + 0 = b.before ∙ ap (λ (rs : List Bytes). s.at + total_length rs) none in
-      subst (λ (x : Bytes). Stopped limits job from old x answers' (state s.at 3 s.records s.answers s.rows s.repeats)) (sym p)
-      (subst (λ (x : Bytes). Stopped limits job from old work x (state s.at 3 s.records s.answers s.rows s.repeats)) (sym q) (record {
+      subst (λ (x : Bytes). Stopped limits job from old x answers' (state s.at (Some c) s.records s.answers s.rows s.repeats)) (sym p)
+      (subst (λ (x : Bytes). Stopped limits job from old work x (state s.at (Some c) s.records s.answers s.rows s.repeats)) (sym q) (record {
         given = b.given;
         holding = record {
           store = h.store;
@@ -328,8 +321,16 @@ module _ {limits : Limits} {job from old work answers : Bytes} {s : State} (b : 
           rarer = h.rarer;
         };
         done = b.done;
-        ended = last b none (ends_broken job (omega arith));
+        ended = e;
       }))
+
+  -- no whole record: code 3
+  broke : whole (drop s.at job) ≡ false → work' ≡ work → answers' ≡ answers
+      → Stopped limits job from old work' answers' (state s.at (Some C.Cut) s.records s.answers s.rows s.repeats)
+  broke w p q =
+      let none : records_of (drop s.at job) ≡ [] = records_broken (drop s.at job) w in
+      let total : total_length (records_of job) ≡ s.at + 0 = b.before ∙ ap (λ (rs : List Bytes). s.at + total_length rs) none in
+      unmoved p q C.Cut (last b none (ends_broken job (omega arith)))
 
   -- the parts of the record that stands here
   abbrev n : ℕ
@@ -347,7 +348,11 @@ module _ {limits : Limits} {job from old work answers : Bytes} {s : State} (b : 
   abbrev left : List Bytes
   left = records_of (drop n (drop s.at job))
 
-  module _ (w : whole (drop s.at job) ≡ true) (t : Turn) (turned : Turned limits s.records job work answers s.rows s.answers s.at work' answers' t) where
+  -- the answers that it adds
+  abbrev new : List Answer
+  new = answers_to (number_length job) E list r
+
+  module _ (w : whole (drop s.at job) ≡ true) where
     -- it is the run's next record
     here : run limits job (length from) (length old) ≡ run_from (number_length job) limits (length from) (length old) (ending job) s.records s.repeats E list (answers_of b.given) (r ∷ left)
     here = b.leads ∙ ap (run_from (number_length job) limits (length from) (length old) (ending job) s.records s.repeats E list (answers_of b.given)) (records_whole (drop s.at job) w)
@@ -357,34 +362,39 @@ module _ {limits : Limits} {job from old work answers : Bytes} {s : State} (b : 
     counts = b.holding.counted ∙ sym (length-map b.given (λ (x : Note). x.1))
 
     -- its code
-    test : fault s.records (number_length job) limits (length from) (length old) list (length (answers_of b.given)) r ≡ t.code
-    test =
+    test : {c : ℕ} → c ≡ fault_at limits s.records job work answers s.rows s.answers s.at → fault s.records (number_length job) limits (length from) (length old) list (length (answers_of b.given)) r ≡ c
+    test e =
         let h = b.holding in
-        sym (turned.code_is ∙ ap (λ (k : ℕ). fault s.records (number_length job) limits (length work) (length answers) list k r) counts
+        sym (e ∙ ap (λ (k : ℕ). fault s.records (number_length job) limits (length work) (length answers) list k r) counts
         ∙ ap₂ (λ (x y : ℕ). fault s.records (number_length job) limits x y list (length (answers_of b.given)) r) h.same_work h.same_answers)
 
-    -- the answers after it, where the code is c
-    module _ (c : ℕ) (e : t.code ≡ c) where
-      -- those that it adds
-      abbrev new : List Answer
-      new = passed c (answers_to (number_length job) E list r) []
+    -- a test fails: the run stops at the record
+    halted : (c : Stop) → Turned limits s.records job work answers s.rows s.answers s.at work' answers' (Err c)
+        → Stopped limits job from old work' answers' (state s.at (Some c) s.records s.answers s.rows s.repeats)
+    halted c turned =
+        unmoved turned.memory_is turned.answers_are c
+        (here ∙ run_record (number_length job) limits (length from) (length old) (ending job) s.records s.repeats E list (answers_of b.given) r left (test turned.code_is) ∙ by_stop c)
+      where
+        by_stop : (c : Stop) → by_code (number_length job) limits (length from) (length old) (ending job) s.records s.repeats E list (answers_of b.given) r left (stop_code c)
+            ≡ outcome (stop_code c) s.records s.repeats (answers_of b.given) list
+        by_stop C.TooLong = refl
+        by_stop C.Cut = refl
+        by_stop C.Unknown = refl
+        by_stop C.Misfit = refl
+        by_stop C.NoTerm = refl
+        by_stop C.Unsorted = refl
+        by_stop C.Spent = refl
+        by_stop C.NoRule = refl
+        by_stop C.NoBack = refl
+        by_stop C.NoRoom = refl
 
-      -- they are what was written
-      same_new : passed t.code (answers_to (number_length job) E list r) [] ≡ new
-      same_new = ap (λ (x : ℕ). passed x (answers_to (number_length job) E list r) []) e
-
-      -- the memory holds them all
-      wrote_new : answers' ≡ with_notes (number_length job) answers s.answers s.at new
-      wrote_new = turned.written_is ∙ ap (with_notes (number_length job) answers s.answers s.at) same_new
-
+    -- all pass: the run goes on after the record
+    module _ (t : Turn) (turned : Turned limits s.records job work answers s.rows s.answers s.at work' answers' (Ok t)) where
+      -- the memory holds all answers
       wrote : answers' ≡ notes_after (number_length job) (b.given ++ at_record s.at new) old
       wrote =
           let h = b.holding in
-          wrote_new ∙ ap (λ (x : Bytes). with_notes (number_length job) x s.answers s.at new) h.written ∙ notes_more (number_length job) old b.given s.at new h.counted
-
-      -- how many they are
-      count : t.answers ≡ s.answers + length new
-      count = turned.answers_is ∙ ap (λ (xs : List Answer). s.answers + length xs) same_new
+          turned.written_is ∙ ap (λ (x : Bytes). with_notes (number_length job) x s.answers s.at new) h.written ∙ notes_more (number_length job) old b.given s.at new h.counted
 
       -- they have room
       fits : answer_bytes (number_length job) * t.answers ≤ length old
@@ -392,141 +402,102 @@ module _ {limits : Limits} {job from old work answers : Bytes} {s : State} (b : 
           let h = b.holding in
           let x = h.same_answers in
           let y = h.roomy in
-          let z = written_fits (number_length job) answers s.answers s.at new (omega arith) (ap length (sym wrote_new) ∙ la) in
-          subst (λ (k : ℕ). answer_bytes (number_length job) * k ≤ length old) (sym count) (omega arith)
+          let z = written_fits (number_length job) answers s.answers s.at new (omega arith) (ap length (sym turned.written_is) ∙ la) in
+          subst (λ (k : ℕ). answer_bytes (number_length job) * k ≤ length old) (sym turned.answers_is) (omega arith)
 
       -- at most one is new
       few_new : length new ≤ 1
-      few_new = go c
-        where
-          go : (d : ℕ) → length (passed d (answers_to (number_length job) E list r) []) ≤ 1
-          go zero = one_answer (number_length job) E list r
-          go (suc d) = omega arith
+      few_new = one_answer (number_length job) E list r
 
-      -- what holds at a state after it
       near : s.at < 16777216
       near = let z = b.holding.store.table.rows.short in omega arith
 
       room : answer_bytes (number_length job) * s.answers ≤ length answers
       room = let x = b.holding.same_answers in let y = b.holding.roomy in omega arith
 
-      held : (at records repeats : ℕ) (stop : ℕ) → at ≤ length job → records ≤ at → t.answers ≤ records → repeats ≤ records
-          → Holding job from old work' answers' (state at stop records t.answers t.rows repeats) (b.given ++ at_record s.at new)
-      held at records repeats stop p q o v =
+      -- the earlier steps after it
+      tracked : Tracks (s.at + n) (origins job work' t.rows) (marks_in job answers' t.answers) (recall (number_length job) E list r) (listed job work' t.rows)
+      tracked =
           let h = b.holding in
+          let st = stands job s.at w in
+          let p = st.low in
+          let few = link_holds (number_length job) _ h.store.table.rows.few in
+          let c = h.store.count in
+          let f = test turned.code_is in
+          let small = new_small s.records (number_length job) limits (length from) (length old) E list (length (answers_of b.given)) r f h.store.well (omega arith) in
+          let ms : marks_item (marks_in job answers s.answers) s.at (read (number_length job) r) new ≡ marks_in job answers' t.answers
+          = sym (ap₂ (marks_in job) turned.written_is turned.answers_is ∙ marks_more job answers s.answers s.at room near E list small) in
+          subst (λ (l : Plain). Tracks (s.at + n) (origins job work' t.rows) (marks_in job answers' t.answers) (recall (number_length job) E list r) l) (sym turned.listed_is)
+          (subst₂ (λ (o : List ℕ) (m : List Mark). Tracks (s.at + n) o m (recall (number_length job) E list r) (feed (number_length job) list r)) (sym turned.origins_are) ms
+          (tracks_next s.records (number_length job) limits (length from) (length old) (length (answers_of b.given)) s.at (s.at + n) r (origins job work s.rows) (marks_in job answers s.answers) E list b.tracks (omega arith) f))
+
+      took : Between limits job from old work' answers' (moved n s t)
+      took =
+          let h = b.holding in
+          let st = stands job s.at w in
+          let p = st.low in
+          let q = st.end in
+          let f = h.few in
+          let o = h.fewer in
+          let y = h.rarer in
+          let x = turned.repeats_is in
+          let z = one_repeat (number_length job) list r in
+          let k = turned.answers_is in
+          let u = few_new in
+          let d : drop n (drop s.at job) ≡ drop (s.at + n) job = drop-drop n s.at job in
+          let next_left : drop s.records (records_of job) ≡ r ∷ left = b.left ∙ records_whole (drop s.at job) w in
+          let len : length r ≡ n = length-take-le n (drop s.at job) (let m = length-drop s.at job in omega arith) in
           record {
-            store = turned.store;
-            same_work = lw ∙ h.same_work;
-            same_answers = la ∙ h.same_answers;
-            written = wrote;
-            counted = count ∙ ap₂ (λ (k i : ℕ). k + i) h.counted (sym (length-map new (λ (a : Answer). (s.at, a)))) ∙ sym (length-append b.given (at_record s.at new));
-            places = λ k l. subst (λ (m : Bytes). whole (drop (step_place (number_length job) m k) job) ≡ true) (sym wrote_new)
-                (places_more job answers s.answers s.at room near w h.places new few_new k (let i = count in omega arith));
-            roomy = fits;
-            within = p;
-            few = q;
-            fewer = o;
-            rarer = v;
+            given = b.given ++ at_record s.at new;
+            tracks = subst (λ (x : Earlier). Tracks (s.at + n) (origins job work' t.rows) (marks_in job answers' t.answers) x (listed job work' t.rows)) tracked.is tracked;
+            holding = record {
+              store = turned.store;
+              same_work = lw ∙ h.same_work;
+              same_answers = la ∙ h.same_answers;
+              written = wrote;
+              counted = turned.answers_is ∙ ap₂ (λ (k i : ℕ). k + i) h.counted (sym (length-map new (λ (a : Answer). (s.at, a)))) ∙ sym (length-append b.given (at_record s.at new));
+              places = λ k l. subst (λ (m : Bytes). whole (drop (step_place (number_length job) m k) job) ≡ true) (sym turned.written_is)
+                  (places_more job answers s.answers s.at room near w h.places new few_new k (let i = turned.answers_is in omega arith));
+              roomy = fits;
+              within = omega arith;
+              few = omega arith;
+              fewer = omega arith;
+              rarer = omega arith;
+            };
+            done = done_more b.done h.store.count next_left len turned.listed_is turned.memory_is;
+            left = left_more b.done h.store.count next_left ∙ ap records_of d;
+            before = b.before ∙ ap (λ (rs : List Bytes). s.at + total_length rs) (records_whole (drop s.at job) w)
+                ∙ ap (λ (m : ℕ). s.at + (m + total_length left)) len ∙ ap (λ (bs : Bytes). s.at + (n + total_length (records_of bs))) d ∙ omega arith;
+            leads = here ∙ run_record (number_length job) limits (length from) (length old) (ending job) s.records s.repeats E list (answers_of b.given) r left (test turned.code_is)
+                ∙ ap₂ (λ (x : Earlier) (l : Plain). run_from (number_length job) limits (length from) (length old) (ending job) (suc s.records) (s.repeats + repeat_of (number_length job) list r) x l (answers_of b.given ++ new) left)
+                tracked.is (sym turned.listed_is)
+                ∙ ap (λ (xs : List Answer). run_from (number_length job) limits (length from) (length old) (ending job) (suc s.records) (s.repeats + repeat_of (number_length job) list r) (earlier_in job work' answers' t.rows t.answers) (listed job work' t.rows) xs left)
+                (sym (answers_more b.given s.at new))
+                ∙ ap₂ (λ (m : ℕ) (bs : Bytes). run_from (number_length job) limits (length from) (length old) (ending job) m (s.repeats + repeat_of (number_length job) list r) (earlier_in job work' answers' t.rows t.answers) (listed job work' t.rows)
+                (answers_of (b.given ++ at_record s.at new)) (records_of bs))
+                (sym (add-one s.records)) d
+                ∙ ap (λ (i : ℕ). run_from (number_length job) limits (length from) (length old) (ending job) (s.records + 1) (s.repeats + i) (earlier_in job work' answers' t.rows t.answers) (listed job work' t.rows)
+                (answers_of (b.given ++ at_record s.at new)) (records_of (drop (s.at + n) job)))
+                (sym turned.repeats_is);
           }
 
-    -- no code: the run goes on after the record
-    -- the earlier steps after it
-    tracked : t.code ≡ 0 → Tracks (s.at + n) (origins job work' t.rows) (marks_in job answers' t.answers) (recall (number_length job) E list r) (listed job work' t.rows)
-    tracked e =
-        let h = b.holding in
-        let st = stands job s.at w in
-        let p = st.low in
-        let few = link_holds (number_length job) _ h.store.table.rows.few in
-        let c = h.store.count in
-        let f = test ∙ e in
-        let small = new_small s.records (number_length job) limits (length from) (length old) E list (length (answers_of b.given)) r f h.store.well (omega arith) in
-        let os : origins_item (origins job work s.rows) list s.at r (read (number_length job) r) ≡ origins job work' t.rows
-        = sym (turned.origins_are ∙ ap (λ (x : ℕ). passed x (origins_item (origins job work s.rows) list s.at r (read (number_length job) r)) (origins job work s.rows)) e) in
-        let ms : marks_item (marks_in job answers s.answers) s.at (read (number_length job) r) (answers_to (number_length job) E list r) ≡ marks_in job answers' t.answers
-        = sym (ap₂ (marks_in job) (wrote_new 0 e) (count 0 e) ∙ marks_more job answers s.answers s.at (room 0 e) (near 0 e) E list small) in
-        let ls : feed (number_length job) list r ≡ listed job work' t.rows = sym (turned.listed_is ∙ ap (λ (x : ℕ). passed x (feed (number_length job) list r) list) e) in
-        subst (λ (l : Plain). Tracks (s.at + n) (origins job work' t.rows) (marks_in job answers' t.answers) (recall (number_length job) E list r) l) ls
-        (subst₂ (λ (o : List ℕ) (m : List Mark). Tracks (s.at + n) o m (recall (number_length job) E list r) (feed (number_length job) list r)) os ms
-        (tracks_next s.records (number_length job) limits (length from) (length old) (length (answers_of b.given)) s.at (s.at + n) r (origins job work s.rows) (marks_in job answers s.answers) E list b.tracks (omega arith) f))
-
-    -- the repeats that it adds
-    counted_repeats : t.code ≡ 0 → t.repeats ≡ repeat_of (number_length job) list r
-    counted_repeats e = turned.repeats_is ∙ ap (λ (x : ℕ). passed x (repeat_of (number_length job) list r) 0) e
-
-    took : t.code ≡ 0 → Between limits job from old work' answers' (state (s.at + n) 0 (s.records + 1) t.answers t.rows (s.repeats + t.repeats))
-    took e =
-        let h = b.holding in
-        let st = stands job s.at w in
-        let p = st.low in
-        let q = st.end in
-        let f = h.few in
-        let o = h.fewer in
-        let y = h.rarer in
-        let x = counted_repeats e in
-        let z = one_repeat (number_length job) list r in
-        let k = count 0 e in
-        let u = few_new 0 e in
-        let d : drop n (drop s.at job) ≡ drop (s.at + n) job = drop-drop n s.at job in
-        let next_left : drop s.records (records_of job) ≡ r ∷ left = b.left ∙ records_whole (drop s.at job) w in
-        let len : length r ≡ n = length-take-le n (drop s.at job) (let m = length-drop s.at job in omega arith) in
-        record {
-          given = b.given ++ at_record s.at (answers_to (number_length job) E list r);
-          tracks = subst (λ (x : Earlier). Tracks (s.at + n) (origins job work' t.rows) (marks_in job answers' t.answers) x (listed job work' t.rows)) (tracked e).is (tracked e);
-          holding = held 0 e (s.at + n) (s.records + 1) (s.repeats + t.repeats) 0 (omega arith) (omega arith) (omega arith) (omega arith);
-          done = done_more b.done h.store.count next_left len (turned.listed_is ∙ ap (λ (x : ℕ). passed x (feed (number_length job) list r) list) e)
-              (turned.memory_is ∙ ap (λ (x : ℕ). passed x (memory_at job work s.rows s.at) work) e);
-          left = left_more b.done h.store.count next_left ∙ ap records_of d;
-          before = b.before ∙ ap (λ (rs : List Bytes). s.at + total_length rs) (records_whole (drop s.at job) w)
-              ∙ ap (λ (m : ℕ). s.at + (m + total_length left)) len ∙ ap (λ (bs : Bytes). s.at + (n + total_length (records_of bs))) d ∙ omega arith;
-          leads = here ∙ run_record (number_length job) limits (length from) (length old) (ending job) s.records s.repeats E list (answers_of b.given) r left (test ∙ e)
-              ∙ ap₂ (λ (x : Earlier) (l : Plain). run_from (number_length job) limits (length from) (length old) (ending job) (suc s.records) (s.repeats + repeat_of (number_length job) list r) x l (answers_of b.given ++ answers_to (number_length job) E list r) left)
-              (tracked e).is (sym (turned.listed_is ∙ ap (λ (x : ℕ). passed x (feed (number_length job) list r) list) e))
-              ∙ ap (λ (xs : List Answer). run_from (number_length job) limits (length from) (length old) (ending job) (suc s.records) (s.repeats + repeat_of (number_length job) list r) (earlier_in job work' answers' t.rows t.answers) (listed job work' t.rows) xs left)
-              (sym (answers_more b.given s.at (answers_to (number_length job) E list r)))
-              ∙ ap₂ (λ (m : ℕ) (bs : Bytes). run_from (number_length job) limits (length from) (length old) (ending job) m (s.repeats + repeat_of (number_length job) list r) (earlier_in job work' answers' t.rows t.answers) (listed job work' t.rows)
-              (answers_of (b.given ++ at_record s.at (answers_to (number_length job) E list r))) (records_of bs))
-              (sym (add-one s.records)) d
-              ∙ ap (λ (i : ℕ). run_from (number_length job) limits (length from) (length old) (ending job) (s.records + 1) (s.repeats + i) (earlier_in job work' answers' t.rows t.answers) (listed job work' t.rows)
-              (answers_of (b.given ++ at_record s.at (answers_to (number_length job) E list r))) (records_of (drop (s.at + n) job)))
-              (sym (counted_repeats e));
-        }
-
-    -- a code: the run stops at the record
-    halted : (c : ℕ) → t.code ≡ suc c → Stopped limits job from old work' answers' (state s.at (suc c) s.records t.answers t.rows s.repeats)
-    halted c e =
-        let h = b.holding in
-        let o = h.fewer in
-        let k = count (suc c) e in
-        record {
-          given = b.given ++ [];
-          holding = held (suc c) e s.at s.records s.repeats (suc c) h.within h.few (omega arith) h.rarer;
-          done = record {
-            at_is = b.done.at_is;
-            listed_is = turned.listed_is ∙ ap (λ (x : ℕ). passed x (feed (number_length job) list r) list) e ∙ b.done.listed_is;
-            memory_is = turned.memory_is ∙ ap (λ (x : ℕ). passed x (memory_at job work s.rows s.at) work) e ∙ b.done.memory_is;
-          };
-          ended = here ∙ run_record (number_length job) limits (length from) (length old) (ending job) s.records s.repeats E list (answers_of b.given) r left (test ∙ e)
-              ∙ ap₂ (outcome (suc c) s.records s.repeats) (ap answers_of (sym (append-nil b.given))) (sym (turned.listed_is ∙ ap (λ (x : ℕ). passed x (feed (number_length job) list r) list) e));
-        }
-
-  -- the next state: it has no code and stands further on, between two records, or it has one and the run ends there
-  abbrev After : State → Type 0
-  After s' = ((s'.stop ≡ 0) × (Between limits job from old work' answers' s' × (s.at < s'.at))) ⊎ ((s'.stop ≡ 0 → ⊥) × Stopped limits job from old work' answers' s')
-
-  -- each way that a record can take
-  after : {s' : State} → Next limits job work answers s work' answers' s' → After s'
-  after (broken w p q e) = subst After (sym e) (inr (λ z. omega arith, broke w p q))
-  after (taken w t turned e) = subst After (sym e) (go t.code refl)
-    where
-      go : (c : ℕ) → t.code ≡ c
-          → After (passed c (state (s.at + n) 0 (s.records + 1) t.answers t.rows (s.repeats + t.repeats)) (state s.at c s.records t.answers t.rows s.repeats))
-      go zero f = inl (refl, (took w t turned f, omega arith))
-      go (suc c) f = inr (λ z. omega arith, halted w t turned c f)
-
-  -- the loop goes on
-  pub goes : {s' : State} → Next limits job work answers s work' answers' s' → s'.stop ≡ 0 → Between limits job from old work' answers' s' × (s.at < s'.at)
-  goes x z = ⊎_elim (λ p. p.1) (λ p. absurd (p.0 z)) (after x)
+  -- the loop goes on: the next state stands further on, between two records
+  pub goes : {q : Result State Stop} {s' : State} → Next limits job work answers s work' answers' q → q ≡ Ok s'
+      → (s'.stop ≡ s.stop) × (Between limits job from old work' answers' s' × (s.at < s'.at))
+  goes {q} {s'} (broken w o p e) f = absurd (let d : Err C.Cut ≡ Ok s' = sym e ∙ f in let z : ◌≡◌ {A = ℕ} 0 1 = cc in omega arith)
+  goes {q} {s'} (taken w t turned e) f =
+      let d : moved n s t ≡ s' = ok_same (sym e ∙ f) in
+      let st = (stands job s.at w).low in
+      subst (λ (x : State). (x.stop ≡ s.stop) × (Between limits job from old work' answers' x × (s.at < x.at))) d (refl, (took w t turned, omega arith))
+  goes {q} {s'} (stopped w c turned e) f = absurd (let d : Err c ≡ Ok s' = sym e ∙ f in let z : ◌≡◌ {A = ℕ} 0 1 = cc in omega arith)
 
   -- the loop stops
-  pub stops : {s' : State} → Next limits job work answers s work' answers' s' → (s'.stop ≡ 0 → ⊥) → Stopped limits job from old work' answers' s'
-  stops x f = ⊎_elim (λ p. absurd (f p.0)) (λ p. p.1) (after x)
+  pub stops : {q : Result State Stop} {c : Stop} → Next limits job work answers s work' answers' q → q ≡ Err c
+      → Stopped limits job from old work' answers' (state s.at (Some c) s.records s.answers s.rows s.repeats)
+  stops {q} {c} (broken w o p e) f =
+      let d : C.Cut ≡ c = err_same (sym e ∙ f) in
+      subst (λ (x : Stop). Stopped limits job from old work' answers' (state s.at (Some x) s.records s.answers s.rows s.repeats)) d (broke w o p)
+  stops {q} {c} (taken w t turned e) f = absurd (let d : Ok (moved n s t) ≡ Err c = sym e ∙ f in let z : ◌≡◌ {A = ℕ} 0 1 = cc in omega arith)
+  stops {q} {c} (stopped w x turned e) f =
+      let d : x ≡ c = err_same (sym e ∙ f) in
+      subst (λ (x : Stop). Stopped limits job from old work' answers' (state s.at (Some x) s.records s.answers s.rows s.repeats)) d (halted w x turned)

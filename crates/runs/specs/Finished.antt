@@ -1,5 +1,5 @@
 -- A job at its end: what the host is to be told, both memories, and the final store.
-use Rattle.std.specs.Prelude.{◌≡◌, ◌+◌, ◌<◌, ◌≤◌, length}
+use Rattle.std.specs.Prelude.{◌≡◌, None, ◌+◌, ◌<◌, ◌≤◌, length}
 use Rattle.theory.specs.Limit.{Limits, first_terms, max_job}
 use Rattle.theory.specs.Record.{Bytes, number_length}
 use Rattle.theory.specs.Plain.{plain_after}
@@ -23,5 +23,5 @@ pub record Finished (limits : Limits) (job work old work' answers : Bytes) (s : 
   pub answers_are : answers ≡ answers_after (number_length job) (run limits job (length work) (length old)).answers old
   pub memory_is : work' ≡ memory_left limits job work (length old)
   pub small : Small s
-  pub shelf : s.stop ≡ 0 → Shelf job work' s.rows
-  pub list_is : s.stop ≡ 0 → listed job work' s.rows ≡ plain_after s.records job
+  pub shelf : s.stop ≡ None → Shelf job work' s.rows
+  pub list_is : s.stop ≡ None → listed job work' s.rows ≡ plain_after s.records job

@@ -1,13 +1,15 @@
 -- Where a job stands between two records, what the next record does to it, and what the job comes to.
 use Rattle.std.specs.Prelude.{◌≡◌, true, false, cond, ℕ, zero, suc, ◌+◌, ◌-◌, ◌*◌, ◌≤◌, ◌<◌, leb, length, take, drop}
-use Rattle.std.specs.Prelude.{None}
+use Rattle.std.specs.Prelude.{Option, None, Some, Result, Ok, Err}
 use Rattle.std.specs.Borrow.{Bor, MutBor}
 use denote.Triple.Both.{Both}
 use Rattle.theory.specs.Limit.{Limits, first_terms, max_job, answer_bytes}
 use Rattle.theory.specs.Record.{Bytes, extent, whole, records_of, total_length, number_length}
 use Rattle.theory.specs.Plain.{plain_after}
 use Rattle.theory.specs.Job.{Returned, returned, Call, call, run, answers_after}
-use Rattle.terms.specs.Framing.{frame_code}
+use Rattle.terms.specs.declared.stop.Stop.{Stop}
+use Rattle.terms.specs.declared.stop.Stop.TheVariants.{Cut}
+use Rattle.terms.specs.Numbered.{stop_code}
 use Rattle.steps.specs.Answering.{sealed}
 use Rattle.chains.specs.Premises.{Noted}
 use Rattle.table.specs.Promise.{cleared}
@@ -16,7 +18,7 @@ use Rattle.rows.specs.Layout.{place_end}
 use Rattle.runs.specs.declared.Outcome.{Outcome}
 use Rattle.records.specs.declared.Turn.{Turn}
 use Rattle.runs.specs.declared.walk.State.{State}
-use Rattle.records.specs.Turning.{passed, memory_at, Turned}
+use Rattle.records.specs.Turning.{memory_at, Turned}
 
 -- what the host is told
 abbrev pub told : Outcome → Returned
@@ -27,13 +29,18 @@ abbrev pub job_call : {X Y Z : Type 0} → Limits → Both (Bor Bytes) X → Bot
 job_call limits job work answers = call limits job.entry.now work.entry.now answers.entry.now
 
 -- a state by its parts
-abbrev pub state : ℕ → ℕ → ℕ → ℕ → ℕ → ℕ → State
+abbrev pub state : ℕ → Option Stop → ℕ → ℕ → ℕ → ℕ → State
 state at stop records answers rows repeats =
     record { at = at; stop = stop; records = records; answers = answers; rows = rows; repeats = repeats }
 
+-- the code of what stopped a job, 0 of nothing
+abbrev pub stop_number : Option Stop → ℕ
+stop_number None = 0
+stop_number (Some s) = stop_code s
+
 -- what the host would be told if the job ended here
 abbrev pub reached : State → Returned
-reached s = record { stop = s.stop; records = s.records; answers = s.answers; terms = s.rows + first_terms; repeats = s.repeats }
+reached s = record { stop = stop_number s.stop; records = s.records; answers = s.answers; terms = s.rows + first_terms; repeats = s.repeats }
 
 -- the terms are kept, the answers have room and hold the places of their steps' records, no more records are done than bytes passed, and
 -- no more repeats met than records
@@ -42,20 +49,20 @@ pub record Standing (job work answers : Bytes) (s : State) : Type 0 where
   pub counted : s.records ≤ s.at
   pub repeated : s.repeats ≤ s.records
 
--- past a record of that size, or stopped at it: the record that stops the job is not counted
+-- past a record of that size, which passed
 abbrev pub moved : ℕ → State → Turn → State
-moved size s t =
-    passed t.code (state (s.at + size) 0 (s.records + 1) t.answers t.rows (s.repeats + t.repeats))
-    (state s.at t.code s.records t.answers t.rows s.repeats)
+moved size s t = state (s.at + size) s.stop (s.records + 1) t.answers t.rows (s.repeats + t.repeats)
 
--- no whole record was there, so code 3 stops the job; or one was there, and it was taken
-pub data Next (limits : Limits) (job work answers : Bytes) (s : State) (work' answers' : Bytes) (s' : State) : Type 0 where
-  broken : whole (drop s.at job) ≡ false → work' ≡ work → answers' ≡ answers
-      → s' ≡ state s.at (frame_code None) s.records s.answers s.rows s.repeats
-      → Next limits job work answers s work' answers' s'
+-- no whole record was there, so code 3 stops the job; or one was there and passed, or stops it
+pub data Next (limits : Limits) (job work answers : Bytes) (s : State) (work' answers' : Bytes) (q : Result State Stop) : Type 0 where
+  broken : whole (drop s.at job) ≡ false → work' ≡ work → answers' ≡ answers → q ≡ Err Cut
+      → Next limits job work answers s work' answers' q
   taken : whole (drop s.at job) ≡ true → (t : Turn)
-      → Turned limits s.records job work answers s.rows s.answers s.at work' answers' t
-      → s' ≡ moved (extent (drop s.at job)) s t → Next limits job work answers s work' answers' s'
+      → Turned limits s.records job work answers s.rows s.answers s.at work' answers' (Ok t)
+      → q ≡ Ok (moved (extent (drop s.at job)) s t) → Next limits job work answers s work' answers' q
+  stopped : whole (drop s.at job) ≡ true → (c : Stop)
+      → Turned limits s.records job work answers s.rows s.answers s.at work' answers' (Err c)
+      → q ≡ Err c → Next limits job work answers s work' answers' q
 
 -- so many bytes of work memory are used of a job: all, or four for each byte of the job, which is more than its records can fill
 pub record Enough (job work used : ℕ) : Type 0 where

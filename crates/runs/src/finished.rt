@@ -2,7 +2,7 @@
 ghost use Rattle.std.specs.Prelude.{◌≡◌};
 ghost use Rattle.theory.specs.Limit.{rack};
 ghost use Rattle.intern.specs.Interning.{limits_of};
-ghost use Rattle.runs.specs.Walking.{told, reached};
+ghost use Rattle.runs.specs.Walking.{stop_number, told, reached};
 ghost use Rattle.runs.specs.Finished.{Finished, Small};
 
 use crate::walk::{State, walk};
@@ -10,22 +10,19 @@ use crate::{MAX_JOB, Outcome};
 use intern::Limits;
 use rows::FIRST_PLACE;
 use steps::answers::seal;
-use terms::{Term, stop};
+use terms::Term;
+use terms::stop::Stop;
 
-// Runs a job under limits that the caller states: 2 where it is too long. If the stop code is 0, the rows of the work memory are the final
-// store.
+// Runs a job under limits that the caller states: `TooLong` where it is too long. If the job is not
+// stopped, the rows of the work memory are the final store.
 pub fn run_within(job: &[u8], work: &mut [u8], answers: &mut [u8], limits: Limits) -> State
     ensures { Finished (limits_of limits) job.now work.old answers.old
         work.new answers.new result }
 {
     if MAX_JOB < job.len() {
         return State {
-            at: 0,
-            stop: stop::TOO_LONG,
-            records: 0,
-            answers: 0,
-            rows: 0,
-            repeats: 0,
+            stop: Some(Stop::TooLong),
+            ..State::start()
         };
     }
     let s = walk(job, work, answers, limits);
@@ -45,13 +42,23 @@ pub fn run_job(job: &[u8], work: &mut [u8], answers: &mut [u8]) -> State
     run_within(job, work, answers, rack)
 }
 
+// The code of what stopped a job, 0 of nothing.
+fn code(stop: Option<Stop>) -> u32
+    ensures { result ≡ stop_number stop }
+{
+    match stop {
+        None => 0,
+        Some(s) => s.number(),
+    }
+}
+
 // What the host is told of a job that ended so.
 pub fn outcome_of(s: State) -> Outcome
     requires { Small s }
     ensures { told result ≡ reached s }
 {
     Outcome {
-        stop: s.stop,
+        stop: code(s.stop),
         records: s.records as u32,
         answers: s.answers as u32,
         terms: (s.rows + FIRST_PLACE) as u32,

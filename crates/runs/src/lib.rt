@@ -1,4 +1,5 @@
-// A job run to its end: its records one after the other, the terms kept in work memory, and an answer for each step.
+// A job run to its end: its records one after the other, the terms kept in work memory, and an
+// answer for each step.
 #![tactic(auto)]
 
 pub mod finished;
@@ -15,8 +16,8 @@ use intern::Limits;
 // The longest job, in bytes.
 pub const MAX_JOB: usize = 16777216;
 
-// What a job comes to: the code that stopped it or 0, the records done, the answers written, the terms kept at the end, and the repeats: the term
-// records done whose term was there already.
+// What a job comes to: the code that stopped it or 0, the records done, the answers written, the
+// terms kept at the end, and the repeats: the term records done whose term was there already.
 #[repr(C)]
 #[derive(Clone, Copy)]
 pub struct Outcome {
@@ -27,7 +28,8 @@ pub struct Outcome {
     pub repeats: u32,
 }
 
-// The outcome of a job under limits that the caller states, and its answers. The work memory is left as the job used it.
+// The outcome of a job under limits that the caller states, and its answers. The work memory is
+// left as the job used it.
 pub fn check_job(job: &[u8], work: &mut [u8], answers: &mut [u8], limits: Limits) -> Outcome
     ensures result { told result ≡ (job_call (limits_of limits) job work answers).result }
     ensures answers { answers.new ≡ (job_call (limits_of limits) job work answers).answer_memory }
@@ -37,8 +39,8 @@ pub fn check_job(job: &[u8], work: &mut [u8], answers: &mut [u8], limits: Limits
     outcome_of(run_within(job, work, answers, limits))
 }
 
-// The bytes of work memory that a job of `size` bytes is given of those lent: four for each of its own, which leaves room in the table over
-// its terms. A short job is not spread over a long memory.
+// The bytes of work memory that a job of `size` bytes is given of those lent: four for each of its
+// own, which leaves room in the table over its terms. A short job is not spread over a long memory.
 pub fn used(size: usize, lent: usize) -> usize
     ensures { Enough size lent result }
 {

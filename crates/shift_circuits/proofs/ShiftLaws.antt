@@ -1,86 +1,71 @@
 -- The loops of the shifts: along a stage, and over the stages.
 use mathlib.Core.Path.{◌≡◌, refl, sym, ap, ◌∙◌}
 use mathlib.Core.Bool.{Bool, cond, false, true}
-use mathlib.Core.List.{List, [], ◌∷◌, ◌++◌, map}
-use Prim.Native.Nat.{ℕ, zero, suc, ◌+◌, ◌-◌, ◌^◌, ◌<◌, ◌≤◌}
+use mathlib.Core.List.{List, [], ◌∷◌, ◌++◌}
+use Prim.Native.Nat.{ℕ, zero, suc, ◌+◌, ◌-◌, ◌^◌, ◌<◌, ◌≤◌, min}
 use native.Mathlib.Numerals.{add-one}
 use native.Mathlib.Omega.{arith}
-use lib.ListN.{length, take, drop, get_or, set, replicate, length-append}
-use lib.Seq.{length-take-le, get_or-take, take-suc}
+use lib.ListN.{length, take, drop, get_or, replicate, drop_of_length-le}
+use lib.Seq.{length-take-le, take-suc, drop-cons}
 use lib.Dec.{leb}
 use Rattle.theory.specs.Gates.{Gates}
-use Rattle.theory.specs.Circuit.{clog2_from, clog2, last, shl_stage, shl_stages, shr_stage, shr_stages, bitblast_ult, choose, bounded, shl, lshr, ashr}
-use Rattle.theory.specs.Move.{bit_of}
-use Rattle.theory.proofs.Indexed.{shl_stage_below, shl_stage_above, shr_stage_in, shr_stage_out}
+use Rattle.theory.specs.Circuit.{clog2_from, clog2, last, shl_bits, shl_stage, shl_stages, shr_bits, shr_stage, shr_stages, choose, bounded, shl, lshr, ashr, zip_with}
 use Rattle.shift_circuits.specs.Stages.{staged}
-use Rattle.circuits.proofs.FillLaws.{Filling, fill_turn, reached, with_right}
-use Rattle.theory.proofs.Shift.{length_shl_bits, length_shr_bits}
+use Rattle.circuits.proofs.AppendLaws.{Appending, append_turn, append_end, drop_next}
 
--- ---- a stage to the left, t being 2 ^ s
-pub record ShlStage (g : Gates ℕ) (s t y : ℕ) (ps : List ℕ) (n : ℕ) (out : List ℕ) (i : ℕ) : Type 0 where
-  pub places : t ≡ 2 ^ s
-  pub fill : Filling (bit_of 0 (shl_stage g s y (take n ps))) n out i
+-- ---- a stage to the left: of the bits beside p as many are read as p has
+moved_bits : (g : Gates ℕ) (y : ℕ) (ps qs : List ℕ) → choose g y (take (length ps) qs) ps ≡ shl_bits g y ps qs
+unfolding zip_with shl_bits
+moved_bits g y [] qs = refl
+moved_bits g y (p ∷ ps) [] = refl
+moved_bits g y (p ∷ ps) (q ∷ qs) = ap (λ (t : List ℕ). g.ite_gate y q p ∷ t) (moved_bits g y ps qs)
 
-module _ {g : Gates ℕ} {s t y : ℕ} {ps : List ℕ} {n : ℕ} {out : List ℕ} where
-  pub shl_low : {i f v : ℕ} → ShlStage g s t y ps n out i → v ≡ g.ite_gate y f (get_or ps i 0) → f ≡ g.false_gate
-      → i < t → i < n → n ≤ 64 → n ≤ length ps → ShlStage g s t y ps n (set out i v) (i + 1)
-  shl_low {i} inv e z b h k l =
-      record {
-        places = inv.places;
-        fill = fill_turn inv.fill (e ∙ rw (z, ← get_or-take n ps i 0 h) (sym (shl_stage_below g 0 s y (take n ps) i (rw (length-take-le n ps l) h) (rw (← inv.places) b)))) h k;
-      }
+-- the first n of m numbers a and of others
+taken : (n m a k : ℕ) (ps : List ℕ) → k ≡ min n m → take n (replicate m a ++ ps) ≡ replicate k a ++ take (n - k) ps
+taken zero m a k ps e = let z : k ≡ 0 = omega (arith, e) in rw z refl
+taken (suc n) zero a k ps e = let z : k ≡ 0 = omega (arith, e) in let o : suc n - 0 ≡ suc n = omega arith in rw (z, o) refl
+taken (suc n) (suc m) a zero ps e = absurd (omega (arith, e))
+taken (suc n) (suc m) a (suc k) ps e =
+    let z : suc n - suc k ≡ n - k = omega arith in
+    rw z (ap (λ (t : List ℕ). a ∷ t) (taken n m a k ps (omega (arith, e))))
 
-  pub shl_high : {i f v : ℕ} → ShlStage g s t y ps n out i → v ≡ g.ite_gate y f (get_or ps i 0) → f ≡ get_or ps (i - t) 0
-      → t ≤ i → i < n → n ≤ 64 → n ≤ length ps → ShlStage g s t y ps n (set out i v) (i + 1)
-  shl_high {i} inv e z b h k l =
-      record {
-        places = inv.places;
-        fill = fill_turn inv.fill
-            (e
-            ∙ rw (z, inv.places, ← get_or-take n ps i 0 h, ← get_or-take n ps (i - 2 ^ s) 0 (omega arith))
-            (sym (shl_stage_above g 0 s y (take n ps) i (rw (length-take-le n ps l) h) (rw (← inv.places) b)))) h k;
-      }
+pub left_stage : (g : Gates ℕ) (s y : ℕ) (ps : List ℕ) {k : ℕ} {moved r : List ℕ} → r ≡ choose g y moved ps → moved ≡ replicate k g.false_gate ++ take (length ps - k) ps
+    → k ≡ min (length ps) (2 ^ s) → r ≡ shl_stage g s y ps
+left_stage g s y ps {k} e m h =
+    e ∙ ap (λ (t : List ℕ). choose g y t ps) (m ∙ sym (taken (length ps) (2 ^ s) g.false_gate k ps h)) ∙ moved_bits g y ps (replicate (2 ^ s) g.false_gate ++ ps)
 
-  pub shl_end : {i : ℕ} → ShlStage g s t y ps n out i → n ≤ i → n ≤ length ps → take n out ≡ shl_stage g s y (take n ps)
-  shl_end inv h l =
-      reached inv.fill h (length_shl_bits g y (take n ps) (replicate (2 ^ s) g.false_gate ++ take n ps) (rw (length-append (replicate (2 ^ s) g.false_gate) (take n ps)) (omega arith)) ∙ length-take-le n ps l)
-
--- ---- a stage to the right; `stays` is not y
-pub record ShrStage (g : Gates ℕ) (fill s t y stays : ℕ) (ps : List ℕ) (n : ℕ) (out : List ℕ) (i : ℕ) : Type 0 where
+-- ---- a stage to the right, t being 2 ^ s, and `stays` not y
+pub record ShrStage (g : Gates ℕ) (fill s t y stays : ℕ) (ps out : List ℕ) (i : ℕ) : Type 0 where
   pub places : t ≡ 2 ^ s
   pub small : t ≤ 9223372036854775808
   pub flips : stays ≡ g.not_gate y
-  pub filled : Filling (bit_of 0 (shr_stage g fill s y (take n ps))) n out i
+  pub filled : Appending out (shr_bits g fill y (drop i ps) (drop (i + t) ps)) (shr_stage g fill s y ps) (length (drop i ps))
 
-module _ {g : Gates ℕ} {fill s t y stays : ℕ} {ps : List ℕ} {n : ℕ} {out : List ℕ} where
-  pub shr_low : {i v : ℕ} → ShrStage g fill s t y stays ps n out i → v ≡ g.ite_gate stays (get_or ps i 0) (get_or ps (i + t) 0)
-      → i + t < n → i < n → n ≤ 64 → n ≤ length ps → ShrStage g fill s t y stays ps n (set out i v) (i + 1)
-  shr_low {i} inv e b h k l =
-      record {
-        places = inv.places;
-        small = inv.small;
-        flips = inv.flips;
-        filled = fill_turn inv.filled
-            (e
-            ∙ rw (inv.flips, inv.places, ← get_or-take n ps i 0 h, ← get_or-take n ps (i + 2 ^ s) 0 (rw (← inv.places) b))
-            (sym (shr_stage_in g 0 fill s y (take n ps) i (rw (length-take-le n ps l, ← inv.places) b)))) h k;
-      }
+module _ {g : Gates ℕ} {fill s t y stays : ℕ} {ps : List ℕ} where
+  pub right_start : t ≡ 2 ^ s → t ≤ 9223372036854775808 → stays ≡ g.not_gate y → length ps ≤ 64 → ShrStage g fill s t y stays ps [] 0
+  right_start e h f k = record { places = e; small = h; flips = f; filled = record { says = ap (λ (n : ℕ). shr_bits g fill y ps (drop n ps)) z; room = omega arith } }
+    where
+      z : 0 + t ≡ 2 ^ s
+      z = omega (arith, e)
 
-  pub shr_high : {i v : ℕ} → ShrStage g fill s t y stays ps n out i → v ≡ g.ite_gate y fill (get_or ps i 0)
-      → n ≤ i + t → i < n → n ≤ 64 → n ≤ length ps → ShrStage g fill s t y stays ps n (set out i v) (i + 1)
-  shr_high {i} inv e b h k l =
-      record {
-        places = inv.places;
-        small = inv.small;
-        flips = inv.flips;
-        filled = fill_turn inv.filled
-            (e
-            ∙ rw (← get_or-take n ps i 0 h)
-            (sym (shr_stage_out g 0 fill s y (take n ps) i (rw (length-take-le n ps l) h) (rw (length-take-le n ps l, ← inv.places) b)))) h k;
-      }
+  module _ {out out' : List ℕ} {i v : ℕ} (inv : ShrStage g fill s t y stays ps out i) (o : out' ≡ out ++ v ∷ []) (h : i < length ps) where
+    turn : shr_bits g fill y (drop i ps) (drop (i + t) ps) ≡ v ∷ shr_bits g fill y (drop (i + 1) ps) (drop (i + 1 + t) ps) → ShrStage g fill s t y stays ps out' (i + 1)
+    turn e = record { places = inv.places; small = inv.small; flips = inv.flips; filled = append_turn inv.filled o e (drop_next ps i h) }
 
-  pub shr_end : {i : ℕ} → ShrStage g fill s t y stays ps n out i → n ≤ i → n ≤ length ps → take n out ≡ shr_stage g fill s y (take n ps)
-  shr_end inv h l = reached inv.filled h (length_shr_bits g fill y (take n ps) (drop (2 ^ s) (take n ps)) ∙ length-take-le n ps l)
+    pub right_in : v ≡ g.ite_gate stays (get_or ps i 0) (get_or ps (i + t) 0) → i + t < length ps → ShrStage g fill s t y stays ps out' (i + 1)
+    unfolding shr_bits
+    right_in e b = let next : i + 1 + t ≡ suc (i + t) = omega arith in turn (rw (drop-cons ps i 0 h, drop-cons ps (i + t) 0 b, next, add-one, e, inv.flips) refl)
+
+    pub right_out : v ≡ g.ite_gate y fill (get_or ps i 0) → length ps ≤ i + t → ShrStage g fill s t y stays ps out' (i + 1)
+    unfolding shr_bits
+    right_out e b =
+        let next : i + 1 + t ≡ suc (i + t) = omega arith in
+        let after : length ps ≤ suc (i + t) = omega (arith, b) in
+        turn (rw (drop-cons ps i 0 h, drop_of_length-le ps b, next, drop_of_length-le ps after, add-one, e) refl)
+
+  pub right_end : {out : List ℕ} {i : ℕ} → ShrStage g fill s t y stays ps out i → length ps ≤ i → out ≡ shr_stage g fill s y ps
+  unfolding shr_bits
+  right_end {i} inv h = append_end inv.filled (ap (λ (l : List ℕ). shr_bits g fill y l (drop (i + t) ps)) (drop_of_length-le ps h))
 
 -- ---- over the stages
 stages_from : (fuel k n : ℕ) → clog2_from fuel k n ≤ k + fuel
@@ -108,32 +93,28 @@ unfolding staged
 staged_none f xs = refl
 
 -- s stages are done
-pub record Staging (f : ℕ → ℕ → List ℕ → List ℕ) (xs ys : List ℕ) (n stages : ℕ) (res : List ℕ) (s : ℕ) : Type 0 where
-  pub count : stages ≡ clog2 n
-  pub few : stages ≤ n
+pub record Staging (f : ℕ → ℕ → List ℕ → List ℕ) (xs ys : List ℕ) (stages : ℕ) (res : List ℕ) (s : ℕ) : Type 0 where
+  pub few : stages ≤ length xs
   pub passed : s ≤ stages
-  pub says : take n res ≡ staged f 0 (take s (take n ys)) (take n xs)
+  pub says : res ≡ staged f 0 (take s ys) xs
 
-module _ {f : ℕ → ℕ → List ℕ → List ℕ} {xs ys : List ℕ} {n stages : ℕ} where
-  pub stages_start : stages ≡ clog2 n → Staging f xs ys n stages xs 0
-  stages_start e = record { count = e; few = rw e (stages_few n); passed = omega arith; says = sym (staged_none f (take n xs)) }
+module _ {f : ℕ → ℕ → List ℕ → List ℕ} {xs ys : List ℕ} {stages : ℕ} where
+  pub stages_start : {res : List ℕ} → stages ≡ clog2 (length xs) → res ≡ xs → Staging f xs ys stages res 0
+  stages_start e h = record { few = rw e (stages_few (length xs)); passed = omega arith; says = h ∙ sym (staged_none f xs) }
 
-  pub stages_turn : {res res' : List ℕ} {s : ℕ} → Staging f xs ys n stages res s → take n res' ≡ f s (get_or ys s 0) (take n res) → s < stages → n ≤ length ys
-      → Staging f xs ys n stages res' (s + 1)
+  pub stages_turn : {res res' : List ℕ} {s : ℕ} → Staging f xs ys stages res s → res' ≡ f s (get_or ys s 0) res → s < stages → length xs ≤ length ys
+      → Staging f xs ys stages res' (s + 1)
   stages_turn {res} {res'} {s} inv e h l =
-      let b : s < n = omega (arith, inv.few) in
-      let long : length (take n ys) ≡ n = length-take-le n ys l in
-      let below : s < length (take n ys) = rw long b in
-      let count : 0 + length (take s (take n ys)) ≡ s = omega (arith, length-take-le s (take n ys) (omega arith)) in
+      let below : s < length ys = omega (arith, inv.few) in
+      let count : 0 + length (take s ys) ≡ s = omega (arith, length-take-le s ys (omega arith)) in
       record {
-        count = inv.count;
         few = inv.few;
         passed = omega arith;
         says = rw add-one
             (e ∙ ap (f s (get_or ys s 0)) inv.says
-            ∙ sym (ap (λ (k : List ℕ). staged f 0 k (take n xs)) (take-suc (take n ys) s 0 below ∙ ap (λ (b : ℕ). take s (take n ys) ++ (b ∷ [])) (get_or-take n ys s 0 b))
-            ∙ staged_snoc f 0 (take s (take n ys)) (get_or ys s 0) (take n xs)
-            ∙ ap (λ (k : ℕ). f k (get_or ys s 0) (staged f 0 (take s (take n ys)) (take n xs))) count));
+            ∙ sym (ap (λ (k : List ℕ). staged f 0 k xs) (take-suc ys s 0 below)
+            ∙ staged_snoc f 0 (take s ys) (get_or ys s 0) xs
+            ∙ ap (λ (k : ℕ). f k (get_or ys s 0) (staged f 0 (take s ys) xs)) count));
       }
 
 -- the stages of each direction
@@ -149,20 +130,16 @@ module _ (g : Gates ℕ) where
   staged_right fill s (y ∷ ys) xs = staged_right fill (suc s) ys (shr_stage g fill s y xs)
 
 -- ---- the whole shift: the stages, and then the bound
-module _ (g : Gates ℕ) (size ys : List ℕ) where
-  pub within : (ps : List ℕ) (n beyond : ℕ) {c : ℕ} {r : List ℕ} → c ≡ bitblast_ult g ys size → r ≡ choose g c (take n ps) (take n (replicate 64 beyond))
-      → n ≤ length ps → n ≤ 64 → r ≡ bounded g beyond size ys (take n ps)
-  within ps n beyond {c} a b l h = b ∙ with_right (g.ite_gate c) beyond ps n l h ∙ ap (λ (c : ℕ). map (λ p. g.ite_gate c p beyond) (take n ps)) a
-
-  pub shl_whole : (xs : List ℕ) (n : ℕ) {p r : List ℕ} → p ≡ staged (shl_stage g) 0 (take (clog2 n) ys) xs → r ≡ bounded g g.false_gate size ys p → length xs ≡ n → r ≡ shl g size xs ys
+module _ (g : Gates ℕ) (size ys xs : List ℕ) {p r : List ℕ} where
+  pub shl_whole : p ≡ staged (shl_stage g) 0 (take (clog2 (length xs)) ys) xs → r ≡ bounded g g.false_gate size ys p → r ≡ shl g size xs ys
   unfolding shl
-  shl_whole xs n a b e = b ∙ rw (a, staged_left g 0 (take (clog2 n) ys) xs, e)
+  shl_whole a b = b ∙ rw (a, staged_left g 0 (take (clog2 (length xs)) ys) xs) refl
 
-  pub lshr_whole : (xs : List ℕ) (n : ℕ) {p r : List ℕ} → p ≡ staged (shr_stage g g.false_gate) 0 (take (clog2 n) ys) xs → r ≡ bounded g g.false_gate size ys p → length xs ≡ n → r ≡ lshr g size xs ys
+  pub lshr_whole : p ≡ staged (shr_stage g g.false_gate) 0 (take (clog2 (length xs)) ys) xs → r ≡ bounded g g.false_gate size ys p → r ≡ lshr g size xs ys
   unfolding lshr
-  lshr_whole xs n a b e = b ∙ rw (a, staged_right g g.false_gate 0 (take (clog2 n) ys) xs, e)
+  lshr_whole a b = b ∙ rw (a, staged_right g g.false_gate 0 (take (clog2 (length xs)) ys) xs) refl
 
-  pub ashr_whole : (standard : Bool) (xs : List ℕ) (n : ℕ) {f beyond : ℕ} {p r : List ℕ} → f ≡ last g.false_gate xs → beyond ≡ cond standard f g.false_gate
-      → p ≡ staged (shr_stage g f) 0 (take (clog2 n) ys) xs → r ≡ bounded g beyond size ys p → length xs ≡ n → r ≡ ashr g standard size xs ys
+  pub ashr_whole : (standard : Bool) {f beyond : ℕ} → f ≡ last g.false_gate xs → beyond ≡ cond standard f g.false_gate
+      → p ≡ staged (shr_stage g f) 0 (take (clog2 (length xs)) ys) xs → r ≡ bounded g beyond size ys p → r ≡ ashr g standard size xs ys
   unfolding ashr
-  ashr_whole standard xs n {f = f} z s a b e = b ∙ rw (s, a, staged_right g f 0 (take (clog2 n) ys) xs, e, z)
+  ashr_whole standard {f = f} z s a b = b ∙ rw (s, a, staged_right g f 0 (take (clog2 (length xs)) ys) xs, z) refl

@@ -40,11 +40,11 @@ impl Operation for Quotient {
         Some((x, y))
     }
 
-    fn bits(&self, kept: &Kept, x: Bits, y: Bits, w: usize) -> Bits {
-        divider::udiv(&kept.lookup, x, y, w, self.standard)
+    fn bits(self, kept: &Kept, x: &Bits, y: &Bits) -> Bits {
+        divider::udiv(&kept.lookup, x, y, self.standard)
     }
 
-    fn is_held(&self, kept: &Kept, x: Bits, w: usize) -> bool {
+    fn is_held(self, kept: &Kept, x: &Bits) -> bool {
         self.standard
     }
 }
@@ -71,11 +71,11 @@ impl Operation for Remainder {
         Some((x, y))
     }
 
-    fn bits(&self, kept: &Kept, x: Bits, y: Bits, w: usize) -> Bits {
-        divider::urem(&kept.lookup, x, y, w, self.standard)
+    fn bits(self, kept: &Kept, x: &Bits, y: &Bits) -> Bits {
+        divider::urem(&kept.lookup, x, y, self.standard)
     }
 
-    fn is_held(&self, kept: &Kept, x: Bits, w: usize) -> bool {
+    fn is_held(self, kept: &Kept, x: &Bits) -> bool {
         self.standard
     }
 }
@@ -85,7 +85,7 @@ pub fn udiv(kept: &Kept, literal: u32) -> Verdict
     requires { literal < first_terms + kept.now.lookup.rows }
     ensures { verdict_of result ≡ verdict by_udiv (kept_term kept.now literal) }
 {
-    rule(&Quotient { standard: false }, kept, literal)
+    rule(Quotient { standard: false }, kept, literal)
 }
 
 // The same by the standard.
@@ -93,7 +93,7 @@ pub fn udiv_standard(kept: &Kept, literal: u32) -> Verdict
     requires { literal < first_terms + kept.now.lookup.rows }
     ensures { verdict_of result ≡ verdict by_udiv_standard (kept_term kept.now literal) }
 {
-    rule(&Quotient { standard: true }, kept, literal)
+    rule(Quotient { standard: true }, kept, literal)
 }
 
 // urem: (= (bvurem x y) claim).
@@ -101,7 +101,7 @@ pub fn urem(kept: &Kept, literal: u32) -> Verdict
     requires { literal < first_terms + kept.now.lookup.rows }
     ensures { verdict_of result ≡ verdict by_urem (kept_term kept.now literal) }
 {
-    rule(&Remainder { standard: false }, kept, literal)
+    rule(Remainder { standard: false }, kept, literal)
 }
 
 // The same by the standard.
@@ -109,5 +109,5 @@ pub fn urem_standard(kept: &Kept, literal: u32) -> Verdict
     requires { literal < first_terms + kept.now.lookup.rows }
     ensures { verdict_of result ≡ verdict by_urem_standard (kept_term kept.now literal) }
 {
-    rule(&Remainder { standard: true }, kept, literal)
+    rule(Remainder { standard: true }, kept, literal)
 }

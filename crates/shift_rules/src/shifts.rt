@@ -1,8 +1,8 @@
 // The rules shl, lshr and ashr; ashr is accepted for its form only, unless the shifted term ends in
 // `false`; by the standard it is held.
-ghost use Rattle.std.specs.Prelude.{◌≡◌, true, cond, map, ◌≤◌, take, ◌+◌, ◌<◌, refl};
+ghost use Rattle.std.specs.Prelude.{◌≡◌, true, cond, map, length, ◌≤◌, ◌+◌, ◌<◌, refl};
 ghost use Rattle.theory.specs.Kind.{BvShl, BvLShr, BvAShr};
-ghost use Rattle.theory.specs.Limit.{first_terms, max_width};
+ghost use Rattle.theory.specs.Limit.{first_terms};
 ghost use Rattle.theory.specs.Gates.{term_gates};
 ghost use Rattle.theory.specs.Circuit.{shl, lshr, ashr};
 ghost use Rattle.theory.specs.RuleTable.{by_shl, by_lshr, by_ashr, by_ashr_standard};
@@ -14,15 +14,15 @@ use crate::operation::{Operation, rule};
 use circuits::bits::{Bits, select_bits};
 use operand_rules::Verdict;
 use shift_circuits::shift;
-use store::gates::{FALSE, Kept};
+use store::gates::{FALSE, Kept, TRUE};
 use terms::Term;
 
-// The bits of the width w, as a constant of that width.
-fn width_bits(kept: &Kept, w: usize) -> Bits
-    requires some { 1 ≤ w }
-    requires within { w ≤ max_width }
-    ensures { take w result ≡ map (kept_number kept.now) (width_bits w) }
+// The bits of x's width, as a constant of that width.
+fn width_bits(kept: &Kept, x: &Bits) -> Bits
+    requires { 1 ≤ length x.now.items }
+    ensures { result.items ≡ map (kept_number kept.now) (width_bits (length x.now.items)) }
 {
+    let w = x.len();
     let size = kept.lookup.constant(w as u32, w as u64);
     select_bits(&kept.lookup, size, w)
 }
@@ -46,12 +46,12 @@ impl Operation for Left {
         Some((x, y))
     }
 
-    fn bits(&self, kept: &Kept, x: Bits, y: Bits, w: usize) -> Bits {
-        let size = width_bits(kept, w);
-        shift::shl(&kept.lookup, size, x, y, w)
+    fn bits(self, kept: &Kept, x: &Bits, y: &Bits) -> Bits {
+        let size = width_bits(kept, x);
+        shift::shl(&kept.lookup, &size, x, y)
     }
 
-    fn is_held(&self, kept: &Kept, x: Bits, w: usize) -> bool {
+    fn is_held(self, kept: &Kept, x: &Bits) -> bool {
         true
     }
 }
@@ -75,12 +75,12 @@ impl Operation for Right {
         Some((x, y))
     }
 
-    fn bits(&self, kept: &Kept, x: Bits, y: Bits, w: usize) -> Bits {
-        let size = width_bits(kept, w);
-        shift::lshr(&kept.lookup, size, x, y, w)
+    fn bits(self, kept: &Kept, x: &Bits, y: &Bits) -> Bits {
+        let size = width_bits(kept, x);
+        shift::lshr(&kept.lookup, &size, x, y)
     }
 
-    fn is_held(&self, kept: &Kept, x: Bits, w: usize) -> bool {
+    fn is_held(self, kept: &Kept, x: &Bits) -> bool {
         true
     }
 }
@@ -106,14 +106,14 @@ impl Operation for SignedRight {
         Some((x, y))
     }
 
-    fn bits(&self, kept: &Kept, x: Bits, y: Bits, w: usize) -> Bits {
-        let size = width_bits(kept, w);
-        shift::ashr(&kept.lookup, size, x, y, w, self.standard)
+    fn bits(self, kept: &Kept, x: &Bits, y: &Bits) -> Bits {
+        let size = width_bits(kept, x);
+        shift::ashr(&kept.lookup, &size, x, y, self.standard)
     }
 
     // Only a BvBbTerm has the bit `false`.
-    fn is_held(&self, kept: &Kept, x: Bits, w: usize) -> bool {
-        self.standard || x[w - 1] == FALSE
+    fn is_held(self, kept: &Kept, x: &Bits) -> bool {
+        self.standard || x.last().copied().unwrap_or(TRUE) == FALSE
     }
 }
 
@@ -122,7 +122,7 @@ pub fn shl(kept: &Kept, literal: u32) -> Verdict
     requires { literal < first_terms + kept.now.lookup.rows }
     ensures { verdict_of result ≡ verdict by_shl (kept_term kept.now literal) }
 {
-    rule(&Left, kept, literal)
+    rule(Left, kept, literal)
 }
 
 // lshr: (= (bvlshr x y) claim).
@@ -130,7 +130,7 @@ pub fn lshr(kept: &Kept, literal: u32) -> Verdict
     requires { literal < first_terms + kept.now.lookup.rows }
     ensures { verdict_of result ≡ verdict by_lshr (kept_term kept.now literal) }
 {
-    rule(&Right, kept, literal)
+    rule(Right, kept, literal)
 }
 
 // ashr: (= (bvashr x y) claim).
@@ -138,7 +138,7 @@ pub fn ashr(kept: &Kept, literal: u32) -> Verdict
     requires { literal < first_terms + kept.now.lookup.rows }
     ensures { verdict_of result ≡ verdict by_ashr (kept_term kept.now literal) }
 {
-    rule(&SignedRight { standard: false }, kept, literal)
+    rule(SignedRight { standard: false }, kept, literal)
 }
 
 // ashr by the standard: (= (bvashr x y) claim).
@@ -146,5 +146,5 @@ pub fn ashr_standard(kept: &Kept, literal: u32) -> Verdict
     requires { literal < first_terms + kept.now.lookup.rows }
     ensures { verdict_of result ≡ verdict by_ashr_standard (kept_term kept.now literal) }
 {
-    rule(&SignedRight { standard: true }, kept, literal)
+    rule(SignedRight { standard: true }, kept, literal)
 }

@@ -3,42 +3,40 @@ use mathlib.Core.Path.{◌≡◌, sym, ap, subst, ◌∙◌}
 use mathlib.Core.Bool.{Bool, ◌&&◌, cond}
 use mathlib.Core.List.{List, ◌∷◌, map}
 use Rattle.std.specs.Prelude.{None as none, Some as some}
-use Prim.Native.Nat.{ℕ, ◌+◌, ◌*◌, ◌<◌}
+use Prim.Native.Nat.{ℕ, ◌+◌, ◌*◌, ◌<◌, ◌≤◌}
 use native.Mathlib.Omega.{arith}
-use lib.Dec.{T, eqb, eqb→eq, eqb_refl, leb, leb→le, ltb→lt}
+use lib.Dec.{T, eqb, eqb→eq, eqb_refl, leb, leb→le, ltb, ltb→lt}
 use lib.Ieee.Fits.{and_l, and_r}
 use lib.ListN.{length, get_or}
 use borrow.Enum.Refused.{Among}
 use denote.Enum.Declared.{tag_of}
 use Rattle.theory.specs.Limit.{first_terms, max_width}
-use Rattle.theory.specs.Kind.{Op, BvConcat, BvExtract, SignExtend, ZeroExtend, Repeat, kind, indices, arity, takes}
+use Rattle.theory.specs.Kind.{Op, BvConcat, kind, arity, takes}
 use Rattle.theory.specs.Term.{Term, node, same_term, fold, folds, to_list, from_list}
-use Rattle.theory.specs.Sort.{Sort, fitting, good, result_sort, is_bv_sort, all_bv, sum_widths, sort_op, sort_of}
+use Rattle.theory.specs.Sort.{Sort, fitting, good, result_sort, is_bv_sort, all_bv, sort_width, sum_widths, sort_op, sort_of}
 use Rattle.theory.specs.Record.{Bytes}
 use Rattle.theory.specs.Verdict.{Verdict}
-use Rattle.theory.specs.Rule.{args_of, nth, index_of, form, unary}
+use Rattle.theory.specs.Rule.{args_of, form}
 use Rattle.theory.proofs.Same.{same_eq, eq_same}
-use Rattle.theory.proofs.Sorts.{is_bv}
 use Rattle.theory.proofs.Blast.{folds_from_list, to_from_list}
 use Rattle.theory.proofs.Places.{tree_at, more_below}
 use Rattle.terms.specs.declared.Term.{Term as Decoded}
 use Rattle.terms.specs.declared.Operands.{Operands}
-use Rattle.terms.specs.declared.Operands.TheVariants.{One as OneArg, List as Listed}
+use Rattle.terms.specs.declared.Operands.TheVariants.{List as Listed}
 use Rattle.terms.specs.declared.Args.{Args}
-use Rattle.terms.specs.Decoded.{op_of, operands_of, numbers_of, arguments_of, words_in}
+use Rattle.terms.specs.Decoded.{op_of, operands_of, numbers_of, arguments_of}
 use Rattle.terms.proofs.Cases.{kinds, kind_tag, all_other}
 use Rattle.terms.specs.contracts.Term as E
 use Rattle.store.specs.Store.{listed}
 use Rattle.store.specs.declared.gates.Kept.{Kept}
-use Rattle.store.specs.Kept.{KeptArguments, IsTermAt, kept_terms, kept_term, kept_number, kept_width, words_of}
+use Rattle.store.specs.Kept.{KeptArguments, IsTermAt, kept_terms, kept_term, kept_number, words_of}
 use Rattle.store.proofs.Keeping.{store_of}
 use Rattle.store.specs.Terms.{TermAt}
 use Rattle.store.proofs.Claims.{own_number}
-use Rattle.operand_rules.specs.Rules.{One}
 use Rattle.operand_rules.proofs.Tests.{same_eqb, eqb_yes}
 use Rattle.operand_rules.proofs.Numbers.{few, there}
-use Rattle.operand_rules.proofs.Forms.{tree, good_guard, others, not_kind, made_of, one_form, one_below, below_of, list_inside, fits}
-use Rattle.slice_rules.specs.Given.{Extract, Extend, Concat, sorts_in, Copies}
+use Rattle.operand_rules.proofs.Forms.{tree, good_guard, others, not_kind, made_of, below_of, list_inside, fits}
+use Rattle.slice_rules.specs.Given.{Concat, sorts_in}
 use Rattle.theory.proofs.Basics.{T_true, T_same}
 
 -- a term that fits: so do the sorts of its arguments
@@ -76,17 +74,6 @@ module _ {job work : Bytes} {n p : ℕ} {t : Decoded} (s : TermAt job work n p t
       ap (args_of (get_or kinds k 0)) s.made
       ∙ ap (λ (b : Bool). cond b (some (to_list (from_list (map (tree job work n) (arguments_of job t))))) none) (not_kind k t e h)
 
-  -- a number in the kind
-  pub index_is : (i : ℕ) (o : Op) → op_of t ≡ o → index_of i (tree job work n p) ≡ nth i (indices o)
-  index_is i o e = ap (index_of i) s.made ∙ ap (λ (q : Op). nth i (indices q)) e
-
-  -- a kind with numbers in it and one argument
-  pub indexed_form : (o : Op) (x : ℕ) → op_of t ≡ o → operands_of t ≡ OneArg x → (f : (ℕ → ℕ) → Term → Verdict)
-      → f (λ i. nth i (indices o)) (tree job work n x) ≡ unary (kind o) (tree job work n p) (f (λ i. index_of i (tree job work n p)))
-  indexed_form o x e d f =
-      sym (one_form s o x e d (f (λ i. index_of i (tree job work n p)))
-      ∙ ap (λ (g : ℕ → ℕ). f g (tree job work n x)) (ap {B = ℕ → ℕ} (λ (u : Term) (i : ℕ). index_of i u) s.made ∙ ap {B = ℕ → ℕ} (λ (q : Op) (i : ℕ). nth i (indices q)) e))
-
   -- a term of case k has the form, whatever its arguments
   pub any_form : (k : ℕ) → tag_of E.the_type t ≡ k → (v : Verdict) → form (args_of (get_or kinds k 0) (tree job work n p)) (λ ts. v) ≡ v
   unfolding args_of
@@ -100,52 +87,6 @@ module _ (k : Kept) {p : ℕ} {t : Decoded} (s : IsTermAt k p t) (kept : p < fir
   -- what its kind asks of the arguments' sorts
   pub asked : (o : Op) (ops : Operands) → op_of t ≡ o → operands_of t ≡ ops → T (fitting o (sorts_in k (numbers_of k.lookup.job.now ops)))
   asked o ops e d = fitted o (map (kept_term k) (numbers_of k.lookup.job.now ops)) (fits s (store_of k) kept o ops e d)
-
-  -- one bit-vector, and the claim
-  one_asked : (x claim : ℕ) → operands_of t ≡ OneArg x → T (is_bv_sort (sort_of (kept_term k x))) → claim < first_terms + k.lookup.rows → One k x claim
-  one_asked x claim d b c = record {
-    only = record { there = one_below s x _ d kept; sort = is_bv (sort_of (kept_term k x)) b };
-    claimed = c;
-  }
-
-  -- what the check of extract may take for granted
-  pub extract_given : (i j x claim : ℕ) → op_of t ≡ BvExtract i j → operands_of t ≡ OneArg x → claim < first_terms + k.lookup.rows → Extract k i j x claim
-  extract_given i j x claim e d c =
-      let w = kept_width k x in
-      let h = asked (BvExtract i j) (OneArg x) e d in
-      let q = and_r (is_bv_sort (sort_of (kept_term k x))) _ h in
-      record {
-        one = one_asked x claim d (and_l (is_bv_sort (sort_of (kept_term k x))) _ h) c;
-        order = leb→le j i (and_l (leb j i) _ q);
-        inside = ltb→lt i w (and_r (leb j i) _ q);
-      }
-
-  -- of sign_extend
-  pub extend_given : (m x claim : ℕ) → op_of t ≡ SignExtend m → operands_of t ≡ OneArg x → claim < first_terms + k.lookup.rows → Extend k m x claim
-  extend_given m x claim e d c =
-      let h = asked (SignExtend m) (OneArg x) e d in
-      record {
-        one = one_asked x claim d (and_l (is_bv_sort (sort_of (kept_term k x))) _ h) c;
-        fits = leb→le (kept_width k x + m) max_width (and_r (is_bv_sort (sort_of (kept_term k x))) _ h);
-      }
-
-  -- of zero_extend
-  pub zeros_given : (m x claim : ℕ) → op_of t ≡ ZeroExtend m → operands_of t ≡ OneArg x → claim < first_terms + k.lookup.rows → Extend k m x claim
-  zeros_given m x claim e d c =
-      let h = asked (ZeroExtend m) (OneArg x) e d in
-      record {
-        one = one_asked x claim d (and_l (is_bv_sort (sort_of (kept_term k x))) _ h) c;
-        fits = leb→le (kept_width k x + m) max_width (and_r (is_bv_sort (sort_of (kept_term k x))) _ h);
-      }
-
-  -- of repeat
-  pub copies_given : (m x claim : ℕ) → op_of t ≡ Repeat m → operands_of t ≡ OneArg x → claim < first_terms + k.lookup.rows → Copies k m x claim
-  copies_given m x claim e d c =
-      let h = asked (Repeat m) (OneArg x) e d in
-      record {
-        one = one_asked x claim d (and_l (is_bv_sort (sort_of (kept_term k x))) _ h) c;
-        fits = leb→le (m * kept_width k x) max_width (and_r (leb 1 (m * kept_width k x)) _ (and_r (is_bv_sort (sort_of (kept_term k x))) _ h));
-      }
 
   -- a list of arguments
   pub list_given : (a : Args) → operands_of t ≡ Listed a → KeptArguments k (Listed a)
@@ -166,3 +107,15 @@ module _ (k : Kept) {p : ℕ} {t : Decoded} (s : IsTermAt k p t) (kept : p < fir
         fits = leb→le (sum_widths ss) max_width (and_r (leb 1 (sum_widths ss)) _ (and_r (all_bv ss) _ h));
         claimed = c;
       }
+
+-- ---- what fits the numbers in a kind: of extract
+pub part_fits : (s : Sort) (i j : ℕ) → T (is_bv_sort s && (leb j i && ltb i (sort_width s))) → (j ≤ i) × (i < sort_width s)
+part_fits s i j h = let q = and_r (is_bv_sort s) _ h in (leb→le j i (and_l (leb j i) _ q), ltb→lt i (sort_width s) (and_r (leb j i) _ q))
+
+-- of zero_extend and sign_extend
+pub wider_fits : (s : Sort) (m : ℕ) → T (is_bv_sort s && leb (sort_width s + m) max_width) → sort_width s + m ≤ max_width
+wider_fits s m h = leb→le (sort_width s + m) max_width (and_r (is_bv_sort s) _ h)
+
+-- of repeat
+pub copies_fit : (s : Sort) (m : ℕ) → T (is_bv_sort s && (leb 1 (m * sort_width s) && leb (m * sort_width s) max_width)) → m * sort_width s ≤ max_width
+copies_fit s m h = let n = m * sort_width s in leb→le n max_width (and_r (leb 1 n) _ (and_r (is_bv_sort s) _ h))

@@ -32,11 +32,11 @@ use Rattle.terms.specs.contracts.Term as E
 use Rattle.store.specs.declared.gates.Kept.{Kept}
 use Rattle.store.specs.Kept.{KeptArguments, kept_terms, kept_term, words_of}
 use Rattle.store.specs.Terms.{TermAt}
-use Rattle.operand_rules.proofs.Forms.{tree, others}
+use Rattle.operand_rules.proofs.Forms.{tree, others, index_is}
 use Rattle.operand_rules.proofs.Tests.{on_same, on_other}
 use Rattle.slice_rules.specs.Given.{literal_number}
 use Rattle.slice_rules.proofs.Copying.{one_back}
-use Rattle.slice_rules.proofs.Fitting.{same_place, args_are, args_not, index_is}
+use Rattle.slice_rules.proofs.Fitting.{same_place, args_are, args_not}
 use Rattle.theory.proofs.Basics.{true_T}
 
 -- ---- the left side is a constant, or is none
@@ -111,8 +111,8 @@ module _ {ks : List ℕ} where
 
     module _ (h : 0 < i) {x : ℕ} (e : x ≡ get_or ks (i - 1) 0) where
       -- bit i - 1 is literal
-      pub sum_turn : x ≤ 1 → Summing ks (2 * sum + (1 - x)) (i - 1)
-      sum_turn l =
+      pub sum_turn : x ≤ 1 → {y : ℕ} → y ≡ 1 - x → Summing ks (2 * sum + y) (i - 1)
+      sum_turn l y_is =
           let q = literal x l in
           let p = inv.passed in
           let z = inv.size in

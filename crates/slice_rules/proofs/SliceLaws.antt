@@ -2,7 +2,7 @@
 use mathlib.Core.Path.{◌≡◌, refl, sym, ap, ap₂, subst, ◌∙◌}
 use mathlib.Core.Bool.{Bool, ◌&&◌, not, cond}
 use mathlib.Core.List.{List, [], ◌∷◌, map}
-use Rattle.std.specs.Prelude.{Option, None as none, Some as some}
+use Rattle.std.specs.Prelude.{Option, None as none, Some as some, Result, Ok as ok, Err as err}
 use Prim.Native.Nat.{ℕ, suc, ◌+◌, ◌<◌, ◌≤◌}
 use native.Mathlib.Numerals.{add-one}
 use native.Mathlib.Omega.{arith}
@@ -26,14 +26,11 @@ use Rattle.store.specs.declared.gates.Kept.{Kept}
 use Rattle.store.specs.Kept.{IsTermAt, kept_term, kept_width, words_of}
 use Rattle.store.proofs.Arguments.{count_length, operand_below}
 use Rattle.operand_rules.specs.declared.Verdict as R
+use Rattle.slice_rules.specs.declared.parts.Extraction.{Extraction}
 use Rattle.operand_rules.specs.Rules.{verdict_of}
-use Rattle.operand_rules.proofs.Forms.{others}
-use Rattle.slice_rules.specs.declared.slicing.Pair.{Pair}
-use Rattle.slice_rules.specs.declared.slicing.Pair.TheVariants.{Two, Other}
-use Rattle.slice_rules.specs.declared.slicing.Slice.{Slice}
-use Rattle.slice_rules.specs.declared.slicing.Slice.TheVariants.{Next, Refused}
+use Rattle.operand_rules.proofs.Forms.{others, indexed_form}
 use Rattle.slice_rules.specs.Slices.{two_args, pair_of, PairKept, Conjunction, after, number_tests, Answers}
-use Rattle.slice_rules.proofs.Fitting.{same_place, args_are, args_not, indexed_form, list_given}
+use Rattle.slice_rules.proofs.Fitting.{same_place, args_are, args_not, list_given}
 
 -- ---- a conjunction of two
 -- `binary` by the two arguments
@@ -44,22 +41,22 @@ binary_two k t f = go (args_of k t)
     go none = refl
     go (some ts) = refl
 
-module _ {k : Kept} {p : ℕ} {r : Pair} (s : Conjunction k p r) where
+module _ {k : Kept} {p : ℕ} {r : Option (ℕ × ℕ)} (s : Conjunction k p r) where
   -- what it makes of a form
-  of_pair : (q : Pair) → r ≡ q → (f : Term → Term → Verdict) → form (pair_of k q) (λ u. f u.0 u.1) ≡ binary (kind BvAnd) (kept_term k p) f
+  of_pair : (q : Option (ℕ × ℕ)) → r ≡ q → (f : Term → Term → Verdict) → form (pair_of k q) (λ u. f u.0 u.1) ≡ binary (kind BvAnd) (kept_term k p) f
   of_pair q e f =
       ap (λ (o : Option (Term × Term)). form o (λ u. f u.0 u.1)) (sym (ap (pair_of k) e) ∙ s.arguments) ∙ binary_two (kind BvAnd) (kept_term k p) f
 
   -- it is one, of x and y
-  pub pair_form : {x y : ℕ} → r ≡ Two x y → (f : Term → Term → Verdict) → f (kept_term k x) (kept_term k y) ≡ binary (kind BvAnd) (kept_term k p) f
-  pair_form {x} {y} e f = of_pair (Two x y) e f
+  pub pair_form : {x y : ℕ} → r ≡ some (x, y) → (f : Term → Term → Verdict) → f (kept_term k x) (kept_term k y) ≡ binary (kind BvAnd) (kept_term k p) f
+  pair_form {x} {y} e f = of_pair (some (x, y)) e f
 
   -- it is none
-  pub no_pair : r ≡ Other → (f : Term → Term → Verdict) → wrong_form ≡ binary (kind BvAnd) (kept_term k p) f
-  no_pair e f = of_pair Other e f
+  pub no_pair : r ≡ none → (f : Term → Term → Verdict) → wrong_form ≡ binary (kind BvAnd) (kept_term k p) f
+  no_pair e f = of_pair none e f
 
   -- and these are kept
-  pub pair_kept : {x y : ℕ} → r ≡ Two x y → (x < first_terms + k.lookup.rows) × (y < first_terms + k.lookup.rows)
+  pub pair_kept : {x y : ℕ} → r ≡ some (x, y) → (x < first_terms + k.lookup.rows) × (y < first_terms + k.lookup.rows)
   pair_kept e = subst (PairKept k) e s.kept
 
 -- what a decoded term says of it: another kind, another number of arguments, or just two
@@ -76,11 +73,11 @@ two_of_is f (x ∷ y ∷ []) h = refl
 two_of_is f (x ∷ y ∷ z ∷ ks) h = absurd (omega arith)
 
 module _ (k : Kept) {p : ℕ} {t : Decoded} (s : IsTermAt k p t) where
-  pub not_and : Among (0 ∷ others 15) (tag_of E.the_type t) → Conjunction k p Other
+  pub not_and : Among (0 ∷ others 15) (tag_of E.the_type t) → Conjunction k p none
   not_and e = record { arguments = sym (ap (either none two_of) (args_not s 15 e tt)); kept = tt }
 
   module _ {a : Args} where
-    pub not_two : op_of t ≡ BvAnd → operands_of t ≡ Listed a → (a.count ≡ 2 → ⊥) → Conjunction k p Other
+    pub not_two : op_of t ≡ BvAnd → operands_of t ≡ Listed a → (a.count ≡ 2 → ⊥) → Conjunction k p none
     not_two e d h = record {
       arguments = sym (ap (either none two_of) (args_are s BvAnd (Listed a) e d)
           ∙ two_of_not (map (kept_term k) (words_of k a)) (λ z. h (sym (length-map (words_of k a) (kept_term k) ∙ count_length k.lookup.job.now (Listed a)) ∙ z)));
@@ -88,7 +85,7 @@ module _ (k : Kept) {p : ℕ} {t : Decoded} (s : IsTermAt k p t) where
     }
 
     pub and_two : p < first_terms + k.lookup.rows → op_of t ≡ BvAnd → operands_of t ≡ Listed a → a.count ≡ 2
-        → {x y : ℕ} → x ≡ get_or (words_of k a) 0 0 → y ≡ get_or (words_of k a) 1 0 → Conjunction k p (Two x y)
+        → {x y : ℕ} → x ≡ get_or (words_of k a) 0 0 → y ≡ get_or (words_of k a) 1 0 → Conjunction k p (some (x, y))
     and_two there e d l {x} {y} f g =
         let given = list_given k s there a d in
         record {
@@ -100,10 +97,14 @@ module _ (k : Kept) {p : ℕ} {t : Decoded} (s : IsTermAt k p t) where
 -- ---- the tests on a slice
 -- where these are bits j to i of x and bits m to k of y, the tests are on numbers
 module _ (kept : Kept) {p q : ℕ} {t u : Decoded} (s : IsTermAt kept p t) (r : IsTermAt kept q u) where
-  pub pair_tested : (a c done i j x k m y : ℕ) (next : ℕ → Verdict) → op_of t ≡ BvExtract i j → operands_of t ≡ OneArg x → op_of u ≡ BvExtract k m
-      → operands_of u ≡ OneArg y → a < first_terms + kept.lookup.rows → c < first_terms + kept.lookup.rows → x < first_terms + kept.lookup.rows → y < first_terms + kept.lookup.rows
-      → number_tests a c done i j x k m y next ≡ parts_verdict done (kept_term kept a) (kept_term kept c) next (kept_term kept p) (kept_term kept q)
-  pair_tested a c done i j x k m y next e d f g ha hc hx hy =
+  pub pair_tested : (a c done : ℕ) (l : Extraction) (x : ℕ) (m : Extraction) (y : ℕ) (next : ℕ → Verdict) → op_of t ≡ BvExtract l.upper l.lower → operands_of t ≡ OneArg x
+      → op_of u ≡ BvExtract m.upper m.lower → operands_of u ≡ OneArg y → a < first_terms + kept.lookup.rows → c < first_terms + kept.lookup.rows → x < first_terms + kept.lookup.rows → y < first_terms + kept.lookup.rows
+      → number_tests a c done l x m y next ≡ parts_verdict done (kept_term kept a) (kept_term kept c) next (kept_term kept p) (kept_term kept q)
+  pair_tested a c done l x r' y next e d f g ha hc hx hy =
+      let i = l.upper in
+      let j = l.lower in
+      let k = r'.upper in
+      let m = r'.lower in
       let A = kept_term kept a in
       let C = kept_term kept c in
       ap (λ (z : ℕ). cond (not (eqb i k && eqb j m)) wrong_form (cond (not (eqb z done)) index_not_next (cond (not (eqb a x && eqb c y)) terms_differ (next j)))) (add-one i)
@@ -130,7 +131,7 @@ module _ {k : Kept} {a c : ℕ} {ks : List ℕ} where
   slices_start e = record { passed = omega arith; rest = ap (λ (d : ℕ). slices_in k a c d ks) (sym e) }
 
   module _ {done i : ℕ} (inv : Slicing k a c ks done i) where
-    module _ (h : i < length ks) {x : ℕ} (e : x ≡ get_or ks i 0) (r : Slice) (f : Answers r (slice_verdict done (kept_term k a) (kept_term k c) (kept_term k x))) where
+    module _ (h : i < length ks) {x : ℕ} (e : x ≡ get_or ks i 0) (r : Result ℕ R.Verdict) (f : Answers r (slice_verdict done (kept_term k a) (kept_term k c) (kept_term k x))) where
       -- the next slice
       next : after r (λ j. slices_in k a c j (drop (suc i) ks)) ≡ slices_in k a c (kept_width k c) ks
       unfolding slices_verdict
@@ -139,15 +140,15 @@ module _ {k : Kept} {a c : ℕ} {ks : List ℕ} where
           ∙ sym (inv.rest ∙ ap (slices_in k a c done) (drop-cons ks i 0 h ∙ ap (λ (y : ℕ). y ∷ drop (suc i) ks) (sym e)))
 
       -- it is as it should be
-      pub slices_turn : {j : ℕ} → r ≡ Next j → Slicing k a c ks j (i + 1)
+      pub slices_turn : {j : ℕ} → r ≡ ok j → Slicing k a c ks j (i + 1)
       slices_turn {j} d = record {
         passed = omega arith;
-        rest = sym next ∙ ap (λ (q : Slice). after q (λ m. slices_in k a c m (drop (suc i) ks))) d ∙ ap (λ (m : ℕ). slices_in k a c j (drop m ks)) (sym (add-one i));
+        rest = sym next ∙ ap (λ (q : Result ℕ R.Verdict). after q (λ m. slices_in k a c m (drop (suc i) ks))) d ∙ ap (λ (m : ℕ). slices_in k a c j (drop m ks)) (sym (add-one i));
       }
 
       -- it is refused
-      pub slices_refused : {v : R.Verdict} → r ≡ Refused v → verdict_of v ≡ slices_in k a c (kept_width k c) ks
-      slices_refused d = sym (ap (λ (q : Slice). after q (λ m. slices_in k a c m (drop (suc i) ks))) d) ∙ next
+      pub slices_refused : {v : R.Verdict} → r ≡ err v → verdict_of v ≡ slices_in k a c (kept_width k c) ks
+      slices_refused d = sym (ap (λ (q : Result ℕ R.Verdict). after q (λ m. slices_in k a c m (drop (suc i) ks))) d) ∙ next
 
     -- none is left
     pub slices_end : length ks ≤ i → held ≡ slices_in k a c (kept_width k c) ks

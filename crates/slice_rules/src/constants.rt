@@ -16,18 +16,17 @@ use terms::{Args, Term};
 // Each bit is literally `true` or `false`, and they have this value.
 fn value_check(job: &[u8], list: Args, value: u64) -> Verdict
     requires { Inside job.now list }
-    ensures { verdict_of result ≡ value_bits value (collect (map literal_number (words_in job.now list))) }
+    ensures { verdict_of result
+        ≡ value_bits value (collect (map literal_number (words_in job.now list))) }
 {
     let mut sum: u64 = 0;
-    let mut i = list.count;
-    while 0 < i {
-        i -= 1;
+    for i in (0..list.count).rev() {
         let x = Term::argument(job, list, i);
         if FALSE < x {
             return Verdict::BitNotLiteral;
         }
         // `true` is term 0, and `false` term 1.
-        sum = 2 * sum + (FALSE - x) as u64;
+        sum = 2 * sum + u64::from(FALSE - x);
     }
     if value == sum {
         Verdict::Held

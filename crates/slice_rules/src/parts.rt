@@ -1,47 +1,59 @@
 // The rules extract, sign_extend and concat: bits that are copied, and no gates.
-ghost use Rattle.std.specs.Prelude.{◌≡◌, cond, ◌+◌, ◌<◌, ◌≤◌, eqb, drop};
-ghost use Rattle.std.proofs.Math.Seq.{paste};
-ghost use Rattle.theory.specs.Limit.{first_terms, max_width};
-ghost use Rattle.theory.specs.Bits.{bb, extract_bits, concat_bits, extend_bits};
+ghost use Rattle.std.specs.Prelude.{◌≡◌, cond, ◌+◌, ◌<◌, eqb, refl};
+ghost use lib.Ieee.Fits.{and_l};
+ghost use Rattle.theory.specs.Limit.{first_terms};
+ghost use Rattle.theory.specs.Kind as K;
+ghost use Rattle.theory.specs.Sort.{is_bv_sort};
+ghost use Rattle.theory.specs.Bits.{get_term_bits, bb, extract_bits, concat_bits, extend_bits};
 ghost use Rattle.theory.specs.Verdict.{held};
 ghost use Rattle.theory.specs.RuleTable.{by_extract, by_concat, by_sign_extend};
-ghost use Rattle.theory.specs.Rule.{compare, verdict};
-ghost use Rattle.store.specs.Kept.{kept_term, kept_bits, kept_arguments};
+ghost use Rattle.theory.specs.Rule.{args_of, extend_kind, extract_kind, form, compare, verdict};
+ghost use Rattle.store.specs.Kept.{kept_term, kept_arguments};
 ghost use Rattle.operand_rules.specs.Rules.{verdict_of};
-ghost use Rattle.slice_rules.specs.Given.{Extract, Extend, Concat};
+ghost use Rattle.slice_rules.specs.Given.{Concat};
 
-use circuits::bits::{Bits, MAX_BITS};
+use circuits::bits::{Bits, append, same_bits};
 use operand_rules::Verdict;
 use operand_rules::bits::{compare_bits, get_term_bits, width_at};
+use operand_rules::operation::{Unary, unary_rule};
 use store::gates::Kept;
 use terms::{Args, Term};
 
-// `out` with `count` bits of xs, those from `from` on, in the places from `start` on.
-fn put_bits(out: Bits, start: usize, xs: Bits, from: usize, count: usize) -> Bits
-    requires { (start + count ≤ max_width) × (from + count ≤ max_width) }
-    ensures { result ≡ paste out start (drop from xs) count }
-{
-    let mut bits = out;
-    let mut i = 0;
-    while i < count {
-        bits[start + i] = xs[from + i];
-        i += 1;
-    }
-    bits
+// The operand's bits `lower` to `upper`.
+#[derive(Clone, Copy)]
+pub(crate) struct Extraction {
+    pub(crate) upper: u32,
+    pub(crate) lower: u32,
 }
 
-// The claim is the term of the bits j to i of x.
-fn extract_check(kept: &Kept, i: u32, j: u32, x: u32, claim: u32) -> Verdict
-    requires { Extract kept.now i j x claim }
-    ensures { verdict_of result ≡ compare held
-        (bb (extract_bits i j (kept_bits kept.now x))) (kept_term kept.now claim) }
-{
-    let w = width_at(kept, x);
-    let xs = get_term_bits(kept, x, w);
-    let low = j as usize;
-    let count = (i - j) as usize + 1;
-    let bits = put_bits([0; MAX_BITS], 0, xs, low, count);
-    compare_bits(&kept.lookup, bits, count, claim)
+impl Unary for Extraction {
+    ghost kind = { λ s. K.BvExtract s.upper s.lower };
+
+    ghost number = { extract_kind };
+
+    ghost verdict = { λ i x claim. form (args_of (K.kind K.BvBbTerm) claim) (λ ts.
+        compare held (bb (extract_bits (i 0) (i 1) (get_term_bits x))) claim) };
+
+    ghost numbered = { λ s. refl };
+
+    ghost asks = { λ s t h. and_l (is_bv_sort t) _ h };
+
+    fn of(term: Term) -> Option<(Extraction, u32)> {
+        let Term::BvExtract(upper, lower, x) = term else {
+            return None;
+        };
+        Some((Extraction { upper, lower }, x))
+    }
+
+    // The claim is the term of these bits, and a BvBbTerm.
+    fn check(self, kept: &Kept, x: u32, claim: u32) -> Verdict {
+        let Term::BvBbTerm(_) = kept.term_at(claim) else {
+            return Verdict::WrongForm;
+        };
+        let xs = get_term_bits(kept, x, width_at(kept, x));
+        let part = &xs[self.lower as usize..self.upper as usize + 1];
+        operand_rules::compare(kept.lookup.bb_term(part), claim)
+    }
 }
 
 // extract: (= ((_ extract i j) x) claim), the claim a BvBbTerm.
@@ -49,33 +61,45 @@ pub fn extract(kept: &Kept, literal: u32) -> Verdict
     requires { literal < first_terms + kept.now.lookup.rows }
     ensures { verdict_of result ≡ verdict by_extract (kept_term kept.now literal) }
 {
-    let Term::Equals(l, r) = kept.term_at(literal) else {
-        return Verdict::WrongForm;
-    };
-    let Term::BvExtract(i, j, x) = kept.term_at(l) else {
-        return Verdict::WrongForm;
-    };
-    let Term::BvBbTerm(_) = kept.term_at(r) else {
-        return Verdict::WrongForm;
-    };
-    extract_check(kept, i, j, x, r)
+    unary_rule::<Extraction>(kept, literal)
 }
 
-// The claim is x itself where k is 0, else the term of its bits and k copies of the top one.
-fn sign_extend_check(kept: &Kept, k: u32, x: u32, claim: u32) -> Verdict
-    requires { Extend kept.now k x claim }
-    ensures { verdict_of result ≡ compare held
-        (cond (eqb k 0) (kept_term kept.now x) (bb (extend_bits k (kept_bits kept.now x))))
-        (kept_term kept.now claim) }
-{
-    if k == 0 {
-        return operand_rules::compare(x, claim);
+// So many copies of the operand's top bit above its bits.
+#[derive(Clone, Copy)]
+struct SignExtension {
+    copies: u32,
+}
+
+impl Unary for SignExtension {
+    ghost kind = { λ s. K.SignExtend s.copies };
+
+    ghost number = { extend_kind };
+
+    ghost verdict = { λ i x claim. compare held
+        (cond (eqb (i 0) 0) x (bb (extend_bits (i 0) (get_term_bits x)))) claim };
+
+    ghost numbered = { λ s. refl };
+
+    ghost asks = { λ s t h. and_l (is_bv_sort t) _ h };
+
+    fn of(term: Term) -> Option<(SignExtension, u32)> {
+        let Term::SignExtend(copies, x) = term else {
+            return None;
+        };
+        Some((SignExtension { copies }, x))
     }
-    let w = width_at(kept, x);
-    let xs = get_term_bits(kept, x, w);
-    let tops = [xs[w - 1]; MAX_BITS];
-    let bits = put_bits(tops, 0, xs, 0, w);
-    compare_bits(&kept.lookup, bits, w + k as usize, claim)
+
+    // The claim is the operand itself where there are no copies, else the term of the bits.
+    fn check(self, kept: &Kept, x: u32, claim: u32) -> Verdict {
+        if self.copies == 0 {
+            return operand_rules::compare(x, claim);
+        }
+        let w = width_at(kept, x);
+        let mut bits = get_term_bits(kept, x, w);
+        let top = bits[w - 1];
+        append(&mut bits, &same_bits(top, self.copies as usize));
+        compare_bits(&kept.lookup, &bits, claim)
+    }
 }
 
 // sign_extend: (= ((_ sign_extend k) x) claim).
@@ -83,13 +107,7 @@ pub fn sign_extend(kept: &Kept, literal: u32) -> Verdict
     requires { literal < first_terms + kept.now.lookup.rows }
     ensures { verdict_of result ≡ verdict by_sign_extend (kept_term kept.now literal) }
 {
-    let Term::Equals(l, r) = kept.term_at(literal) else {
-        return Verdict::WrongForm;
-    };
-    let Term::SignExtend(k, x) = kept.term_at(l) else {
-        return Verdict::WrongForm;
-    };
-    sign_extend_check(kept, k, x, r)
+    unary_rule::<SignExtension>(kept, literal)
 }
 
 // The claim is the term of all arguments' bits, the last argument's first.
@@ -98,19 +116,12 @@ fn concat_check(kept: &Kept, list: Args, claim: u32) -> Verdict
     ensures { verdict_of result ≡ compare held
         (bb (concat_bits (kept_arguments kept.now list))) (kept_term kept.now claim) }
 {
-    let mut bits = [0u32; MAX_BITS];
-    let mut w: usize = 0;
-    let mut i = list.count;
-    while 0 < i {
-        i -= 1;
+    let mut bits = Bits::new();
+    for i in (0..list.count).rev() {
         let x = Term::argument(kept.lookup.job, list, i);
-        let size = width_at(kept, x);
-        let xs = get_term_bits(kept, x, size);
-        let more = put_bits(bits, w, xs, 0, size);
-        bits = more;
-        w += size;
+        append(&mut bits, &get_term_bits(kept, x, width_at(kept, x)));
     }
-    compare_bits(&kept.lookup, bits, w, claim)
+    compare_bits(&kept.lookup, &bits, claim)
 }
 
 // concat: (= (concat x y ..) claim), the claim a BvBbTerm.

@@ -8,81 +8,78 @@ ghost use Rattle.store.specs.Kept.{KeptArguments, kept_term, kept_width, kept_ar
 ghost use Rattle.operand_rules.specs.Rules.{verdict_of};
 ghost use Rattle.slice_rules.specs.Slices.{Conjunction, number_tests, Answers};
 
+use crate::parts::Extraction;
 use operand_rules::Verdict;
+use operand_rules::operation::Unary;
 use store::gates::Kept;
 use store::sorts::width_of;
 use terms::{Args, Term};
 
-// The arguments of a conjunction of just two, or none.
-#[derive(Clone, Copy)]
-pub enum Pair {
-    Two(u32, u32),
-    Other,
-}
-
-// A slice that is as it should be, with its lower index, or the verdict on it.
-#[derive(Clone, Copy)]
-pub enum Slice {
-    Next(u32),
-    Refused(Verdict),
-}
-
-// The two arguments of a BvAnd.
-fn and_pair(kept: &Kept, place: u32) -> Pair
+// The two arguments of a BvAnd of just two.
+fn and_pair(kept: &Kept, place: u32) -> Option<(u32, u32)>
     requires { place < first_terms + kept.now.lookup.rows }
     ensures { Conjunction kept.now place result }
 {
     let Term::BvAnd(list) = kept.term_at(place) else {
-        return Pair::Other;
+        return None;
     };
     if list.count != 2 {
-        return Pair::Other;
+        return None;
     }
     let x = Term::argument(kept.lookup.job, list, 0);
     let y = Term::argument(kept.lookup.job, list, 1);
-    Pair::Two(x, y)
+    Some((x, y))
 }
 
-// The tests on a slice: bits j to i of x and bits m to k of y, where a and c are sliced and `done` is the lowest index so far.
-fn slice_check(a: u32, c: u32, done: usize, i: u32, j: u32, x: u32, k: u32, m: u32, y: u32) -> Slice
-    ensures { Answers result (number_tests a c done i j x k m y) }
+// The tests on a slice of a and c, which takes bits of x and of y, where `done` is the lowest index
+// so far: its lower index, or the verdict on it.
+fn slice_check(
+    a: u32,
+    c: u32,
+    done: usize,
+    left: Extraction,
+    x: u32,
+    right: Extraction,
+    y: u32,
+) -> Result<u32, Verdict>
+    ensures { Answers result (number_tests a c done left x right y) }
 {
-    if i != k {
-        return Slice::Refused(Verdict::WrongForm);
+    if left.upper != right.upper {
+        return Err(Verdict::WrongForm);
     }
-    if j != m {
-        return Slice::Refused(Verdict::WrongForm);
+    if left.lower != right.lower {
+        return Err(Verdict::WrongForm);
     }
-    if i as usize + 1 != done {
-        return Slice::Refused(Verdict::IndexNotNext);
+    if left.upper as usize + 1 != done {
+        return Err(Verdict::IndexNotNext);
     }
     if a != x {
-        return Slice::Refused(Verdict::TermsDiffer);
+        return Err(Verdict::TermsDiffer);
     }
     if c != y {
-        return Slice::Refused(Verdict::TermsDiffer);
+        return Err(Verdict::TermsDiffer);
     }
-    Slice::Next(j)
+    Ok(left.lower)
 }
 
 // One slice of a and c.
-fn next_slice(kept: &Kept, a: u32, c: u32, done: usize, slice: u32) -> Slice
+fn next_slice(kept: &Kept, a: u32, c: u32, done: usize, slice: u32) -> Result<u32, Verdict>
     requires slice { slice < first_terms + kept.now.lookup.rows }
     requires left { a < first_terms + kept.now.lookup.rows }
     requires right { c < first_terms + kept.now.lookup.rows }
-    ensures { Answers result
-        (slice_verdict done (kept_term kept.now a) (kept_term kept.now c) (kept_term kept.now slice)) }
+    ensures { Answers result (slice_verdict done
+        (kept_term kept.now a) (kept_term kept.now c) (kept_term kept.now slice)) }
 {
-    let Pair::Two(p, q) = and_pair(kept, slice) else {
-        return Slice::Refused(Verdict::WrongForm);
+    let Some((p, q)) = and_pair(kept, slice) else {
+        return Err(Verdict::WrongForm);
     };
-    let Term::BvExtract(i, j, x) = kept.term_at(p) else {
-        return Slice::Refused(Verdict::WrongForm);
+    let Some((left, x)) = Extraction::of(kept.term_at(p)) else {
+        return Err(Verdict::WrongForm);
     };
-    let Term::BvExtract(k, m, y) = kept.term_at(q) else {
-        return Slice::Refused(Verdict::WrongForm);
+    let Some((right, y)) = Extraction::of(kept.term_at(q)) else {
+        return Err(Verdict::WrongForm);
     };
-    slice_check(a, c, done, i, j, x, k, m, y)
+    slice_check(a, c, done, left, x, right, y)
 }
 
 // The slices are those of a and c, from the top of c down.
@@ -94,20 +91,16 @@ fn slices_check(kept: &Kept, a: u32, c: u32, list: Args) -> Verdict
         (kept_width kept.now c) (kept_arguments kept.now list) }
 {
     let mut done = width_of(kept.sort_at(c)) as usize;
-    let count = list.count;
-    let mut i = 0;
-    while i < count {
+    for i in 0..list.count {
         let x = Term::argument(kept.lookup.job, list, i);
-        let slice = next_slice(kept, a, c, done, x);
-        match slice {
-            Slice::Next(low) => {
+        match next_slice(kept, a, c, done, x) {
+            Ok(low) => {
                 done = low as usize;
             }
-            Slice::Refused(v) => {
-                return v;
+            Err(refused) => {
+                return refused;
             }
         }
-        i += 1;
     }
     Verdict::Held
 }
@@ -120,7 +113,7 @@ pub fn bitwise_slicing(kept: &Kept, literal: u32) -> Verdict
     let Term::Equals(l, r) = kept.term_at(literal) else {
         return Verdict::WrongForm;
     };
-    let Pair::Two(a, c) = and_pair(kept, l) else {
+    let Some((a, c)) = and_pair(kept, l) else {
         return Verdict::WrongForm;
     };
     let Term::BvConcat(list) = kept.term_at(r) else {

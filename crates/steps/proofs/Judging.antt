@@ -32,48 +32,6 @@ use Rattle.steps.proofs.Equations.{accepted_depth}
 abbrev pub reply : ℕ → ℕ → Reply
 reply code depth = record { code = code; depth = depth }
 
--- ---- a verdict's code
--- below 10 the verdict accepts
-pub accepts : (v : Verdict) → code_of v < 10 → accepted v ≡ true
-accepts W.held h = refl
-accepts W.form_only h = refl
-accepts W.not_one_literal h = absurd (omega arith)
-accepts W.wrong_form h = absurd (omega arith)
-accepts W.not_bit_vector h = absurd (omega arith)
-accepts W.not_constant h = absurd (omega arith)
-accepts W.bit_not_literal h = absurd (omega arith)
-accepts W.other_value h = absurd (omega arith)
-accepts W.terms_differ h = absurd (omega arith)
-accepts W.index_not_next h = absurd (omega arith)
-accepts W.premise_broken h = absurd (omega arith)
-
--- from 10 on it refuses
-pub refuses : (v : Verdict) → 10 ≤ code_of v → accepted v ≡ false
-refuses W.held h = absurd (omega arith)
-refuses W.form_only h = absurd (omega arith)
-refuses W.not_one_literal h = refl
-refuses W.wrong_form h = refl
-refuses W.not_bit_vector h = refl
-refuses W.not_constant h = refl
-refuses W.bit_not_literal h = refl
-refuses W.other_value h = refl
-refuses W.terms_differ h = refl
-refuses W.index_not_next h = refl
-refuses W.premise_broken h = refl
-
--- ---- the reply with a verdict
-module _ {v : Verdict} {literal : Term} {code : ℕ} (e : code ≡ code_of v) where
-  -- it refuses: depth 0
-  pub judged_no : 10 ≤ code → Judged v literal (reply code 0)
-  judged_no h = record {
-    code_is = e;
-    depth_is = sym (ap (λ (b : Bool). cond b (equation_depth literal) 0) (refuses v (omega arith)));
-  }
-
-  -- it accepts: the right side's depth
-  pub judged_yes : {d : ℕ} → code < 10 → d ≡ equation_depth literal → Judged v literal (reply code d)
-  judged_yes h g = record { code_is = e; depth_is = g ∙ sym (ap (λ (b : Bool). cond b (equation_depth literal) 0) (accepts v (omega arith))) }
-
 -- it is theory's, where an accepted literal has a right side
 pub judged_is : (n : ℕ) {v : Verdict} {t : Term} {r : Reply} → Judged v t r → (accepted v ≡ true → equation_depth t ≡ right_depth t) → given n r ≡ judged n v t
 judged_is n {v} {t} {r} j f = given_by j.code_is (j.depth_is ∙ go (accepted v) f)

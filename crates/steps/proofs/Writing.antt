@@ -2,7 +2,8 @@
 use mathlib.Core.Path.{◌≡◌, refl, sym, ap, ap₂, ◌∙◌}
 use mathlib.Core.List.{List, [], ◌∷◌, ◌++◌, map, append_assoc, append-nil}
 use Rattle.std.specs.Prelude.{Option, None as none, Some as some}
-use Prim.Native.Nat.{ℕ, zero, suc, ◌+◌, ◌-◌, ◌*◌, ◌≤◌}
+use Prim.Native.Nat.{ℕ, zero, suc, ◌+◌, ◌-◌, ◌*◌, ◌<◌, ◌≤◌}
+use native.Mathlib.Nat.{mul-le-mul_left}
 use native.Mathlib.Omega.{arith}
 use native.Mathlib.Numerals.{add-one}
 use lib.ListN.{length, take, drop, set, length-append, length-drop, take-append-drop}
@@ -158,6 +159,38 @@ module _ (b : ℕ) where
       let p = answer_bytes b * k in
       let stored : d₂ ≡ sets (sealed b k d) p (encode_head b) = rw (e₂, e₁, e₀) (sym (sets_append (sealed b k d) p (word_bytes (answer_bytes b - number_bytes)) (word_bytes 200))) in
       stored ∙ sym (sealed_next k d h) ∙ ap (λ (j : ℕ). sealed b j d) (sym (add-one k))
+
+-- the loop of `seal`: of n answers the first k have their length and kind
+pub record Sealing (b n : ℕ) (old memory : Bytes) (k : ℕ) : Type 0 where
+  pub within : k ≤ n
+  pub long : length memory ≡ length old
+  pub sealed_is : memory ≡ sealed b k old
+
+pub sealing_start : (b n : ℕ) (old : Bytes) → Sealing b n old old 0
+sealing_start b n old = record { within = omega arith; long = refl; sealed_is = sealed_start b old }
+
+module _ {b n k : ℕ} {old memory : Bytes} (room : answer_bytes b * n ≤ length old) (s : Sealing b n old memory k) (more : k < n) where
+  -- one more answer is there
+  pub sealing_room : answer_bytes b * suc k ≤ length memory
+  sealing_room =
+      let less : answer_bytes b * suc k ≤ answer_bytes b * n = mul-le-mul_left (answer_bytes b) more in
+      let l = s.long in omega arith
+
+  pub sealing_turn : {first second : Bytes} → length second ≡ length memory
+      → first ≡ sets memory (answer_bytes b * k) (word_bytes (answer_bytes b - number_bytes))
+      → second ≡ sets first (answer_bytes b * k + 2) (word_bytes 200) → Sealing b n old second (k + 1)
+  sealing_turn {first} {second} l e f =
+      let r = sealing_room in
+      let long = s.long in
+      record {
+        within = omega arith;
+        long = l ∙ s.long;
+        sealed_is = sealed_more b old memory first second k (omega arith) s.sealed_is e f;
+      }
+
+pub sealing_end : {b n k : ℕ} {old memory : Bytes} → Sealing b n old memory k → n ≤ k → memory ≡ sealed b n old
+sealing_end {b} {n} {k} {old} s t =
+    let w = s.within in s.sealed_is ∙ ap (λ (j : ℕ). sealed b j old) (let e : k ≡ n = omega arith in e)
 
 -- answers as they stood while the job ran, each with the place of its step's record
 abbrev pub Note : Type 0

@@ -1,5 +1,7 @@
-// The answers' memory: for each answer four numbers of two bytes, and a depth of as many bytes as a term's number has. While the job runs, the bytes of an answer's length and kind hold the
-// place of its step's record in the job, by which a chain finds the literals of its premises; they are written when the job has ended.
+// The answers' memory: for each answer four numbers of two bytes, and a depth of as many bytes as
+// a term's number has. While the job runs, the bytes of an answer's length and kind hold the place
+// of its step's record in the job, by which a chain finds the literals of its premises; they are
+// written when the job has ended.
 ghost use Rattle.std.specs.Prelude.{◌≡◌, [], ◌∷◌, suc, ◌*◌, ◌≤◌, length};
 ghost use Rattle.theory.specs.Limit.{answer_bytes, max_job};
 ghost use Rattle.terms.specs.Bodies.{Length};
@@ -20,9 +22,11 @@ pub struct Reply {
 // An answer's kind.
 const ANSWER_KIND: usize = 200;
 
-// Stores answer k while the job runs: the place of the step's record, the rule, the code and the depth.
+// Stores answer k while the job runs: the place of the step's record, the rule, the code and the
+// depth.
 pub fn put_answer(d: &mut [u8], bytes: usize, k: usize, place: usize, rule: u32, reply: Reply)
-    requires { Length bytes × (answer_bytes bytes * suc k ≤ length d.old) }
+    requires sized { Length bytes }
+    requires room { answer_bytes bytes * suc k ≤ length d.old }
     ensures { d.new ≡ with_notes bytes d.old k place (given rule reply ∷ []) }
 {
     let at = (DEPTH_AT + bytes) * k;
@@ -34,7 +38,8 @@ pub fn put_answer(d: &mut [u8], bytes: usize, k: usize, place: usize, rule: u32,
 
 // The place of the record of answer k's step.
 pub fn place_at(d: &[u8], bytes: usize, k: usize) -> usize
-    requires { Length bytes × (answer_bytes bytes * suc k ≤ length d.now) }
+    requires sized { Length bytes }
+    requires there { answer_bytes bytes * suc k ≤ length d.now }
     ensures { Bounded result (step_place bytes d.now k) max_job }
 {
     number(d, (DEPTH_AT + bytes) * k, OFFSET_BYTES)
@@ -42,7 +47,8 @@ pub fn place_at(d: &[u8], bytes: usize, k: usize) -> usize
 
 // The code of answer k.
 pub fn code_at(d: &[u8], bytes: usize, k: usize) -> usize
-    requires { Length bytes × (answer_bytes bytes * suc k ≤ length d.now) }
+    requires sized { Length bytes }
+    requires there { answer_bytes bytes * suc k ≤ length d.now }
     ensures { Bounded result (step_code bytes d.now k) number_end }
 {
     number(d, (DEPTH_AT + bytes) * k + CODE_AT, Term::NUMBER_BYTES)
@@ -50,16 +56,15 @@ pub fn code_at(d: &[u8], bytes: usize, k: usize) -> usize
 
 // Writes the length and the kind of the first n answers.
 pub fn seal(d: &mut [u8], bytes: usize, n: usize)
-    requires { Length bytes × (answer_bytes bytes * n ≤ length d.old) }
+    requires sized { Length bytes }
+    requires there { answer_bytes bytes * n ≤ length d.old }
     ensures { d.new ≡ sealed bytes n d.old }
 {
     let size = DEPTH_AT + bytes;
-    let mut k: usize = 0;
-    while k < n {
+    for k in 0..n {
         let head = size * k;
         // The length does not count its own bytes.
         put_number(d, head, Term::NUMBER_BYTES, size - Term::NUMBER_BYTES);
         put_number(d, head + ANSWER_KIND_AT, Term::NUMBER_BYTES, ANSWER_KIND);
-        k += 1;
     }
 }

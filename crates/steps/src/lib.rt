@@ -1,4 +1,5 @@
-// The answer to a step's clause: the verdict's code, and the depth of the right side where the step is accepted.
+// The answer to a step's clause: the verdict's code, and the depth of the right side where the step
+// is accepted.
 #![tactic(auto)]
 
 pub mod answers;
@@ -6,7 +7,7 @@ pub mod answers;
 ghost use Rattle.std.specs.Prelude.{◌≡◌, true, ◌+◌, ◌<◌};
 ghost use Rattle.std.specs.Prelude.{Some as some};
 ghost use Rattle.theory.specs.Limit.{first_terms};
-ghost use Rattle.theory.specs.Verdict.{code_of};
+ghost use Rattle.theory.specs.Verdict.{code_of, accepted};
 ghost use Rattle.theory.specs.Optional.{is_some};
 ghost use Rattle.theory.specs.RuleTable.{Rule, rule_at};
 ghost use Rattle.theory.specs.Job.{answer_to};
@@ -19,9 +20,6 @@ use rules::{Verdict, verdict};
 use store::gates::Kept;
 use terms::{Args, Term};
 
-// The code of a clause that is not of one literal, the least of those that refuse.
-const NOT_ONE_LITERAL: u32 = 10;
-
 // The code of a verdict.
 fn code(v: Verdict) -> u32
     ensures { result ≡ code_of (verdict_of v) }
@@ -29,7 +27,7 @@ fn code(v: Verdict) -> u32
     match v {
         Verdict::Held => 0,
         Verdict::FormOnly => 1,
-        Verdict::NotOneLiteral => NOT_ONE_LITERAL,
+        Verdict::NotOneLiteral => 10,
         Verdict::WrongForm => 11,
         Verdict::NotBitVector => 12,
         Verdict::NotConstant => 13,
@@ -39,6 +37,13 @@ fn code(v: Verdict) -> u32
         Verdict::IndexNotNext => 17,
         Verdict::PremiseBroken => 24,
     }
+}
+
+// Does a verdict accept the step?
+fn accepts(v: Verdict) -> bool
+    ensures { result ≡ accepted (verdict_of v) }
+{
+    matches!(v, Verdict::Held | Verdict::FormOnly)
 }
 
 // The depth of the right side of a literal that is an equation, and 0 of any other.
@@ -57,16 +62,14 @@ pub fn judge(kept: &Kept, literal: u32, v: Verdict) -> Reply
     requires { literal < first_terms + kept.now.lookup.rows }
     ensures { Judged (verdict_of v) (kept_term kept.now literal) result }
 {
-    let code = code(v);
-    if NOT_ONE_LITERAL <= code {
-        return Reply {
-            code: code,
-            depth: 0,
-        };
-    }
+    let depth = if accepts(v) {
+        right_depth(kept, literal)
+    } else {
+        0
+    };
     Reply {
-        code: code,
-        depth: right_depth(kept, literal),
+        code: code(v),
+        depth,
     }
 }
 
@@ -77,14 +80,12 @@ pub fn answer(kept: &Kept, rule: u32, literals: Args) -> Reply
     ensures { (by : Rule) → rule_at rule ≡ some by
         → given rule result ≡ answer_to rule by (kept_arguments kept.now literals) }
 {
-    let count = literals.count;
-    if count != 1 {
+    if literals.count != 1 {
         return Reply {
             code: code(Verdict::NotOneLiteral),
             depth: 0,
         };
     }
     let literal = Term::argument(kept.lookup.job, literals, 0);
-    let v = verdict(kept, rule, literal);
-    judge(kept, literal, v)
+    judge(kept, literal, verdict(kept, rule, literal))
 }

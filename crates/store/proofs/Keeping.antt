@@ -2,7 +2,7 @@
 use mathlib.Core.Path.{◌≡◌, refl, sym, ap, ap₂, subst, ◌∙◌}
 use mathlib.Core.Bool.{true}
 use mathlib.Core.List.{List, [], ◌∷◌, map}
-use Rattle.std.specs.Prelude.{Some as some}
+use Rattle.std.specs.Prelude.{Result, Ok, Err, Some as some}
 use Prim.Native.Nat.{ℕ, zero, suc, ◌+◌, ◌*◌, ◌-◌, ◌<◌, ◌≤◌}
 use native.Mathlib.Omega.{arith}
 use lib.Dec.{T}
@@ -13,6 +13,7 @@ use borrow.Author.Tests.{le-leb}
 use Rattle.theory.specs.Limit.{first_terms}
 use Rattle.theory.specs.Kind.{Op, True, False}
 use Rattle.theory.specs.Term.{Term, node, nil}
+use Rattle.theory.specs.Record as R
 use Rattle.theory.specs.Record.{Bytes, word, extent, whole, term, read, shape_of, number_length}
 use Rattle.theory.specs.Plain.{Entry, entry, Plain}
 use Rattle.theory.specs.Codes.{all_below}
@@ -30,8 +31,10 @@ use Rattle.terms.specs.declared.Term.{Term as Decoded}
 use Rattle.terms.specs.declared.Term.TheVariants as D
 use Rattle.terms.specs.declared.Item.{Item}
 use Rattle.terms.specs.declared.Item.TheVariants as I
+use Rattle.terms.specs.declared.Fault.{Fault}
+use Rattle.terms.specs.declared.Fault.TheVariants as F
 use Rattle.terms.specs.declared.Args.{Args}
-use Rattle.terms.specs.Decoded.{words_in, OperandsPlaced, op_of, operands_of, arguments_of, item_of, Placed}
+use Rattle.terms.specs.Decoded.{words_in, OperandsPlaced, op_of, operands_of, arguments_of, item_of, read_of, PlacedIn}
 use Rattle.store.specs.Store.{Store, listed, records}
 use Rattle.store.specs.declared.gates.Kept.{Kept}
 use Rattle.store.specs.declared.shelf.Terms.{Terms}
@@ -64,6 +67,15 @@ stands_whole job at h s =
     let g = s.long in
     rw (le-leb 2 (length bs) (omega arith), le-leb 2 (word bs) (omega arith), le-leb (extent bs) (length bs) (omega arith))
 
+-- what was read and is no term says none
+says_no_term : (job : Bytes) (r : Result Item Fault) → ((t : Decoded) → r ≡ Ok (I.Term t) → ⊥) → (o : Op) (ks : List ℕ) → read_of job r ≡ term o ks → ⊥
+says_no_term job (Ok (I.Term t)) g o ks e = g t refl
+says_no_term job (Ok (I.Step n a)) g o ks e = cc
+says_no_term job (Ok (I.Chain n a k)) g o ks e = cc
+says_no_term job (Ok (I.Back n)) g o ks e = cc
+says_no_term job (Err F.Unknown) g o ks e = cc
+says_no_term job (Err F.Misfit) g o ks e = cc
+
 module _ {job work : Bytes} {n : ℕ} (s : Shelf job work n) where
   -- the entry of row k
   pub row_kept : (k : ℕ) → k < n → Entered (number_length job) (listed job work n) (first_terms + k) (entry_at (listed job work n) (first_terms + k))
@@ -95,14 +107,14 @@ module _ {job work : Bytes} {n : ℕ} (s : Shelf job work n) where
     row_place : first_terms + (p - first_terms) ≡ p
     row_place = omega arith
 
-    row_item : (i : Item) → item_of job i ≡ read (number_length job) (record_at job at) → let q = row_kept (p - first_terms) (omega arith) in item_of job i ≡ term q.op q.args
-    row_item i f = f ∙ ap (λ (k : ℕ). read (number_length job) (record_at job k)) e ∙ row_says (p - first_terms) (omega arith)
+    row_item : {i : R.Item} → i ≡ read (number_length job) (record_at job at) → let q = row_kept (p - first_terms) (omega arith) in i ≡ term q.op q.args
+    row_item f = f ∙ ap (λ (k : ℕ). read (number_length job) (record_at job k)) e ∙ row_says (p - first_terms) (omega arith)
 
     pub row_term : {t : Decoded} → item_of job (I.Term t) ≡ read (number_length job) (record_at job at) → OperandsPlaced job (operands_of t) → TermOn job work n p t
     unfolding args_at
     row_term {t} f o =
         let q = row_kept (p - first_terms) (omega arith) in
-        let g = row_item (I.Term t) f in
+        let g = row_item f in
         let a : q.op ≡ op_of t = cc in
         let b : q.args ≡ arguments_of job t = cc in
         record {
@@ -115,15 +127,15 @@ module _ {job work : Bytes} {n : ℕ} (s : Shelf job work n) where
           args_are = sym b ∙ sym (ap item_args q.says) ∙ ap (args_at (number_length job) (listed job work n)) row_place;
         }
 
-    -- once it is known which item it is
-    pub read_term_at : (i : Item) {t : Decoded} → i ≡ I.Term t → item_of job i ≡ read (number_length job) (record_at job at) → Placed job i → TermOn job work n p t
-    read_term_at i {t} d f o = row_term {t = t} (ap (item_of job) (sym d) ∙ f) (subst (Placed job) d o)
+    -- once it is known which term it is
+    pub read_term_at : (r : Result Item Fault) {t : Decoded} → r ≡ Ok (I.Term t) → read_of job r ≡ read (number_length job) (record_at job at) → PlacedIn job r → TermOn job work n p t
+    read_term_at r {t} d f o = row_term {t = t} (ap (read_of job) (sym d) ∙ f) (subst (PlacedIn job) d o)
 
     -- a row's record says nothing else
-    pub read_no_term : (i j : Item) → i ≡ j → item_of job i ≡ read (number_length job) (record_at job at) → ((o : Op) (ks : List ℕ) → item_of job j ≡ term o ks → ⊥) → {t : Decoded} → TermOn job work n p t
-    read_no_term i j d f g =
+    pub read_no_term : (r : Result Item Fault) → ((t : Decoded) → r ≡ Ok (I.Term t) → ⊥) → read_of job r ≡ read (number_length job) (record_at job at) → {t : Decoded} → TermOn job work n p t
+    read_no_term r g f =
         let q = row_kept (p - first_terms) (omega arith) in
-        absurd (g q.op q.args (ap (item_of job) (sym d) ∙ row_item i f))
+        absurd (says_no_term job r g q.op q.args (row_item f))
 
 -- `true` and `false` have no record, and so no arguments
 no_args : (b : ℕ) (list : Plain) (k : ℕ) → (entry_at list k).bytes ≡ [] → args_at b list k ≡ []

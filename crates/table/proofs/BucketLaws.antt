@@ -1,6 +1,7 @@
 -- Laws of the buckets: the newest row of each, and the walk through one. Assumes nothing.
 use mathlib.Core.Path.{◌≡◌, refl, sym, ap, ◌∙◌}
 use mathlib.Core.Bool.{Bool, true, false, cond}
+use Rattle.std.specs.Prelude.{Option, None as none, Some as some, unwrap_or}
 use Prim.Native.Nat.{ℕ, zero, suc, ◌+◌, ◌*◌, ◌-◌, ◌/◌, ◌%◌, ◌≤◌, ◌<◌}
 use native.Mathlib.Nat.{not-suc-le-zero, mod-lt}
 use native.Mathlib.Decide.{dec_lt, dec_le, ℕ_discrete}
@@ -14,7 +15,7 @@ use Rattle.theory.specs.Record.{Bytes, extent}
 use Rattle.terms.specs.Framing.{record_at}
 use Rattle.rows.specs.Layout.{link_at, missing, number_at, offset_at}
 use Rattle.rows.specs.Rows.{kept_as, place_from, place_of, row_record}
-use Rattle.table.specs.Buckets.{Sought, TableOf, bucket_of, first_in, fold, hash_from, hash_of, head_at, multiplier, newest, row_bucket, seed_in}
+use Rattle.table.specs.Buckets.{Sought, TableOf, bucket_of, first_in, fold, hash_from, hash_of, head_at, multiplier, newest, row_bucket, seed_in, unless_missing}
 use Rattle.rows.proofs.RowLaws.{place_end, place_found, place_next, row_before, row_least}
 
 -- ---- the newest row
@@ -236,9 +237,9 @@ module _ {l : ℕ} {job work : Bytes} {n : ℕ} {x : Bytes} where
     pub seek_none : held ≡ 0 → place_of x (kept_as l job work n) ≡ missing
     seek_none z = place_none l job work n x (λ k h. s.passed k (omega arith) h)
 
-    module _ (some : held ≡ 0 → ⊥) where
+    module _ (more : held ≡ 0 → ⊥) where
       row_below : held - 1 < n
-      row_below = omega (arith, s.low, some)
+      row_below = omega (arith, s.low, more)
 
       pub seek_row : held - 1 < n
       seek_row = row_below
@@ -253,7 +254,7 @@ module _ {l : ℕ} {job work : Bytes} {n : ℕ} {x : Bytes} where
           (λ i h p. let same_row : i ≡ held - 1 = s.table.distinct i (held - 1) (omega (arith, row_below)) row_below (sym p ∙ r) in omega arith))
 
       bucket_here : row_bucket l job work s.c (held - 1) ≡ bucket_of work s.c x
-      bucket_here = s.here (held - 1) (omega (arith, some))
+      bucket_here = s.here (held - 1) (omega (arith, more))
 
       pub seek_next : {at next : ℕ} → at ≡ offset_at l work (held - 1) → next ≡ link_at l work (held - 1) → (x ≡ record_at job at → ⊥) → Seeking l job work n x next
       seek_next {at} {next} e f other =
@@ -273,10 +274,46 @@ module _ {l : ℕ} {job work : Bytes} {n : ℕ} {x : Bytes} where
           go f_is k a b q (yes h) d = newest_none (row_bucket l job work s.c) (bucket_of work s.c x) (held - 1) k (omega arith) h (same_bucket l job work x s.c k q)
           go f_is k a b q (no h) (yes d) = s.passed k d b q
           go f_is k a b q (no h) (no d) =
-              let r : k ≡ held - 1 = omega (arith, some) in
+              let r : k ≡ held - 1 = omega (arith, more) in
               other (q ∙ ap (λ (o : ℕ). record_at job o) (ap (offset_at l work) r ∙ sym e))
 
       -- the walk goes down
       pub seek_falls : {next : ℕ} → next ≡ link_at l work (held - 1) → next < held
       seek_falls {next} f =
-          omega (arith, some, f, s.table.links (held - 1) row_below, newest_low (row_bucket l job work s.c) (row_bucket l job work s.c (held - 1)) (held - 1))
+          omega (arith, more, f, s.table.links (held - 1) row_below, newest_low (row_bucket l job work s.c) (row_bucket l job work s.c (held - 1)) (held - 1))
+
+-- ---- a place as an Option
+
+pub told_some : {p q : ℕ} → p ≡ q → (p ≡ missing → ⊥) → some p ≡ unless_missing q
+unfolding unless_missing
+told_some {p} {q} e d = rw (← e, ne_eqb p missing d)
+
+pub told_none : {q : ℕ} → q ≡ missing → none ≡ unless_missing q
+unfolding unless_missing
+told_none {q} e = rw (eq-eqb q missing e)
+
+module _ {r : Option ℕ} {q : ℕ} (told : r ≡ unless_missing q) where
+  pub told_found : {p : ℕ} → r ≡ some p → (p ≡ q) × (p ≡ missing → ⊥)
+  told_found {p} f = go (ℕ_discrete q missing)
+    where
+      go : Dec (q ≡ missing) → (p ≡ q) × (p ≡ missing → ⊥)
+      go (yes m) = let z : some p ≡ none = sym f ∙ told ∙ sym (told_none m) in cc
+      go (no d) =
+          let z : some p ≡ some q = sym f ∙ told ∙ sym (told_some refl d) in
+          let s : p ≡ q = cc in
+          (s, λ m. d (sym s ∙ m))
+
+  pub told_missing : r ≡ none → q ≡ missing
+  told_missing f = go (ℕ_discrete q missing)
+    where
+      go : Dec (q ≡ missing) → q ≡ missing
+      go (yes m) = m
+      go (no d) = let z : none ≡ some q = sym f ∙ told ∙ sym (told_some refl d) in cc
+
+  -- the number that a gate is
+  pub told_number : {p : ℕ} → p ≡ unwrap_or r missing → p ≡ q
+  told_number {p} f = go (ℕ_discrete q missing)
+    where
+      go : Dec (q ≡ missing) → p ≡ q
+      go (yes m) = f ∙ ap (λ (o : Option ℕ). unwrap_or o missing) (told ∙ sym (told_none m)) ∙ sym m
+      go (no d) = f ∙ ap (λ (o : Option ℕ). unwrap_or o missing) (told ∙ sym (told_some refl d))

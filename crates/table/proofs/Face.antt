@@ -1,19 +1,23 @@
 -- What callers cite: how the promised lists, single rows and places hang together.
-use mathlib.Core.Path.{◌≡◌, refl, sym, ap, ◌∙◌}
+use mathlib.Core.Path.{◌≡◌, refl, sym, ap, subst, ◌∙◌}
+use Rattle.std.specs.Prelude.{Option, unwrap_or}
 use mathlib.Core.Bool.{Bool, true, false, true≢false, cond}
 use mathlib.Core.List.{List, [], ◌∷◌}
-use Prim.Native.Nat.{ℕ, zero, suc, ◌+◌, ◌≤◌, ◌<◌}
+use Prim.Native.Nat.{ℕ, zero, suc, ◌+◌, ◌^◌, ◌≤◌, ◌<◌}
 use native.Mathlib.Nat.{not-suc-le-zero, le_of_suc-le-suc}
 use native.Mathlib.Omega.{arith}
 use lib.ListN.{get_or, length, length-replicate, replicate}
 use Rattle.theory.specs.Limit.{first_terms}
-use Rattle.theory.specs.Record.{Bytes}
+use Rattle.theory.specs.Record.{Bytes, number_length}
 use Rattle.terms.specs.Framing.{record_at}
-use Rattle.rows.specs.Layout.{measure_at, missing, offset_at}
+use Rattle.rows.specs.Layout.{link_bytes, measure_at, missing, offset_at}
 use Rattle.rows.specs.Rows.{kept_as, measures, place_from, place_of}
 use Rattle.rows.proofs.RowLaws.{get_or_column, get_or_kept, same_refl, same_sound}
 use Rattle.theory.specs.Term.{same_numbers}
 use Rattle.table.specs.Promise.{Wiped}
+use Rattle.table.specs.Buckets.{Table, TableAs, unless_missing}
+use Rattle.table.proofs.BucketLaws.{told_number}
+use Rattle.terms.proofs.Numbers.{short_length, long_length}
 
 -- ---- the entries of the lists
 
@@ -69,6 +73,30 @@ absent_from first x (y ∷ ys) few e k h q = go (same_numbers x y) refl (absent_
 pub place_absent : (x : Bytes) (rows : List Bytes) → first_terms + length rows ≤ missing → place_of x rows ≡ missing
     → (k : ℕ) → k < length rows → get_or rows k [] ≡ x → ⊥
 place_absent x rows few e k h q = absent_from first_terms x rows few e k h q
+
+-- ---- the job's own number length, which is two or four
+
+module _ (job : Bytes) {r : ℕ} (own : r ≡ number_length job) where
+  pub table_short : {work : Bytes} {n : ℕ} → r ≡ 2 → Table job work n → TableAs 2 job work n
+  table_short {work} {n} e = subst (λ (b : ℕ). TableAs b job work n) (sym (short_length job own e))
+
+  pub table_long : {work : Bytes} {n : ℕ} → (r ≡ 2 → ⊥) → Table job work n → TableAs 4 job work n
+  table_long {work} {n} e = subst (λ (b : ℕ). TableAs b job work n) (sym (long_length job own e))
+
+  -- a measure that its links hold
+  pub fits_short : {m : ℕ} → r ≡ 2 → m < 256 ^ link_bytes (number_length job) → m < 256 ^ link_bytes 2
+  fits_short {m} e = subst (λ (b : ℕ). m < 256 ^ link_bytes b) (sym (short_length job own e))
+
+  pub fits_long : {m : ℕ} → (r ≡ 2 → ⊥) → m < 256 ^ link_bytes (number_length job) → m < 256 ^ link_bytes 4
+  fits_long {m} e = subst (λ (b : ℕ). m < 256 ^ link_bytes b) (sym (long_length job own e))
+
+  -- a place that was looked up in it
+  module _ (place : ℕ → ℕ) {o : Option ℕ} {p : ℕ} (is : p ≡ unwrap_or o missing) where
+    pub place_short : r ≡ 2 → o ≡ unless_missing (place 2) → p ≡ place (number_length job)
+    place_short e told = told_number told is ∙ ap place (short_length job own e)
+
+    pub place_long : (r ≡ 2 → ⊥) → o ≡ unless_missing (place 4) → p ≡ place (number_length job)
+    place_long e told = told_number told is ∙ ap place (long_length job own e)
 
 -- ---- wiping
 -- a memory that is all zero, by its length before

@@ -4,3 +4,4 @@ pub mod MemoryLaws
 pub mod Face
 pub mod AddLaws
 pub mod KeyLaws
+pub mod Sets

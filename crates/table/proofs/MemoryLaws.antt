@@ -18,10 +18,10 @@ use Rattle.terms.proofs.Numbers.{length_of}
 use Rattle.rows.specs.Layout.{link_at, link_bytes, measure_at, number_at, offset_at, row_size}
 use Rattle.rows.specs.Rows.{Rows, column, kept_as, measures, row_record, stored_row}
 use Rattle.rows.specs.Rows as Listed
-use Rattle.table.specs.Buckets.{Sought, TableAs, TableOf, added_row, bucket_of, dropped_from, dropped_row, first_of, head_at, head_count, heads_start, most_heads, most_heads_of, most_rows, newest, row_bucket, seed_bytes, seed_in, stored_head}
+use Rattle.table.specs.Buckets.{Sought, TableAs, TableOf, added_row, bucket_of, dropped_from, dropped_row, first_in, first_of, head_at, head_count, heads_start, most_heads, most_heads_of, most_rows, newest, row_bucket, seed_bytes, seed_in, stored_head}
 use Rattle.table.specs.Promise.{Cleared, Cut, Wiped, carried, cleared, dropped_rows}
 use Rattle.rows.proofs.RowLaws.{column_added, column_same, column_take, length_bytes, length_stored, link_before, link_least, link_stored, link_whole, measure_before, measure_stored, number_after, number_after_stored, number_before, number_same, number_stored, offset_before, offset_stored, row_before, row_least, rows_stored}
-use Rattle.table.proofs.BucketLaws.{bucket_below, bucket_none, cell_inside, first_outside, first_within, newest_low, sought_from}
+use Rattle.table.proofs.BucketLaws.{newest_low, sought_from}
 use Rattle.table.proofs.TableLaws.{table_less, table_more}
 
 -- ---- a stored head
@@ -372,10 +372,6 @@ heads_few l len start e = let k = count_least l len start in omega (arith, k.1)
 pub heads_inside : (start : ℕ) {l len c : ℕ} → Length l → c ≡ head_count l len start → 0 < c → start + c * l + seed_bytes ≤ len
 heads_inside start {l} {len} sized e h = rw e (count_room l len start sized.some_bytes (subst (λ (k : ℕ). 0 < k) e h))
 
-pub held_inside : (start : ℕ) (work x : Bytes) {l len c j : ℕ} → Length l → c ≡ head_count l len start → (c ≡ 0 → ⊥) → j ≡ bucket_of work c x → start + j * l + l ≤ len
-held_inside start work x {l} {c = c} sized e some q =
-    cell_inside l start (λ h. let p = heads_inside start sized e h in omega arith) (rw q (bucket_below work c x (omega (arith, some))))
-
 -- ---- an empty table
 
 zero_number : (s : Bytes) (at len : ℕ) → ((i : ℕ) → i < len → get_or s (at + i) 0 ≡ 0) → number_at s at len ≡ 0
@@ -471,17 +467,11 @@ pub sought_of : (b : ℕ) {job work x : Bytes} {n l first : ℕ} → l ≡ link_
 unfolding first_of
 sought_of b {job} {work} {x} e table f = rw e (sought_from x table refl f)
 
--- which is what a head holds, or where there are none all rows
-pub first_held : (b : ℕ) (work x : Bytes) (n : ℕ) {l start c j r : ℕ} → l ≡ link_bytes b → start ≡ heads_start b (length work) → c ≡ head_count l (length work) start → (c ≡ 0 → ⊥)
-    → j ≡ bucket_of work c x → r ≡ number_at work (start + j * l) l → r ≡ first_of b work n x
-unfolding first_of head_at
-first_held b work x n {l} {start} {c} {j} {r} e f g some h q =
-    q ∙ sym (first_within l work n start c j (rw h (bucket_below work c x (omega (arith, some))))) ∙ rw (h, g, f, e)
-
-pub first_all : (b : ℕ) (work x : Bytes) (n : ℕ) {l start c : ℕ} → l ≡ link_bytes b → start ≡ heads_start b (length work) → c ≡ head_count l (length work) start → c ≡ 0 → n ≡ first_of b work n x
+-- which is what its bucket's head holds
+pub first_is : (b : ℕ) (work x : Bytes) (n : ℕ) {l start c j r : ℕ} → l ≡ link_bytes b → start ≡ heads_start b (length work) → c ≡ head_count l (length work) start
+    → j ≡ bucket_of work c x → r ≡ first_in l work n start c j → r ≡ first_of b work n x
 unfolding first_of
-first_all b work x n {l} {start} {c} e f g none =
-    sym (first_outside l work n start c (bucket_of work c x) (let z = bucket_none work c x none in omega arith)) ∙ rw (g, f, e)
+first_is b work x n e f g h q = q ∙ rw (h, g, f, e)
 
 pub unframed : (b : ℕ) {job work : Bytes} {n l start c : ℕ} → l ≡ link_bytes b → start ≡ heads_start b (length work) → c ≡ head_count l (length work) start
     → TableOf l job work n start c → TableAs b job work n

@@ -2,11 +2,11 @@
 -- of a bucket form a list, from the newest to the oldest: the bucket's head names the newest, and each row's link the one before it. A head
 -- and a link have l bytes, and hold 0 for no row, or one more than a row's index. The work memory has the rows first, then the heads, and
 -- in its last four bytes the seed from which the buckets are computed. What is found does not depend on the seed; how long it takes does.
-use Rattle.std.specs.Prelude.{◌≡◌, cond, ℕ, zero, suc, ◌+◌, ◌*◌, ◌-◌, ◌/◌, ◌%◌, ◌≤◌, ◌<◌, min, length, drop, get_or, eqb, ltb}
+use Rattle.std.specs.Prelude.{◌≡◌, cond, Option, None as none, Some as some, ℕ, zero, suc, ◌+◌, ◌*◌, ◌-◌, ◌/◌, ◌%◌, ◌≤◌, ◌<◌, min, length, drop, get_or, eqb, ltb}
 use Rattle.std.proofs.lemmas.List.Edits.{sets}
 use Rattle.theory.specs.Limit.{number_bytes, term_bytes, max_terms}
 use Rattle.theory.specs.Record.{Bytes, bytes_of, number_length}
-use Rattle.rows.specs.Layout.{link_bytes, row_size, number_at, link_at}
+use Rattle.rows.specs.Layout.{missing, link_bytes, row_size, number_at, link_at}
 use Rattle.rows.specs.Rows.{row_record, Rows, stored_row}
 
 -- ---- the frame: where the heads stand
@@ -118,6 +118,10 @@ pub record Sought (l : ℕ) (job work : Bytes) (n first : ℕ) (x : Bytes) : Typ
   pub c : ℕ
   pub table : TableOf l job work n start c
   pub first_is : first ≡ newest (row_bucket l job work c) (bucket_of work c x) n
+
+-- a place, or none where it is missing
+unfoldable pub unless_missing : ℕ → Option ℕ
+unless_missing p = cond (eqb p missing) none (some p)
 
 -- ---- what is stored
 -- the work memory with v in head j, where there is one

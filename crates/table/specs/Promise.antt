@@ -1,6 +1,6 @@
 -- What callers are promised when a record is added, when the newest rows are dropped, and when the work memory is cleared. Terms' numbers
 -- have b bytes.
-use Rattle.std.specs.Prelude.{◌≡◌, Bool, not, ◌&&◌, ◌||◌, cond, List, [], ◌∷◌, ◌++◌, ℕ, suc, ◌+◌, ◌-◌, ◌*◌, ◌^◌, ◌<◌, ◌≤◌, min, length, take, drop, replicate, eqb, ltb, leb}
+use Rattle.std.specs.Prelude.{◌≡◌, Option, None as none, Some as some, Bool, not, ◌&&◌, ◌||◌, cond, List, [], ◌∷◌, ◌++◌, ℕ, suc, ◌+◌, ◌-◌, ◌*◌, ◌^◌, ◌<◌, ◌≤◌, min, length, take, drop, replicate, eqb, ltb, leb}
 use Rattle.std.proofs.lemmas.List.Edits.{sets}
 use Rattle.theory.specs.Limit.{term_bytes, first_terms, max_terms, max_job}
 use Rattle.theory.specs.Record.{Bytes, bytes_of}
@@ -10,7 +10,7 @@ use Rattle.rows.specs.Layout.{missing, link_bytes}
 use Rattle.rows.specs.Rows.{kept_as, offsets, measures, place_of}
 use Rattle.table.specs.Buckets.{TableAs, Table, seed_bytes, seed_in, heads_start, bucket_count, bucket_of, first_in, added_row, dropped_from}
 use Rattle.table.specs.declared.kept.Added.{Added}
-use Rattle.table.specs.declared.kept.Added.TheVariants.{Found, New, Spent}
+use Rattle.table.specs.declared.kept.Added.TheVariants.{Found, New}
 
 -- ---- adding a record
 -- links can count the rack's terms, by their numbers' length
@@ -26,29 +26,29 @@ unfoldable pub is_kept : Bytes → List Bytes → Bool
 is_kept x rows = not (eqb (place_of x rows) missing)
 
 -- the answer to record x under a limit of terms where `rows` are kept in len bytes: the place of the kept record that equals it, or the
--- place after the last, or that there is no room
-unfoldable pub added_for : ℕ → ℕ → Bytes → List Bytes → ℕ → Added
+-- place after the last, or none where there is no room
+unfoldable pub added_for : ℕ → ℕ → Bytes → List Bytes → ℕ → Option Added
 added_for b limit x rows len =
     cond (eqb (place_of x rows) missing)
-    (cond (room_for b limit (length rows) len) (New (first_terms + length rows)) Spent) (Found (place_of x rows))
+    (cond (room_for b limit (length rows) len) (some (New (first_terms + length rows))) none) (some (Found (place_of x rows)))
 
 -- document 01's code of an answer: 8 where there is no room
-abbrev pub added_code : Added → ℕ
-added_code (Found p) = 0
-added_code (New p) = 0
-added_code Spent = 8
+abbrev pub added_code : Option Added → ℕ
+added_code (some (Found p)) = 0
+added_code (some (New p)) = 0
+added_code none = 8
 
 -- the number of rows after an answer
-unfoldable pub count_after : Added → ℕ → ℕ
-count_after (Found p) n = n
-count_after (New p) n = n + 1
-count_after Spent n = n
+unfoldable pub count_after : Option Added → ℕ → ℕ
+count_after (some (Found p)) n = n
+count_after (some (New p)) n = n + 1
+count_after none n = n
 
 -- a list with one entry for each row after an answer: a new row's entry is the last
-unfoldable pub list_after : {A : Type 0} → Added → A → List A → List A
-list_after (Found p) x rows = rows
-list_after (New p) x rows = rows ++ (x ∷ [])
-list_after Spent x rows = rows
+unfoldable pub list_after : {A : Type 0} → Option Added → A → List A → List A
+list_after (some (Found p)) x rows = rows
+list_after (some (New p)) x rows = rows ++ (x ∷ [])
+list_after none x rows = rows
 
 -- the work memory with row n, of the record at `at`, before the newest of the bucket j: the bytes of the row and of the bucket's head are
 -- stored, and no other
@@ -62,13 +62,13 @@ unfoldable pub with_row : ℕ → Bytes → Bytes → ℕ → ℕ → ℕ → By
 with_row b job work n at measure = in_bucket b work n (bucket_of work (bucket_count b (length work)) (record_at job at)) at measure
 
 -- the work memory after an answer: every byte as it was, unless a row is new
-unfoldable pub memory_after : Added → ℕ → Bytes → Bytes → ℕ → ℕ → ℕ → Bytes
-memory_after (Found p) b job work n at measure = work
-memory_after (New p) b job work n at measure = with_row b job work n at measure
-memory_after Spent b job work n at measure = work
+unfoldable pub memory_after : Option Added → ℕ → Bytes → Bytes → ℕ → ℕ → ℕ → Bytes
+memory_after (some (Found p)) b job work n at measure = work
+memory_after (some (New p)) b job work n at measure = with_row b job work n at measure
+memory_after none b job work n at measure = work
 
 -- the record at `at` was added to n rows under a limit of terms, with a measure: the answer, the work memory then, and what is kept
-pub record Grown (b : ℕ) (job work after : Bytes) (n limit at measure : ℕ) (answer : Added) : Type 0 where
+pub record Grown (b : ℕ) (job work after : Bytes) (n limit at measure : ℕ) (answer : Option Added) : Type 0 where
   pub answer_is : answer ≡ added_for b limit (record_at job at) (kept_as (link_bytes b) job work n) (length work)
   pub code_is : added_code answer
       ≡ first_fault ((is_kept (record_at job at) (kept_as (link_bytes b) job work n) || room_for b limit n (length work), 8) ∷ [])

@@ -1,15 +1,14 @@
-// Separate chaining over the rows. A record's hash leads to a bucket; the bucket's head names its newest row, and each row's link the one before it. Heads
-// stand after the rows, and the seed of the hash in the last bytes of the work memory.
+// Separate chaining over the rows. A record's hash leads to a bucket; the bucket's head names its
+// newest row, and each row's link the one before it. Heads stand after the rows, and the seed of
+// the hash in the last bytes of the work memory.
 ghost use Rattle.std.specs.Prelude.{◌≡◌, ◌+◌, ◌*◌, ◌-◌, ◌/◌, ◌≤◌, ◌<◌, length};
 ghost use Rattle.theory.specs.Limit.{term_bytes};
 ghost use Rattle.rows.specs.Layout.{Bounded, link_bytes};
-ghost use Rattle.rows.specs.Rows.{kept_as, place_of};
 ghost use Rattle.terms.specs.Bodies.{Length};
-ghost use Rattle.table.specs.Buckets.{most_heads, most_heads_of, seed_bytes, fold, hash_end, most_rows, heads_start, head_count, hash_of, bucket_of, first_in, first_of, stored_head, Sought};
+ghost use Rattle.table.specs.Buckets.{most_heads, most_heads_of, seed_bytes, fold, hash_end, most_rows, heads_start, head_count, hash_of, bucket_of, first_in, first_of, stored_head};
 
-use rows::bytes::{number_of, put_number_of, wide};
-use rows::layout::{FIRST_PLACE, FIXED_BYTES, MISSING, OFFSET_BYTES};
-use rows::{link_at, offset_as};
+use rows::bytes::{number_of, put_number_of};
+use rows::layout::{FIXED_BYTES, OFFSET_BYTES};
 use terms::Term;
 
 // The most heads of any table, and of one with short links: about twice the most terms.
@@ -52,8 +51,9 @@ fn most_rows<const B: usize>(len: usize) -> usize
     if fit < most { fit } else { most }
 }
 
-// Where the heads start in a work memory of `len` bytes: after as many rows as it can ever hold. Numbers have B bytes here and below, and links L.
-pub fn heads_start<const B: usize, const L: usize>(len: usize) -> usize
+// Where the heads start in a work memory of `len` bytes: after as many rows as it can ever hold.
+// Numbers have B bytes here and below, and links L.
+fn heads_start<const B: usize, const L: usize>(len: usize) -> usize
     requires sized { Length B }
     requires linked { L ≡ link_bytes B }
     ensures { (result ≡ heads_start B len) × (result ≤ len) }
@@ -74,7 +74,7 @@ fn most_heads<const L: usize>() -> usize
 }
 
 // How many heads there are.
-pub fn head_count<const L: usize>(len: usize, start: usize) -> usize
+fn head_count<const L: usize>(len: usize, start: usize) -> usize
     requires sized { Length L }
     requires inside { start ≤ len }
     ensures { result ≡ head_count L len start }
@@ -95,45 +95,81 @@ fn fold(x: usize) -> usize
     x % HASH_END + x / HASH_END
 }
 
-// A number made of a record's kind and body: the value at m of the polynomial that the whole words of the body are, with the kind's low byte above the
-// first of them. The record's length is left out, since the number of words says it.
-pub fn hash(m: usize, s: &[u8]) -> usize
+// A number made of a record's kind and body: the value at m of the polynomial that the whole words
+// of the body are, with the kind's low byte above the first of them. The record's length is left
+// out, since the number of words says it.
+fn hash(m: usize, s: &[u8]) -> usize
     requires { m ≤ 1073741824 }
     ensures { Bounded result (hash_of m s.now) hash_end }
 {
     if s.len() < BODY_AT {
         return 0;
     }
-    let mut h: usize = wide(s[KIND_AT]) * WORD_END;
+    let mut h: usize = usize::from(s[KIND_AT]) * WORD_END;
     for k in 0..(s.len() - BODY_AT) / WORD_BYTES {
         h = fold((h + number_of::<WORD_BYTES>(s, BODY_AT + WORD_BYTES * k)) * m);
     }
     h % HASH_END
 }
 
-// The bucket of a record, of c buckets.
-pub fn bucket(work: &[u8], c: usize, wanted: &[u8]) -> usize
-    requires few { c ≤ most_heads }
-    requires seeded { 0 < c → seed_bytes ≤ length work.now }
-    ensures { result ≡ bucket_of work.now c wanted.now }
-{
-    if c == 0 {
-        return 0;
-    }
-    let seed = number_of::<SEED_BYTES>(work, work.len() - SEED_BYTES);
-    hash((seed + 668265263) % 1073741824 + 1, wanted) * c / HASH_END
+// The heads of a work memory: where they start, and how many there are.
+#[derive(Clone, Copy)]
+pub struct Heads {
+    pub start: usize,
+    pub count: usize,
 }
 
-// One more than the newest row of bucket j.
-pub fn first_in<const L: usize>(work: &[u8], n: usize, start: usize, c: usize, j: usize) -> usize
-    requires sized { Length L }
-    requires inside { 0 < c → start + c * L ≤ length work.now }
-    ensures { result ≡ first_in L work.now n start c j }
-{
-    if j < c {
-        return number_of::<L>(work, start + j * L);
+impl Heads {
+    // Those of a work memory of `len` bytes, where numbers have B and links, and so heads, L.
+    pub fn of<const B: usize, const L: usize>(len: usize) -> Heads
+        requires sized { Length B }
+        requires linked { L ≡ link_bytes B }
+        ensures start { result.start ≡ heads_start B len }
+        ensures count { result.count ≡ head_count L len result.start }
+        ensures inside { result.start ≤ len }
+    {
+        let start = heads_start::<B, L>(len);
+        Heads {
+            start,
+            count: head_count::<L>(len, start),
+        }
     }
-    n
+
+    // The bucket of a record.
+    pub fn bucket(self, work: &[u8], wanted: &[u8]) -> usize
+        requires few { self.count ≤ most_heads }
+        requires seeded { 0 < self.count → seed_bytes ≤ length work.now }
+        ensures { result ≡ bucket_of work.now self.count wanted.now }
+    {
+        if self.count == 0 {
+            return 0;
+        }
+        let seed = number_of::<SEED_BYTES>(work, work.len() - SEED_BYTES);
+        hash((seed + 668265263) % 1073741824 + 1, wanted) * self.count / HASH_END
+    }
+
+    // One more than the newest row of bucket j, of n rows.
+    pub fn first_in<const L: usize>(self, work: &[u8], n: usize, j: usize) -> usize
+        requires sized { Length L }
+        requires inside { 0 < self.count → self.start + self.count * L ≤ length work.now }
+        ensures { result ≡ first_in L work.now n self.start self.count j }
+    {
+        if j < self.count {
+            return number_of::<L>(work, self.start + j * L);
+        }
+        n
+    }
+
+    // Stores v in the head of bucket j, where there is one.
+    pub fn put<const L: usize>(self, work: &mut [u8], j: usize, v: usize)
+        requires sized { Length L }
+        requires inside { 0 < self.count → self.start + self.count * L ≤ length work.old }
+        ensures { work.new ≡ stored_head L work.old self.start self.count j v }
+    {
+        if j < self.count {
+            put_number_of::<L>(work, self.start + j * L, v);
+        }
+    }
 }
 
 // One more than the newest row of a record's bucket, of n rows.
@@ -142,48 +178,7 @@ pub fn first_of<const B: usize, const L: usize>(work: &[u8], n: usize, wanted: &
     requires linked { L ≡ link_bytes B }
     ensures { result ≡ first_of B work.now n wanted.now }
 {
-    let start = heads_start::<B, L>(work.len());
-    let c = head_count::<L>(work.len(), start);
-    if c == 0 {
-        return n;
-    }
-    let j = bucket(work, c, wanted);
-    number_of::<L>(work, start + j * L)
-}
-
-// Stores v in the head of bucket j, where there is one.
-pub fn put_head<const L: usize>(work: &mut [u8], start: usize, c: usize, j: usize, v: usize)
-    requires sized { Length L }
-    requires inside { 0 < c → start + c * L ≤ length work.old }
-    ensures { work.new ≡ stored_head L work.old start c j v }
-{
-    if j < c {
-        put_number_of::<L>(work, start + j * L, v);
-    }
-}
-
-// The place of a record among the first n rows, or MISSING: row by row of a bucket whose newest is `first`, and byte by byte from the last, where
-// records differ most often.
-pub fn walk<const L: usize>(job: &[u8], work: &[u8], n: usize, first: usize, wanted: &[u8]) -> u32
-    requires { Sought L job.now work.now n first wanted.now }
-    ensures { result ≡ place_of wanted.now (kept_as L job.now work.now n) }
-{
-    let mut held = first;
-    'rows: loop {
-        if held == 0 {
-            break MISSING;
-        }
-        let row = held - 1;
-        let at = offset_as::<L>(work, row);
-        held = link_at::<L>(work, row);
-        if number_of::<{ Term::NUMBER_BYTES }>(job, at) + Term::NUMBER_BYTES != wanted.len() {
-            continue 'rows;
-        }
-        for i in (0..wanted.len()).rev() {
-            if job[at + i] != wanted[i] {
-                continue 'rows;
-            }
-        }
-        break (row + FIRST_PLACE) as u32;
-    }
+    let heads = Heads::of::<B, L>(work.len());
+    let j = heads.bucket(work, wanted);
+    heads.first_in::<L>(work, n, j)
 }

@@ -16,7 +16,8 @@ pub fn clear(work: &mut [u8])
     work[..end].fill(0);
 }
 
-// Puts the seed, the last four bytes, at the end of the first n too: these are the memory that a job gets.
+// Puts the seed, the last four bytes, at the end of the first n too: these are the memory that a
+// job gets.
 pub fn carry_seed(work: &mut [u8], n: usize)
     requires { n ≤ length work.old }
     ensures { work.new ≡ carried work.old n }

@@ -1,5 +1,5 @@
 -- The struct that a host lends, read as document 01's tally, and the answers that are counted into it.
-use Rattle.std.specs.Prelude.{Bool, cond, List, ℕ, ◌-◌, ◌/◌, min, eqb, leb, ltb, length}
+use Rattle.std.specs.Prelude.{Bool, cond, List, ℕ, ◌-◌, ◌/◌, min, eqb, leb, length}
 use Rattle.theory.specs.Limit.{answer_bytes, number_bytes, long_bytes}
 use Rattle.theory.specs.Record.{Bytes, word}
 use Rattle.theory.specs.Answer.{Answer, decode_answers}
@@ -21,10 +21,6 @@ abbrev pub belongs : Class → ℕ → Bool
 belongs Held code = eqb code 0
 belongs FormOnly code = eqb code 1
 belongs Refused code = leb 2 code
-
--- the codes of a class by its number: 0 is code 0, 1 is code 1, any other is the codes from 2 on
-abbrev pub in_class : ℕ → ℕ → Bool
-in_class class code = cond (ltb class 2) (eqb code class) (leb 2 code)
 
 -- the bytes of a depth: four where the length that the first answer says is that of a job with long numbers, else two
 unfoldable pub depth_length : Bytes → ℕ

@@ -5,8 +5,8 @@ ghost use Rattle.std.specs.Prelude.{◌≡◌, cond, ◌+◌, ◌*◌, ◌≤◌
 ghost use Rattle.theory.specs.Answer.{decode_answer, decode_answers};
 ghost use Rattle.theory.specs.Limit.{answer_bytes};
 ghost use Rattle.terms.specs.Bodies.{Length};
-ghost use Rattle.theory.specs.Tally.{up as held_up, how_many, tally_after};
-ghost use Rattle.tally.specs.Counted.{as_tally, class_of, belongs, in_class, depth_length, whole_answers, answers_in};
+ghost use Rattle.theory.specs.Tally.{up, how_many, tally_after};
+ghost use Rattle.tally.specs.Counted.{as_tally, class_of, belongs, depth_length, whole_answers, answers_in};
 
 use terms::{CODE_AT, DEPTH_AT, Term};
 
@@ -41,13 +41,6 @@ impl From<u32> for Class {
     }
 }
 
-// The classes by number, each by its least code.
-pub const HELD: u32 = 0;
-
-pub const FORM_ONLY: u32 = 1;
-
-pub const REFUSED: u32 = 2;
-
 impl Tally {
     // One more job, with its first `count` answers by their codes; where the memory is shorter,
     // the answers that it has whole. Each field saturates.
@@ -55,7 +48,7 @@ impl Tally {
         ensures { as_tally self.new
             ≡ tally_after (as_tally self.old) (answers_in count answers.now) }
     {
-        self.jobs = up(self.jobs, 1);
+        self.jobs = self.jobs.saturating_add(1);
         self.held = add_class(self.held, answers, count, Class::Held);
         self.form_only = add_class(self.form_only, answers, count, Class::FormOnly);
         self.refused = add_class(self.refused, answers, count, Class::Refused);
@@ -108,13 +101,6 @@ fn count_class(answers: &[u8], bytes: usize, count: usize, class: Class) -> u64
     n
 }
 
-// c and n more, or the largest number where that is above it.
-pub fn up(c: u64, n: u64) -> u64
-    ensures { result ≡ held_up c n }
-{
-    c.saturating_add(n)
-}
-
 // How many of `count` answers, whose depths have so many bytes, the memory has whole.
 fn whole_count(bytes: usize, size: usize, count: u32) -> usize
     requires { Length bytes }
@@ -126,16 +112,10 @@ fn whole_count(bytes: usize, size: usize, count: u32) -> usize
 // c, and one more for each answer of the class among the first `count`, or among the whole ones
 // where the memory is shorter; it saturates.
 fn add_class(c: u64, answers: &[u8], count: u32, class: Class) -> u64
-    ensures { result ≡ held_up c (how_many (belongs class) (answers_in count answers.now)) }
+    ensures { result ≡ up c (how_many (belongs class) (answers_in count answers.now)) }
 {
     let bytes = depth_length(answers);
     let whole = whole_count(bytes, answers.len(), count);
-    up(c, count_class(answers, bytes, whole, class))
-}
-
-// The same by the number of the class: 0 is code 0, 1 is code 1, any other is the codes from 2 on.
-pub fn count_up(c: u64, answers: &[u8], count: u32, class: u32) -> u64
-    ensures { result ≡ held_up c (how_many (in_class class) (answers_in count answers.now)) }
-{
-    add_class(c, answers, count, Class::from(class))
+    let more = count_class(answers, bytes, whole, class);
+    c.saturating_add(more)
 }

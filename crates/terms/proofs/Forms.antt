@@ -2,7 +2,7 @@
 use mathlib.Core.Path.{◌≡◌, refl, subst}
 use mathlib.Core.Bool.{Bool, true, false, ◌&&◌}
 use mathlib.Core.List.{List, [], ◌∷◌}
-use Rattle.std.specs.Prelude.{Option, None as none, Some as some, Result, Ok, Err}
+use Rattle.std.specs.Prelude.{Option, None as none, Some as some}
 use Prim.Native.Nat.{ℕ, zero, suc, ◌+◌, ◌<◌, ◌≤◌}
 use native.Mathlib.Decide.{dec_lt}
 use native.Mathlib.Nat.{add-suc}
@@ -14,8 +14,7 @@ use Rattle.theory.specs.Kind.{kind}
 use Rattle.theory.specs.Record.{Shape, make, shapes, find_shape, shape_of}
 use Rattle.terms.specs.declared.kind.Kind.{Kind}
 use Rattle.terms.specs.declared.kind.Kind.TheVariants as D
-use Rattle.terms.specs.declared.kind.UnknownKind.{UnknownKind}
-use Rattle.terms.specs.Numbered.{shape, number_of, Decodes}
+use Rattle.terms.specs.Numbered.{shape, number_of}
 
 -- ---- a test that holds at n numbers from `low` on
 abbrev tested : ℕ → (ℕ → Bool) → ℕ → Bool
@@ -69,13 +68,8 @@ shape_number D.RotateRight = refl
 shape_number D.Repeat = refl
 
 -- the number was that kind's
-pub known_kind : (n : ℕ) {k : Kind} (r : Result Kind UnknownKind) → r ≡ Ok k → Decodes n r → shape_of n ≡ some (shape k)
-known_kind n {k} r e d = subst (λ (m : ℕ). shape_of m ≡ some (shape k)) (subst (Decodes n) e d) (shape_number k)
-
--- and where it was none's
-pub unknown_kind : (n : ℕ) (r : Result Kind UnknownKind) → ((k : Kind) → r ≡ Ok k → ⊥) → Decodes n r → shape_of n ≡ none
-unknown_kind n (Ok k) f d = absurd (f k refl)
-unknown_kind n (Err e) f d = d
+pub known_kind : {n : ℕ} (k : Kind) → number_of k ≡ n → shape_of n ≡ some (shape k)
+known_kind k e = subst (λ (m : ℕ). shape_of m ≡ some (shape k)) e (shape_number k)
 
 -- ---- unknown kinds
 abbrev is_none : Option Shape → Bool

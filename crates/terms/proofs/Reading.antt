@@ -11,7 +11,7 @@ use lib.Seq.{drop-drop, take-take}
 use borrow.Author.Tests.{le-leb, lt-leb, eq-eqb, ne_eqb, leb-true, leb-false, eqb-true}
 use Rattle.theory.specs.Limit.{number_bytes, max_arguments}
 use Rattle.theory.specs.Kind.{Arity, exactly, many, arity, takes}
-use Rattle.theory.specs.Record.{Bytes, little_endian, word, words, extent, whole, kind_of, body_of, fits, arguments, step, chain, back, unknown, misfit, premise_count, chain_front, chain_fits, Shape, plain, indexed, twice_indexed, valued, make, shapes, find_shape, shape_of, read, read_term, read_step, read_chain, read_back}
+use Rattle.theory.specs.Record.{Bytes, little_endian, word, words, extent, whole, kind_of, body_of, fits, arguments, step, chain, back, misfit, premise_count, chain_front, chain_fits, Shape, plain, indexed, twice_indexed, valued, make, shapes, find_shape, shape_of, read, read_term, read_step, read_chain, read_back}
 use Rattle.std.specs.Prelude.{None as Broken, Some as Ends}
 use Rattle.terms.specs.Framing.{part, record_at, frame_of}
 use Rattle.terms.specs.declared.kind.Form.{Form}
@@ -123,10 +123,7 @@ test_of c size k b e g l t =
     let m : sized c size (form_of (shape k)) ≡ fitting c (shape k) b = rw (← l, steady_kind k b, between (arity (make (shape k) []))) in
     sym (e ∙ ap (sized c size) g ∙ m) ∙ t
 
--- what a body says, where its number has no shape, where it does not fit, and where it does
-pub term_unknown : (c : ℕ) {o : Option Shape} → o ≡ none → (b : Bytes) → unknown ≡ read_term c o b
-term_unknown c e b = rw e
-
+-- what a body says where it does not fit, and where it does
 module _ (c : ℕ) {o : Option Shape} {s : Shape} (e : o ≡ some s) (b : Bytes) where
   pub term_misfit : fitting c s b ≡ false → misfit ≡ read_term c o b
   term_misfit f = rw (e, f)

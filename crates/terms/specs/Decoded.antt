@@ -1,5 +1,5 @@
 -- What decoded values mean, in the words of theory's records.
-use Rattle.std.specs.Prelude.{◌≡◌, List, [], ◌∷◌, ℕ, ◌+◌, ◌*◌, ◌≤◌, length, drop}
+use Rattle.std.specs.Prelude.{◌≡◌, List, [], ◌∷◌, ℕ, ◌+◌, ◌*◌, ◌≤◌, length, drop, Result, Ok, Err}
 use Rattle.theory.specs.Limit.{max_arguments}
 use Rattle.theory.specs.Kind.{Op}
 use Rattle.theory.specs.Rule.{nth}
@@ -12,8 +12,10 @@ use Rattle.terms.specs.declared.Head.{Head}
 use Rattle.terms.specs.declared.Operands.{Operands}
 use Rattle.terms.specs.declared.Operands.TheVariants.{None, One, Two, Three, List as Listed}
 use Rattle.terms.specs.declared.Item.{Item}
+use Rattle.terms.specs.declared.Fault.{Fault}
 use Rattle.terms.specs.declared.Term.TheVariants as D
 use Rattle.terms.specs.declared.Item.TheVariants as I
+use Rattle.terms.specs.declared.Fault.TheVariants as F
 use Rattle.terms.specs.Bodies.{Length}
 
 -- ---- argument lists
@@ -129,8 +131,16 @@ item_of job (I.Term t) = R.term (op_of t) (arguments_of job t)
 item_of job (I.Step n a) = R.step n (words_in job a)
 item_of job (I.Chain n a k) = R.chain n (words_in job a) k
 item_of job (I.Back n) = R.back n
-item_of job I.Unknown = R.unknown
-item_of job I.Misfit = R.misfit
+
+-- and why it says nothing
+abbrev pub fault_of : Fault → R.Item
+fault_of F.Unknown = R.unknown
+fault_of F.Misfit = R.misfit
+
+-- what a record says, of what was read
+abbrev pub read_of : Bytes → Result Item Fault → R.Item
+read_of job (Ok r) = item_of job r
+read_of job (Err e) = fault_of e
 
 -- the list, if there is one, lies in the job
 abbrev pub OperandsPlaced : Bytes → Operands → Type 0
@@ -146,10 +156,18 @@ Placed job (I.Term t) = OperandsPlaced job (operands_of t)
 Placed job (I.Step n a) = Inside job a
 Placed job (I.Chain n a k) = Inside job a
 Placed job (I.Back n) = Unit {0}
-Placed job I.Unknown = Unit {0}
-Placed job I.Misfit = Unit {0}
 
--- a decoded record says that, and its list lies in the job
-pub record Says (job : Bytes) (r : Item) (said : R.Item) : Type 0 where
-  pub says : item_of job r ≡ said
-  pub placed : Placed job r
+-- if something was read, its list lies in the job
+abbrev pub PlacedIn : Bytes → Result Item Fault → Type 0
+PlacedIn job (Ok r) = Placed job r
+PlacedIn job (Err e) = Unit {0}
+
+-- what was read says that, and its list lies in the job
+pub record Says (job : Bytes) (r : Result Item Fault) (said : R.Item) : Type 0 where
+  pub says : read_of job r ≡ said
+  pub placed : PlacedIn job r
+
+-- a term says that, and its list lies in the job
+pub record SaysTerm (job : Bytes) (t : Term) (said : R.Item) : Type 0 where
+  pub says : item_of job (I.Term t) ≡ said
+  pub placed : Placed job (I.Term t)

@@ -51,10 +51,10 @@ shape D.Repeat = indexed K.Repeat
 abbrev pub number_of : Kind → ℕ
 number_of k = K.kind (make (shape k) [])
 
--- a kind by its number; where there is none, no shape has it
+-- a kind by its number; the error has the number where no shape has it
 abbrev pub Decodes : ℕ → Result Kind UnknownKind → Type 0
 Decodes n (Ok k) = number_of k ≡ n
-Decodes n (Err e) = shape_of n ≡ none
+Decodes n (Err e) = (e.0 ≡ n) × (shape_of n ≡ none)
 
 -- document 01's code of a stop
 abbrev pub stop_code : Stop → ℕ

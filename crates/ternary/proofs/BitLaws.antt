@@ -1,10 +1,9 @@
 -- The bits of a term, by its kind.
 use mathlib.Core.Path.{◌≡◌, refl, sym, ap, ap₂, subst, ◌∙◌}
-use mathlib.Core.Bool.{Bool, true, false, ◌||◌, cond}
+use mathlib.Core.Bool.{Bool, true, false, not, ◌||◌, cond}
 use mathlib.Core.List.{List, [], ◌∷◌, map}
 use Prim.Native.Nat.{ℕ, zero, suc, ◌+◌, ◌-◌, ◌≤◌, ◌<◌}
 use native.Mathlib.Omega.{arith}
-use mir.Val.{bool_byte}
 use lib.Dec.{T, leb, eqb, leb→le}
 use lib.Ieee.Fits.{and_l, and_r}
 use lib.ListN.{length, take, drop, get_or, length-drop}
@@ -33,13 +32,13 @@ use Rattle.terms.specs.Decoded.{Inside, OperandsPlaced, op_of, operands_of, argu
 use Rattle.store.specs.Store.{listed}
 use Rattle.store.specs.Shelf.{TermOn, args_at}
 use Rattle.sweeps.specs.Variables.{is_variable, sort_bits, bits_in}
-use Rattle.sweeps.specs.Known.{Known, unknown, known_byte, of_byte, of_bool, lead, known, known_op, number_bits}
+use Rattle.sweeps.specs.Known.{Known, unknown, of_byte, of_bool, lead, known, known_op, number_bits}
 use Rattle.store.specs.KeptTerms.{kept_term}
 use Rattle.marks.specs.Marks.{mark_of}
 use Rattle.marks.proofs.MarkLaws.{count_is}
 use Rattle.evaluation.specs.Cells.{cell_at}
 use Rattle.ternary.specs.Gates.{row_known}
-use Rattle.ternary.specs.Bits.{cell_bit, bit_kind_in, Closed, Offset, Sound, BitOn}
+use Rattle.ternary.specs.Bits.{cell_bit, bit_kind_in, Closed, Offset, Tells, Sound, BitOn}
 use Rattle.ternary.specs.KnownBits.{is_marked}
 use Rattle.ternary.specs.declared.bits.KnownBits.{KnownBits}
 use Rattle.ternary.proofs.GateLaws.{byte_back, join_row, row_start}
@@ -56,11 +55,6 @@ pub bit_asked : (k : KnownBits) {x i : ℕ} → x < first_terms + k.terms.rows �
 bit_asked k l m b = record { closed = k.closed; low = l; marked = m; bit_low = b }
 
 -- ---- bytes
--- a bit that is known
-pub flag_bit : (b : Bool) → bool_byte b ≡ known_byte (of_bool b)
-flag_bit true = refl
-flag_bit false = refl
-
 pub past : (l : List ℕ) (k d : ℕ) → length l ≤ k → get_or l k d ≡ d
 past [] k d h = refl
 past (x ∷ l) zero d h = absurd (omega arith)
@@ -89,41 +83,31 @@ drop_one f [] i h = absurd (omega arith)
 drop_one f (k ∷ ks) zero h = refl
 drop_one f (k ∷ ks) (suc i) h = drop_one f ks i (omega arith)
 
-pub record Rowing (values : Bytes) (o : Bool) (ks : List ℕ) (acc i : ℕ) : Type 0 where
+pub record Rowing (values : Bytes) (o : Bool) (ks : List ℕ) (acc : Known) (i : ℕ) : Type 0 where
   pub most : i ≤ length ks
-  pub is : acc ≡ known_byte (row_known o (map (cell_bit values) (drop i ks)))
-
-strong_other : (o : Bool) {s : ℕ} → s ≡ cond o 1 0 → 1 - s ≡ cond o 0 1
-strong_other true e = omega arith
-strong_other false e = omega arith
-
-pub strong_small : (o : Bool) {s : ℕ} → s ≡ cond o 1 0 → s ≤ 1
-strong_small true e = omega arith
-strong_small false e = omega arith
+  pub is : acc ≡ row_known o (map (cell_bit values) (drop i ks))
 
 module _ {values : Bytes} {o : Bool} {ks : List ℕ} where
-  pub rowing_start : {s i : ℕ} → s ≡ cond o 1 0 → length ks ≡ i → Rowing values o ks (1 - s) i
-  rowing_start {s} {i} e f = record {
+  pub rowing_start : {i : ℕ} → length ks ≡ i → Rowing values o ks (of_bool (not o)) i
+  rowing_start {i} f = record {
     most = omega arith;
-    is = row_start o (strong_other o e) ∙ ap (λ (bs : List Known). known_byte (row_known o bs)) (sym (drop_end (cell_bit values) ks i (omega arith)));
+    is = row_start o ∙ ap (row_known o) (sym (drop_end (cell_bit values) ks i (omega arith)));
   }
 
-  pub rowing_turn : {acc i k c r : ℕ} → Rowing values o ks acc i → 0 < i → k ≡ get_or ks (i - 1) 0 → c ≡ cell_at values k → r ≡ known_byte (row_known o (of_byte c ∷ of_byte acc ∷ [])) → Rowing values o ks r (i - 1)
-  rowing_turn {acc} {i} {k} {c} {r} w l e f g =
+  pub rowing_turn : {acc b r : Known} {i k : ℕ} → Rowing values o ks acc i → 0 < i → k ≡ get_or ks (i - 1) 0 → b ≡ cell_bit values k → r ≡ row_known o (b ∷ acc ∷ []) → Rowing values o ks r (i - 1)
+  rowing_turn {acc} {b} {r} {i} {k} w l e f g =
       let m = w.most in
       let n : suc (i - 1) ≡ i = omega arith in
-      let rest = map (cell_bit values) (drop (suc (i - 1)) ks) in
       record {
         most = omega arith;
         is = g
-            ∙ ap₂ (λ (x y : ℕ). known_byte (row_known o (of_byte x ∷ of_byte y ∷ []))) (f ∙ ap (cell_at values) e) (w.is ∙ ap (λ (j : ℕ). known_byte (row_known o (map (cell_bit values) (drop j ks)))) (sym n))
-            ∙ ap (λ (b : Known). known_byte (row_known o (cell_bit values (get_or ks (i - 1) 0) ∷ b ∷ []))) (byte_back (row_known o rest))
-            ∙ ap known_byte (sym (join_row o (cell_bit values (get_or ks (i - 1) 0)) rest))
-            ∙ ap (λ (bs : List Known). known_byte (row_known o bs)) (sym (drop_one (cell_bit values) ks (i - 1) (omega arith)));
+            ∙ ap₂ (λ (x y : Known). row_known o (x ∷ y ∷ [])) (f ∙ ap (cell_bit values) e) (w.is ∙ ap (λ (j : ℕ). row_known o (map (cell_bit values) (drop j ks))) (sym n))
+            ∙ sym (join_row o (cell_bit values (get_or ks (i - 1) 0)) (map (cell_bit values) (drop (suc (i - 1)) ks)))
+            ∙ ap (row_known o) (sym (drop_one (cell_bit values) ks (i - 1) (omega arith)));
       }
 
-  pub rowing_done : {acc i : ℕ} → Rowing values o ks acc i → i ≤ 0 → acc ≡ known_byte (row_known o (map (cell_bit values) ks))
-  rowing_done {acc} {i} w h = w.is ∙ ap (λ (j : ℕ). known_byte (row_known o (map (cell_bit values) (drop j ks)))) (let z : i ≡ 0 = omega arith in z)
+  pub rowing_done : {acc : Known} {i : ℕ} → Rowing values o ks acc i → i ≤ 0 → acc ≡ row_known o (map (cell_bit values) ks)
+  rowing_done {acc} {i} w h = w.is ∙ ap (λ (j : ℕ). row_known o (map (cell_bit values) (drop j ks))) (let z : i ≡ 0 = omega arith in z)
 
 -- ---- the term at a place
 folds_at : {A : Type 0} (alg : Op → List A → A) (list : Plain) (ks : List ℕ) → folds alg (from_list (map (tree_at list) ks)) ≡ map (λ (k : ℕ). fold alg (tree_at list k)) ks
@@ -216,6 +200,10 @@ get_or_of f [] i d h = absurd (omega arith)
 get_or_of f (x ∷ l) zero d h = refl
 get_or_of f (x ∷ l) (suc i) d h = get_or_of f l i d (omega arith)
 
+-- the bit that a Bool's cell tells
+told : {input : Term → List Known} {list : Plain} {inputs values : Bytes} {p : ℕ} → Tells input list inputs values p → sort_width (sort_of (tree_at list p)) ≡ 0 → cell_bit values p ≡ lead (known input (tree_at list p))
+told t e = ap of_byte (t.bool_is e) ∙ byte_back _
+
 -- ---- the arguments of the marked term at a place
 module _ {job work : Bytes} {n place : ℕ} {t : Decoded} (c : Closed job work n) (low : place < first_terms + n) (m : T (mark_of job work place)) (h : TermOn job work n place t) (u : Decoded) (e : t ≡ u) where
   made : tree_at (listed job work n) place ≡ tree_of (listed job work n) (op_of u) (arguments_of job u)
@@ -248,9 +236,9 @@ module _ {job work : Bytes} {n place : ℕ} {t : Decoded} (c : Closed job work n
 
   -- a Bool argument's cell holds its bit
   pub arg_bit : T (all_are bool sorts) → {inputs values : Bytes} (input : Term → List Known) → Sound input (listed job work n) job work inputs values place → (i : ℕ) → i < length (arguments_of job u)
-      → cell_at values (get_or (arguments_of job u) i 0) ≡ known_byte (lead (known input (tree_at (listed job work n) (get_or (arguments_of job u) i 0))))
+      → cell_bit values (get_or (arguments_of job u) i 0) ≡ lead (known input (tree_at (listed job work n) (get_or (arguments_of job u) i 0)))
   arg_bit a input sound i l =
-      (sound (get_or (arguments_of job u) i 0) (arg_low i l) (arg_marked i l)).bool_is
+      told (sound (get_or (arguments_of job u) i 0) (arg_low i l) (arg_marked i l))
       (sym (ap sort_width (bools_at (λ (k : ℕ). sort_of (tree_at (listed job work n) k)) (arguments_of job u) i a l)))
 
 module _ {job work : Bytes} {n x i : ℕ} (s : BitAsked job work n x i) where
@@ -264,20 +252,20 @@ module _ {job work : Bytes} {n x i : ℕ} (s : BitAsked job work n x i) where
   place_good = good_at list x s.closed.shelf.sorted place_low
 
   -- a Bool
-  pub bit_bool : {inputs values : Bytes} {w r : ℕ} → w ≡ sort_width (sort_of (tree_at list x)) → w ≡ 0 → r ≡ cell_at values x → BitOn list job work inputs values x i r
+  pub bit_bool : {inputs values : Bytes} {w : ℕ} {r : Known} → w ≡ sort_width (sort_of (tree_at list x)) → w ≡ 0 → r ≡ cell_bit values x → BitOn list job work inputs values x i r
   bit_bool e z f input sound =
       let o = one_bit_of (sort_of (tree_at list x)) (sym e ∙ z) in
       let b = s.bit_low in
       let k : 0 ≡ i = omega arith in
-      f ∙ (sound x (omega arith) s.marked).bool_is (sym e ∙ z)
-      ∙ ap known_byte (sym (first_bit (known input (tree_at list x))) ∙ ap (λ (j : ℕ). get_or (known input (tree_at list x)) j unknown) k)
+      f ∙ told (sound x (omega arith) s.marked) (sym e ∙ z)
+      ∙ sym (first_bit (known input (tree_at list x))) ∙ ap (λ (j : ℕ). get_or (known input (tree_at list x)) j unknown) k
 
   -- a bit-vector variable
-  pub bit_variable : {inputs values : Bytes} {w r y c : ℕ} → w ≡ sort_width (sort_of (tree_at list x)) → (w ≡ 0 → ⊥) → T (is_variable (tree_at list x)) → c ≡ cell_at values x
-      → y ≡ get_or (drop c inputs) i 2 → r ≡ known_byte (of_byte y) → BitOn list job work inputs values x i r
+  pub bit_variable : {inputs values : Bytes} {w y c : ℕ} {r : Known} → w ≡ sort_width (sort_of (tree_at list x)) → (w ≡ 0 → ⊥) → T (is_variable (tree_at list x)) → c ≡ cell_at values x
+      → y ≡ get_or (drop c inputs) i 2 → r ≡ of_byte y → BitOn list job work inputs values x i r
   bit_variable {inputs} {values} e z v d f g input sound =
       let o = (sound x (omega arith) s.marked).variable_is (λ q. z (e ∙ q)) v in
-      g ∙ ap (λ (j : ℕ). known_byte (of_byte j)) (f ∙ ap (λ (j : ℕ). get_or (drop j inputs) i 2) d) ∙ ap known_byte (offset_bit o i s.bit_low)
+      g ∙ ap of_byte (f ∙ ap (λ (j : ℕ). get_or (drop j inputs) i 2) d) ∙ offset_bit o i s.bit_low
 
   -- at most 64 bits
   pub bit_small : i < 64
@@ -290,14 +278,14 @@ module _ {job work : Bytes} {n x i : ℕ} (s : BitAsked job work n x i) where
 
   module _ {t : Decoded} (h : TermOn job work n x t) where
     -- a constant
-    pub bit_const : (m v : ℕ) → t ≡ D.Const m v → {inputs values : Bytes} {b : Bool} {r : ℕ} → b ≡ bit_at i v → r ≡ known_byte (of_bool b) → BitOn list job work inputs values x i r
+    pub bit_const : (m v : ℕ) → t ≡ D.Const m v → {inputs values : Bytes} {b : Bool} → b ≡ bit_at i v → BitOn list job work inputs values x i (of_bool b)
     unfolding known_op
-    bit_const m v e f g input sound =
+    bit_const m v e f input sound =
         let d = D.Const m v in
         let b = s.bit_low in
         let q : bits_in (tree_at list x) ≡ m = ap sort_bits (sort_made s.closed s.low s.marked h d e ∙ good_bv _ m (good_made s.closed s.low s.marked h d e)) in
-        g ∙ ap (λ (y : Bool). known_byte (of_bool y)) f
-        ∙ ap known_byte (sym (ap (λ (bs : List Known). get_or bs i unknown) (known_made s.closed s.low s.marked h d e input) ∙ const_bit v 0 i m (omega arith) ∙ ap (λ (j : ℕ). of_bool (bit_at j v)) (let z : 0 + i ≡ i = omega arith in z)))
+        ap of_bool f
+        ∙ sym (ap (λ (bs : List Known). get_or bs i unknown) (known_made s.closed s.low s.marked h d e input) ∙ const_bit v 0 i m (omega arith) ∙ ap (λ (j : ℕ). of_bool (bit_at j v)) (let z : 0 + i ≡ i = omega arith in z))
 
     module _ (a : Args) (e : t ≡ D.BvBbTerm a) where
       row_bits : bits_in (tree_at list x) ≡ length (words_in job a)
@@ -309,18 +297,18 @@ module _ {job work : Bytes} {n x i : ℕ} (s : BitAsked job work n x i) where
       row_low = let b = s.bit_low in let q = row_bits in let k = count_is job a in omega arith
 
       -- a row of Bools
-      pub bit_row : {inputs values : Bytes} {j r : ℕ} → j ≡ get_or (words_in job a) i 0 → r ≡ cell_at values j → BitOn list job work inputs values x i r
+      pub bit_row : {inputs values : Bytes} {j : ℕ} {r : Known} → j ≡ get_or (words_in job a) i 0 → r ≡ cell_bit values j → BitOn list job work inputs values x i r
       unfolding known_op
       bit_row {inputs} {values} f g input sound =
           let u = D.BvBbTerm a in
           let ks = words_in job a in
           let l : i < length ks = omega (arith, s.bit_low, row_bits) in
           let all = fitted BvBbTerm (sorts s.closed s.low s.marked h u e) (good_made s.closed s.low s.marked h u e) in
-          g ∙ ap (cell_at values) f
+          g ∙ ap (cell_bit values) f
           ∙ arg_bit s.closed s.low s.marked h u e all input (λ k y z. sound k (omega arith) z) i l
-          ∙ ap known_byte (sym (ap (λ (bs : List Known). get_or bs i unknown) (known_made s.closed s.low s.marked h u e input)
+          ∙ sym (ap (λ (bs : List Known). get_or bs i unknown) (known_made s.closed s.low s.marked h u e input)
           ∙ get_or_map lead (map (λ (k : ℕ). known input (tree_at list k)) ks) i [] (subst (λ (z : ℕ). i < z) (sym (length_map (λ (k : ℕ). known input (tree_at list k)) ks)) l)
-          ∙ ap lead (get_or_of (λ (k : ℕ). known input (tree_at list k)) ks i [] l)))
+          ∙ ap lead (get_or_of (λ (k : ℕ). known input (tree_at list k)) ks i [] l))
 
 -- ---- no other kind of bit-vector is bit-level
 bool_width : (b : Bool) → sort_width (guard b bool) ≡ 0

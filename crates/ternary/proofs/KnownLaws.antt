@@ -24,7 +24,7 @@ use Rattle.terms.specs.Decoded.{Inside, OperandsPlaced, op_of, operands_of, argu
 use Rattle.store.specs.Store.{listed}
 use Rattle.store.specs.Shelf.{TermOn}
 use Rattle.sweeps.specs.Variables.{is_variable, sort_bits, bits_in}
-use Rattle.sweeps.specs.Known.{Known, known_byte, of_byte, lead, known, known_op, not_known, xor_known, equal_known, ite_known, and_known, or_known}
+use Rattle.sweeps.specs.Known.{Known, zero_bit, one_bit, of_byte, lead, known, known_op, not_known, xor_known, equal_known, ite_known, and_known, or_known}
 use Rattle.store.specs.KeptTerms.{kept_width}
 use Rattle.marks.specs.Marks.{mark_of}
 use Rattle.evaluation.specs.Cells.{cell_at}
@@ -32,7 +32,6 @@ use Rattle.ternary.specs.Gates.{row_known}
 use Rattle.ternary.specs.Bits.{cell_bit, bit_kind_in, Offset, Closed, Sound, BitOn, KnownOn}
 use Rattle.ternary.specs.KnownBits.{is_marked}
 use Rattle.ternary.specs.declared.bits.KnownBits.{KnownBits}
-use Rattle.ternary.proofs.GateLaws.{byte_back}
 use Rattle.ternary.proofs.BitLaws.{BitAsked, sort_made, good_made, known_made, kind_made, arg_marked, arg_low, arg_bit, only_bool, good_bv, bv_bool, first_bit, offset_bit}
 
 -- the bit may be asked of the Bool at a place
@@ -71,16 +70,16 @@ module _ {job work : Bytes} {n place : ℕ} (s : KnownAsked job work n place) {t
 
   module _ (u : Decoded) (e : t ≡ u) where
     -- the bit from what the arguments' bits come to
-    pub known_out : {inputs values : Bytes} {r : ℕ}
+    pub known_out : {inputs values : Bytes} {r : Known}
         → ((input : Term → List Known) → Sound input list job work inputs values place → (T (is_variable (tree_at list place)) → Offset input list inputs values place)
-        → r ≡ known_byte (lead (known_op input (op_of u) (map (λ (k : ℕ). known input (tree_at list k)) (arguments_of job u)))))
+        → r ≡ lead (known_op input (op_of u) (map (λ (k : ℕ). known input (tree_at list k)) (arguments_of job u))))
         → KnownOn list job work inputs values place r
-    known_out f input sound own = f input sound own ∙ ap (λ (bs : List Known). known_byte (lead bs)) (sym (known_made s.closed s.low s.marked h u e input))
+    known_out f input sound own = f input sound own ∙ ap lead (sym (known_made s.closed s.low s.marked h u e input))
 
     -- a Bool argument's bit
     pub cell_is : ArgsAreBool u → {inputs values : Bytes} (input : Term → List Known) → Sound input list job work inputs values place → (i : ℕ) → i < length (arguments_of job u)
         → cell_bit values (get_or (arguments_of job u) i 0) ≡ lead (known input (tree_at list (get_or (arguments_of job u) i 0)))
-    cell_is a input sound i l = ap of_byte (arg_bit s.closed s.low s.marked h u e a input sound i l) ∙ byte_back _
+    cell_is a input sound i l = arg_bit s.closed s.low s.marked h u e a input sound i l
 
     good_here : T (good (sort_op (op_of u) (map (λ (k : ℕ). sort_of (tree_at list k)) (arguments_of job u))))
     good_here = good_made s.closed s.low s.marked h u e
@@ -93,30 +92,30 @@ module _ {job work : Bytes} {n place : ℕ} (s : KnownAsked job work n place) {t
     not_wide b m q =
         bv_bool m (sym (good_bv b m (subst (λ (z : Sort). T (good z)) q good_here)) ∙ sym q ∙ sym (sort_made s.closed s.low s.marked h u e) ∙ bool_is)
 
-  pub known_true : t ≡ D.True → {inputs values : Bytes} → KnownOn list job work inputs values place 1
+  pub known_true : t ≡ D.True → {inputs values : Bytes} → KnownOn list job work inputs values place one_bit
   unfolding known_op
   known_true e = known_out D.True e (λ input sound own. refl)
 
-  pub known_false : t ≡ D.False → {inputs values : Bytes} → KnownOn list job work inputs values place 0
+  pub known_false : t ≡ D.False → {inputs values : Bytes} → KnownOn list job work inputs values place zero_bit
   unfolding known_op
   known_false e = known_out D.False e (λ input sound own. refl)
 
-  pub known_variable : (x : ℕ) → t ≡ D.BoolVar x → {inputs values : Bytes} {c y r : ℕ} → c ≡ cell_at values place → y ≡ get_or (drop c inputs) 0 2 → r ≡ known_byte (of_byte y) → KnownOn list job work inputs values place r
+  pub known_variable : (x : ℕ) → t ≡ D.BoolVar x → {inputs values : Bytes} {c y : ℕ} {r : Known} → c ≡ cell_at values place → y ≡ get_or (drop c inputs) 0 2 → r ≡ of_byte y → KnownOn list job work inputs values place r
   known_variable x e {inputs} {values} d f g input sound own =
       let v : T (is_variable (tree_at list place)) = subst (λ (z : Term). T (is_variable z)) (sym (h.term_at.made ∙ ap (λ (z : Decoded). tree_of list (op_of z) (arguments_of job z)) e)) tt in
       let b : bits_in (tree_at list place) ≡ 1 = ap sort_bits bool_is in
-      g ∙ ap (λ (j : ℕ). known_byte (of_byte j)) (f ∙ ap (λ (j : ℕ). get_or (drop j inputs) 0 2) d) ∙ ap known_byte (offset_bit (own v) 0 (omega arith) ∙ first_bit (known input (tree_at list place)))
+      g ∙ ap of_byte (f ∙ ap (λ (j : ℕ). get_or (drop j inputs) 0 2) d) ∙ offset_bit (own v) 0 (omega arith) ∙ first_bit (known input (tree_at list place))
 
-  pub known_not : (x : ℕ) → t ≡ D.Not x → {inputs values : Bytes} {c r : ℕ} → c ≡ cell_at values x → r ≡ known_byte (not_known (of_byte c)) → KnownOn list job work inputs values place r
+  pub known_not : (x : ℕ) → t ≡ D.Not x → {inputs values : Bytes} {c r : Known} → c ≡ cell_bit values x → r ≡ not_known c → KnownOn list job work inputs values place r
   unfolding known_op
   known_not x e {inputs} {values} d g =
-      known_out (D.Not x) e (λ input sound own. g ∙ ap (λ (j : ℕ). known_byte (not_known (of_byte j))) d ∙ ap (λ (b : Known). known_byte (not_known b)) (cell_is (D.Not x) e (fitted_here (D.Not x) e) input sound 0 (omega arith)))
+      known_out (D.Not x) e (λ input sound own. g ∙ ap not_known (d ∙ cell_is (D.Not x) e (fitted_here (D.Not x) e) input sound 0 (omega arith)))
 
-  pub known_xor : (x y : ℕ) → t ≡ D.Xor x y → {inputs values : Bytes} {c d r : ℕ} → c ≡ cell_at values x → d ≡ cell_at values y → r ≡ known_byte (xor_known (of_byte c) (of_byte d)) → KnownOn list job work inputs values place r
+  pub known_xor : (x y : ℕ) → t ≡ D.Xor x y → {inputs values : Bytes} {c d r : Known} → c ≡ cell_bit values x → d ≡ cell_bit values y → r ≡ xor_known c d → KnownOn list job work inputs values place r
   unfolding known_op
   known_xor x y e a b g =
-      known_out (D.Xor x y) e (λ input sound own. g ∙ ap₂ (λ (j k : ℕ). known_byte (xor_known (of_byte j) (of_byte k))) a b
-      ∙ ap₂ (λ (j k : Known). known_byte (xor_known j k)) (cell_is (D.Xor x y) e (fitted_here (D.Xor x y) e) input sound 0 (omega arith)) (cell_is (D.Xor x y) e (fitted_here (D.Xor x y) e) input sound 1 (omega arith)))
+      known_out (D.Xor x y) e (λ input sound own. let q = fitted_here (D.Xor x y) e in
+      g ∙ ap₂ xor_known (a ∙ cell_is (D.Xor x y) e q input sound 0 (omega arith)) (b ∙ cell_is (D.Xor x y) e q input sound 1 (omega arith)))
 
   -- an Equals that is bit-level is one of Bools
   equal_bools : (x y : ℕ) (e : t ≡ D.Equals x y) → ArgsAreBool (D.Equals x y)
@@ -130,19 +129,19 @@ module _ {job work : Bytes} {n place : ℕ} (s : KnownAsked job work n place) {t
       only true q = tt
       only false q = q
 
-  pub known_equals : (x y : ℕ) → t ≡ D.Equals x y → {inputs values : Bytes} {c d r : ℕ} → c ≡ cell_at values x → d ≡ cell_at values y → r ≡ known_byte (equal_known (of_byte c) (of_byte d)) → KnownOn list job work inputs values place r
+  pub known_equals : (x y : ℕ) → t ≡ D.Equals x y → {inputs values : Bytes} {c d r : Known} → c ≡ cell_bit values x → d ≡ cell_bit values y → r ≡ equal_known c d → KnownOn list job work inputs values place r
   unfolding known_op
   known_equals x y e a b g =
-      known_out (D.Equals x y) e (λ input sound own. g ∙ ap₂ (λ (j k : ℕ). known_byte (equal_known (of_byte j) (of_byte k))) a b
-      ∙ ap₂ (λ (j k : Known). known_byte (equal_known j k)) (cell_is (D.Equals x y) e (equal_bools x y e) input sound 0 (omega arith)) (cell_is (D.Equals x y) e (equal_bools x y e) input sound 1 (omega arith)))
+      known_out (D.Equals x y) e (λ input sound own. let q = equal_bools x y e in
+      g ∙ ap₂ equal_known (a ∙ cell_is (D.Equals x y) e q input sound 0 (omega arith)) (b ∙ cell_is (D.Equals x y) e q input sound 1 (omega arith)))
 
-  pub known_ite : (z x y : ℕ) → t ≡ D.Ite z x y → {inputs values : Bytes} {b c d r : ℕ} → b ≡ cell_at values z → c ≡ cell_at values x → d ≡ cell_at values y → r ≡ known_byte (ite_known (of_byte b) (of_byte c) (of_byte d)) → KnownOn list job work inputs values place r
+  pub known_ite : (z x y : ℕ) → t ≡ D.Ite z x y → {inputs values : Bytes} {b c d r : Known} → b ≡ cell_bit values z → c ≡ cell_bit values x → d ≡ cell_bit values y → r ≡ ite_known b c d → KnownOn list job work inputs values place r
   unfolding known_op
   known_ite z x y e f a b g =
       known_out (D.Ite z x y) e (λ input sound own.
       let q = fitted_here (D.Ite z x y) e in
-      g ∙ (λ i. known_byte (ite_known (of_byte (f i)) (of_byte (a i)) (of_byte (b i))))
-      ∙ (λ i. known_byte (ite_known (cell_is (D.Ite z x y) e q input sound 0 (omega arith) i) (cell_is (D.Ite z x y) e q input sound 1 (omega arith) i) (cell_is (D.Ite z x y) e q input sound 2 (omega arith) i))))
+      g ∙ (λ i. ite_known (f i) (a i) (b i))
+      ∙ (λ i. ite_known (cell_is (D.Ite z x y) e q input sound 0 (omega arith) i) (cell_is (D.Ite z x y) e q input sound 1 (omega arith) i) (cell_is (D.Ite z x y) e q input sound 2 (omega arith) i)))
 
   -- a row
   leads_are : (u : Decoded) (e : t ≡ u) → ArgsAreBool u → {inputs values : Bytes} (input : Term → List Known) → Sound input list job work inputs values place
@@ -150,13 +149,13 @@ module _ {job work : Bytes} {n place : ℕ} (s : KnownAsked job work n place) {t
   leads_are u e a {inputs} {values} input sound =
       row_same (cell_bit values) (λ (k : ℕ). lead (known input (tree_at list k))) (arguments_of job u) (cell_is u e a input sound) ∙ map_map (λ (k : ℕ). known input (tree_at list k)) (arguments_of job u)
 
-  pub known_and : (a : Args) → t ≡ D.And a → {inputs values : Bytes} {r : ℕ} → r ≡ known_byte (row_known false (map (cell_bit values) (words_in job a))) → KnownOn list job work inputs values place r
+  pub known_and : (a : Args) → t ≡ D.And a → {inputs values : Bytes} {r : Known} → r ≡ row_known false (map (cell_bit values) (words_in job a)) → KnownOn list job work inputs values place r
   unfolding known_op
-  known_and a e g = known_out (D.And a) e (λ input sound own. g ∙ ap (λ (bs : List Known). known_byte (and_known bs)) (leads_are (D.And a) e (fitted_here (D.And a) e) input sound))
+  known_and a e g = known_out (D.And a) e (λ input sound own. g ∙ ap and_known (leads_are (D.And a) e (fitted_here (D.And a) e) input sound))
 
-  pub known_or : (a : Args) → t ≡ D.Or a → {inputs values : Bytes} {r : ℕ} → r ≡ known_byte (row_known true (map (cell_bit values) (words_in job a))) → KnownOn list job work inputs values place r
+  pub known_or : (a : Args) → t ≡ D.Or a → {inputs values : Bytes} {r : Known} → r ≡ row_known true (map (cell_bit values) (words_in job a)) → KnownOn list job work inputs values place r
   unfolding known_op
-  known_or a e g = known_out (D.Or a) e (λ input sound own. g ∙ ap (λ (bs : List Known). known_byte (or_known bs)) (leads_are (D.Or a) e (fitted_here (D.Or a) e) input sound))
+  known_or a e g = known_out (D.Or a) e (λ input sound own. g ∙ ap or_known (leads_are (D.Or a) e (fitted_here (D.Or a) e) input sound))
 
   pub and_inside : (a : Args) → t ≡ D.And a → Inside job a
   and_inside a e = subst (λ (z : Decoded). OperandsPlaced job (operands_of z)) e h.term_at.placed
@@ -182,7 +181,7 @@ module _ {job work : Bytes} {n place : ℕ} (s : KnownAsked job work n place) {t
           bit_low = subst (λ (z : ℕ). i < z) (bv_bits (sort_of (tree_at list x)) v) l;
         }
 
-    pub known_bit : {inputs values : Bytes} {r : ℕ} → BitOn list job work inputs values x i r → KnownOn list job work inputs values place r
+    pub known_bit : {inputs values : Bytes} {r : Known} → BitOn list job work inputs values x i r → KnownOn list job work inputs values place r
     unfolding known_op
     known_bit b = known_out (D.BvBitOf i x) e (λ input sound own. b input (λ j l m. sound j (omega (arith, below)) m))
 

@@ -44,14 +44,14 @@ abbrev pub Sound : (Term → List Known) → Plain → Bytes → Bytes → Bytes
 Sound input list job work inputs values x = (j : ℕ) → j < x → T (mark_of job work j) → Tells input list inputs values j
 
 -- r is bit i of the term at place x, where its cell and those below are sound
-abbrev pub BitOn : Plain → Bytes → Bytes → Bytes → Bytes → ℕ → ℕ → ℕ → Type 0
+abbrev pub BitOn : Plain → Bytes → Bytes → Bytes → Bytes → ℕ → ℕ → Known → Type 0
 BitOn list job work inputs values x i r =
     (input : Term → List Known) → Sound input list job work inputs values (suc x)
-    → r ≡ known_byte (get_or (known input (tree_at list x)) i unknown)
+    → r ≡ get_or (known input (tree_at list x)) i unknown
 
 -- r is the bit of the Bool at a place, where the cells below are sound, and that of a variable says where its bit stands
-abbrev pub KnownOn : Plain → Bytes → Bytes → Bytes → Bytes → ℕ → ℕ → Type 0
+abbrev pub KnownOn : Plain → Bytes → Bytes → Bytes → Bytes → ℕ → Known → Type 0
 KnownOn list job work inputs values place r =
     (input : Term → List Known) → Sound input list job work inputs values place
     → (T (is_variable (tree_at list place)) → Offset input list inputs values place)
-    → r ≡ known_byte (lead (known input (tree_at list place)))
+    → r ≡ lead (known input (tree_at list place))

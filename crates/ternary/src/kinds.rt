@@ -1,4 +1,5 @@
-// The kinds of terms of bits: variables, constants, `true`, `false`, gates over Bools, BvBitOf and BvBbTerm.
+// The kinds of terms of bits: variables, constants, `true`, `false`, gates over Bools, BvBitOf and
+// BvBbTerm.
 ghost use Rattle.std.specs.Prelude.{◌≡◌, ◌+◌, ◌<◌};
 ghost use Rattle.theory.specs.Limit.{first_terms};
 ghost use Rattle.store.specs.KeptTerms.{kept_term};

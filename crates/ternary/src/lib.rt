@@ -1,7 +1,8 @@
-// Bits of which some are not known: the gates on them, a term's bits read from the cells, and the bit of a Bool from
-// its arguments'.
+// Bits of which some are not known: the gates on them, their bytes, a term's bits read from the
+// cells, and the bit of a Bool from its arguments'.
 #![tactic(auto)]
 
 pub mod bits;
+pub mod codes;
 pub mod gates;
 pub mod kinds;

@@ -2,3 +2,4 @@ pub mod WordLaws
 pub mod TableLaws
 pub mod NumberLaws
 pub mod ReadLaws
+pub mod Sets

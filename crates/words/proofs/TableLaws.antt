@@ -1,20 +1,18 @@
 -- Laws of tables of words.
-use mathlib.Core.Path.{◌≡◌, refl, sym, ap, ap₂, ◌∙◌}
+use mathlib.Core.Path.{◌≡◌, refl, sym, ap, ap₂, subst, ◌∙◌}
 use mathlib.Core.Bool.{Bool, true, false, cond, ◌&&◌}
 use mathlib.Core.List.{List, [], ◌∷◌, map}
-use Rattle.std.specs.Prelude.{Option, None as none, Some as some}
+use Rattle.std.specs.Prelude.{Option, None as none, Some as some, IfSome, is_some, option_map}
 use Prim.Native.Nat.{ℕ, ◌<◌}
 use lib.Dec.{T, ltb}
 use lib.Ieee.Fits.{and_l, and_r}
 use native.Mathlib.Omega.{arith}
 use borrow.Author.Tests.{ltb-true}
 use Rattle.std.specs.Borrow.{Bor}
-use Rattle.std.specs.Prelude as rust
 use Rattle.theory.specs.Term.{same_numbers}
-use Rattle.theory.specs.Optional.{either}
-use Rattle.theory.specs.Record.{Bytes, shape_of}
+use Rattle.theory.specs.Record.{Bytes, Shape, shape_of}
 use Rattle.text.specs.Spelling.{Spelled, named, kind_names}
-use Rattle.words.specs.Tables.{Beside, number_beside, told}
+use Rattle.words.specs.Tables.{Beside, number_beside}
 
 -- the first value beside a word
 first_beside : {A : Type 0} → Bytes → List Bytes → List (Option A) → Option A
@@ -22,20 +20,20 @@ first_beside w [] qs = none
 first_beside w (n ∷ ns) [] = none
 first_beside w (n ∷ ns) (q ∷ qs) = cond (same_numbers w n) q (first_beside w ns qs)
 
-under : {A B : Type 0} (f : A → Option B) (b : Bool) (a : A) (p : Option A) → either none f (cond b (some a) p) ≡ cond b (f a) (either none f p)
+under : {A B : Type 0} (f : A → B) (b : Bool) (a : A) (p : Option A) → option_map f (cond b (some a) p) ≡ cond b (some (f a)) (option_map f p)
 under f true a p = refl
 under f false a p = refl
 
-in_table : {A : Type 0} (f : ℕ → Option A) (w : Bytes) (rs : List (Bor Bytes × ℕ))
-    → either none f (number_beside w rs) ≡ first_beside w (map (λ r. r.0.now) rs) (map (λ r. f r.1) rs)
+in_table : {A : Type 0} (f : ℕ → A) (w : Bytes) (rs : List (Bor Bytes × ℕ))
+    → option_map f (number_beside w rs) ≡ first_beside w (map (λ r. r.0.now) rs) (map (λ r. some (f r.1)) rs)
 unfolding first_beside
 in_table f w [] = refl
-in_table f w (r ∷ rs) = under f (same_numbers w r.0.now) r.1 (number_beside w rs) ∙ ap (cond (same_numbers w r.0.now) (f r.1)) (in_table f w rs)
+in_table f w (r ∷ rs) = under f (same_numbers w r.0.now) r.1 (number_beside w rs) ∙ ap (cond (same_numbers w r.0.now) (some (f r.1))) (in_table f w rs)
 
-in_names : {A : Type 0} (w : Bytes) (rs : List (Spelled A)) → named w rs ≡ first_beside w (map (λ r. r.name) rs) (map (λ r. some r.names) rs)
+in_names : {A B : Type 0} (f : A → B) (w : Bytes) (rs : List (Spelled A)) → option_map f (named w rs) ≡ first_beside w (map (λ r. r.name) rs) (map (λ r. some (f r.names)) rs)
 unfolding first_beside
-in_names w [] = refl
-in_names w (r ∷ rs) = ap (cond (same_numbers w r.name) (some r.names)) (in_names w rs)
+in_names f w [] = refl
+in_names f w (r ∷ rs) = under f (same_numbers w r.name) r.names (named w rs) ∙ ap (cond (same_numbers w r.name) (some (f r.names))) (in_names f w rs)
 
 -- its numbers are small
 abbrev all_small : List (Bor Bytes × ℕ) → Bool
@@ -55,14 +53,32 @@ small w (r ∷ rs) t {k} e = go (small w rs (and_r (ltb r.1 59) _ t) {k = k}) (s
     go ih false e = ih e
 
 -- a table with the kinds' names and shapes
-pub kind_said : {rs : List (Bor Bytes × ℕ)} {w : Bytes} {r : rust.Option ℕ} → Beside w rs r → map (λ r. r.0.now) rs ≡ map (λ r. r.name) kind_names
-    → map (λ r. shape_of r.1) rs ≡ map (λ r. some r.names) kind_names → T (all_small rs) → (k : ℕ) → k ≡ rust.unwrap_or r 0 → (shape_of k ≡ named w kind_names) × (k < 59)
+pub kind_said : {rs : List (Bor Bytes × ℕ)} {w : Bytes} {r : Option ℕ} → Beside w rs r → map (λ r. r.0.now) rs ≡ map (λ r. r.name) kind_names
+    → map (λ r. some (shape_of r.1)) rs ≡ map (λ r. some (some r.names)) kind_names → option_map shape_of r ≡ option_map some (named w kind_names)
 unfolding shape_of
-kind_said {rs} {w} {r} b n s t k f = go r b.is f
-  where
-    here : either none shape_of (number_beside w rs) ≡ named w kind_names
-    here = in_table shape_of w rs ∙ ap₂ (first_beside w) n s ∙ sym (in_names w kind_names)
+kind_said {rs} {w} b n s = ap (option_map shape_of) b.is ∙ in_table shape_of w rs ∙ ap₂ (first_beside w) n s ∙ sym (in_names some w kind_names)
 
-    go : (r : rust.Option ℕ) → told r ≡ number_beside w rs → k ≡ rust.unwrap_or r 0 → (shape_of k ≡ named w kind_names) × (k < 59)
-    go rust.None e f = (ap shape_of f ∙ (ap (either none shape_of) e ∙ here), omega arith)
-    go (rust.Some i) e f = (ap shape_of f ∙ (ap (either none shape_of) e ∙ here), (let l = small w rs t e in omega arith))
+pub kind_small : {rs : List (Bor Bytes × ℕ)} {w : Bytes} {r : Option ℕ} → Beside w rs r → T (all_small rs) → IfSome r (λ k. k < 59)
+kind_small {rs} {w} {r} b t = go r b.is
+  where
+    go : (r : Option ℕ) → r ≡ number_beside w rs → IfSome r (λ k. k < 59)
+    go none e = tt
+    go (some k) e = small w rs t e
+
+-- ---- what `kind_named` says
+pub kind_shape : (r : Option ℕ) (q : Option Shape) → option_map shape_of r ≡ option_map some q → {k : ℕ} → r ≡ some k → shape_of k ≡ q
+kind_shape r none h e = absurd (let f : ◌≡◌ {A = Option (Option Shape)} (some _) none = sym (ap (option_map shape_of) e) ∙ h in cc)
+kind_shape r (some s) h {k} e = let f : ◌≡◌ {A = Option (Option Shape)} (some (shape_of k)) (some (some s)) = sym (ap (option_map shape_of) e) ∙ h in cc
+
+pub kind_none : (r : Option ℕ) (q : Option Shape) → option_map shape_of r ≡ option_map some q → r ≡ none → q ≡ none
+kind_none r none h e = refl
+kind_none r (some s) h e = absurd (let f : ◌≡◌ {A = Option (Option Shape)} none (some (some s)) = sym (ap (option_map shape_of) e) ∙ h in cc)
+
+pub kind_is_some : (r : Option ℕ) (q : Option Shape) → option_map shape_of r ≡ option_map some q → is_some r ≡ is_some q
+kind_is_some none none h = refl
+kind_is_some (some k) (some s) h = refl
+kind_is_some none (some s) h = absurd (cc)
+kind_is_some (some k) none h = absurd (cc)
+
+pub kind_below : (r : Option ℕ) → IfSome r (λ k. k < 59) → {k : ℕ} → r ≡ some k → k < 59
+kind_below r h e = subst (λ (r : Option ℕ). IfSome r (λ k. k < 59)) e h

@@ -10,22 +10,19 @@ use lib.Dec.{eqb, leb}
 use lib.Dec as dec
 use lib.Ieee.Fits.{and_l, and_r}
 use lib.ListN.{length, take, drop, get_or, length-take, length-drop, drop_of_length-le}
-use lib.Seq.{drop-cons, take-suc, get_or-drop, drop-drop, ext_get_or}
+use lib.Seq.{drop-cons, take-suc, get_or-drop, ext_get_or}
 use borrow.Author.Tests.{eq-eqb, ne_eqb, eqb-true}
 use Rattle.std.specs.Borrow.{Bor}
-use Rattle.std.specs.Prelude.{Option, None as none, Some as some, MatchOption}
+use Rattle.std.specs.Prelude.{Option, None as none, Some as some, MatchOption, option_map}
 use Rattle.std.proofs.lemmas.Bool.Decides.{Decides-eqb}
+use Rattle.std.proofs.lemmas.List.{take_all, length-take-le}
 use Rattle.std.proofs.lemmas.Slice.Eq.{strip_prefix_is}
 use Rattle.std.specs.Cmp.Lexicographic.{pointwise}
 use Rattle.theory.specs.Term.{same_numbers}
 use Rattle.theory.specs.Record.{Bytes}
 use Rattle.text.specs.Reading.{past}
+use Rattle.words.specs.Words.{piece}
 use Rattle.text.specs.Tokens.{is_blank, in_word, in_symbol, followed, token_at, next, front_word, left, right, end, bad, word}
-use Rattle.words.specs.declared.tokens.Token.{Token}
-use Rattle.words.specs.declared.tokens.Token.TheVariants as T
-use Rattle.words.specs.Tables.{Reads}
-use Rattle.words.specs.Words.{piece, Skipped, Ends, Lexed}
-use Rattle.words.proofs.ReadLaws.{reads_none, reads_some}
 
 -- ---- a property of bytes, decided by trying a run of them
 abbrev pub same_bool : Bool → Bool → Bool
@@ -87,13 +84,57 @@ next_black : (b : ℕ) (bs : Bytes) → is_blank b ≡ false → next (b ∷ bs)
 unfolding next
 next_black b bs e = rw (e, next)
 
+-- the walk over blanks
 pub skip_turn : (line : Bytes) (i : ℕ) → i < length line → is_blank (get_or line i 0) ≡ true → next (drop (i + 1) line) ≡ next (drop i line)
 skip_turn line i h e = sym (ap next (at_byte line i h) ∙ next_blank (get_or line i 0) (drop (i + 1) line) e)
 
--- ---- words
-pub piece_none : (line : Bytes) (at : ℕ) → piece at at line ≡ []
-piece_none line at = let e : at - at ≡ 0 = omega arith in ap (λ (n : ℕ). take n (drop at line)) e
+pub skip_end : (line : Bytes) (i : ℕ) → length line ≤ i → next (drop i line) ≡ next line → next [] ≡ next line
+skip_end line i h e = sym (ap next (at_end line i h)) ∙ e
 
+-- ---- words
+-- the word is what was passed and the word from here
+pub record Wording (line : Bytes) (i : ℕ) : Type 0 where
+  pub inside : i ≤ length line
+  pub is : front_word line ≡ take i line ++ front_word (drop i line)
+
+pub word_start : (line : Bytes) → Wording line 0
+word_start line = record { inside = omega arith; is = refl }
+
+pub word_turn : {line : Bytes} {i : ℕ} → Wording line i → i < length line → in_word (get_or line i 0) ≡ true → Wording line (i + 1)
+word_turn {line} {i} w h e = record {
+  inside = omega arith;
+  is = w.is
+      ∙ ap (λ (x : Bytes). take i line ++ front_word x) (at_byte line i h)
+      ∙ ap (λ (x : Bytes). take i line ++ x) (front_more (get_or line i 0) (drop (i + 1) line) e)
+      ∙ sym (append_assoc (take i line) (get_or line i 0 ∷ []) (front_word (drop (i + 1) line)))
+      ∙ ap (λ (x : Bytes). x ++ front_word (drop (i + 1) line)) (sym (take-suc line i 0 h) ∙ ap (λ (j : ℕ). take j line) (sym (add-one i)));
+}
+
+-- the word is what was passed
+word_ends : {line : Bytes} {i : ℕ} → Wording line i → front_word (drop i line) ≡ [] → take i line ≡ front_word line
+word_ends {line} {i} w e = sym (w.is ∙ ap (λ (x : Bytes). take i line ++ x) e ∙ append-nil (take i line))
+
+word_long : {line : Bytes} {i : ℕ} → Wording line i → take i line ≡ front_word line → drop i line ≡ drop (length (front_word line)) line
+word_long {line} {i} w e =
+    let n = w.inside in
+    let l : length (front_word line) ≡ i = ap length (sym e) ∙ length-take-le i line n in
+    ap (λ (j : ℕ). drop j line) (sym l)
+
+module _ {line : Bytes} {i : ℕ} (w : Wording line i) where
+  pub word_stop : i < length line → in_word (get_or line i 0) ≡ false → take i line ≡ front_word line
+  word_stop h e = word_ends w (ap front_word (at_byte line i h) ∙ front_none (get_or line i 0) (drop (i + 1) line) e)
+
+  pub word_past : i < length line → in_word (get_or line i 0) ≡ false → drop i line ≡ drop (length (front_word line)) line
+  word_past h e = word_long w (word_stop h e)
+
+  pub word_last : length line ≤ i → line ≡ front_word line
+  unfolding front_word
+  word_last h = sym (take_all i line h) ∙ word_ends w (ap front_word (at_end line i h))
+
+  pub word_over : length line ≤ i → [] ≡ drop (length (front_word line)) line
+  word_over h = sym (at_end line (length line) (omega arith)) ∙ ap (λ (x : Bytes). drop (length x) line) (word_last h)
+
+-- ---- pieces
 pub piece_more : (line : Bytes) (at i : ℕ) → at ≤ i → i < length line → piece at (i + 1) line ≡ piece at i line ++ (get_or line i 0 ∷ [])
 piece_more line at i h k =
     let e : i + 1 - at ≡ suc (i - at) = omega arith in
@@ -105,82 +146,36 @@ piece_more line at i h k =
 pub piece_length : (line : Bytes) (s e : ℕ) → s ≤ e → e ≤ length line → length (piece s e line) ≡ e - s
 piece_length line s e h k = length-take (e - s) (drop s line) ∙ rw length-drop (omega arith)
 
--- the word at a place is what was passed and the word from here
-pub record Wording (line : Bytes) (at i : ℕ) : Type 0 where
-  pub on : at ≤ i
-  pub inside : i ≤ length line
-  pub is : front_word (drop at line) ≡ piece at i line ++ front_word (drop i line)
-
-pub word_start : (line : Bytes) (at : ℕ) → at ≤ length line → Wording line at at
-word_start line at h = record { on = omega arith; inside = h; is = sym (ap (λ (p : Bytes). p ++ front_word (drop at line)) (piece_none line at)) }
-
-pub word_turn : {line : Bytes} {at i : ℕ} → Wording line at i → i < length line → in_word (get_or line i 0) ≡ true → Wording line at (i + 1)
-word_turn {line} {at} {i} w h e =
-    let o = w.on in
-    record {
-      on = omega arith;
-      inside = omega arith;
-      is = w.is
-          ∙ ap (λ (x : Bytes). piece at i line ++ front_word x) (at_byte line i h)
-          ∙ ap (λ (x : Bytes). piece at i line ++ x) (front_more (get_or line i 0) (drop (i + 1) line) e)
-          ∙ sym (append_assoc (piece at i line) (get_or line i 0 ∷ []) (front_word (drop (i + 1) line)))
-          ∙ ap (λ (x : Bytes). x ++ front_word (drop (i + 1) line)) (sym (piece_more line at i o h));
-    }
-
-word_ends : {line : Bytes} {at i : ℕ} → Wording line at i → front_word (drop i line) ≡ [] → Ends line at i
-word_ends {line} {at} {i} w e = record { on = w.on; inside = w.inside; is = w.is ∙ ap (λ (x : Bytes). piece at i line ++ x) e ∙ append-nil (piece at i line) }
-
-pub word_stop : {line : Bytes} {at i : ℕ} → Wording line at i → i < length line → in_word (get_or line i 0) ≡ false → Ends line at i
-word_stop {line} {at} {i} w h e = word_ends w (ap front_word (at_byte line i h) ∙ front_none (get_or line i 0) (drop (i + 1) line) e)
-
-pub word_last : {line : Bytes} {at i : ℕ} → Wording line at i → length line ≤ i → Ends line at i
-unfolding front_word
-word_last {line} {at} {i} w h = word_ends w (ap front_word (at_end line i h))
-
 -- ---- tokens
-module _ {line : Bytes} {at i : ℕ} (s : Skipped line at i) where
-  pub token_end : length line ≤ i → followed end [] ≡ next (drop at line)
-  unfolding next
-  token_end h = sym (sym s.same ∙ ap next (at_end line i h))
+pub token_end : (line : Bytes) → length line ≡ 0 → followed end [] ≡ next line
+unfolding next
+token_end [] h = refl
+token_end (b ∷ bs) h = absurd (omega arith)
 
-  at_token : i < length line → token_at (get_or line i 0) (drop (i + 1) line) ≡ next (drop at line)
-  at_token h = sym (sym s.same ∙ ap next (at_byte line i h) ∙ next_black (get_or line i 0) (drop (i + 1) line) (s.black h))
+-- a line that begins with no blank
+module _ {line : Bytes} {b : ℕ} {bs : Bytes} (is : line ≡ b ∷ bs) (black : 0 < length line → is_blank (get_or line 0 0) ≡ false) where
+  at_token : token_at b bs ≡ next line
+  at_token =
+      let one : 0 < length (b ∷ bs) = omega arith in
+      let f : is_blank b ≡ false = ap (λ (l : Bytes). is_blank (get_or l 0 0)) (sym is) ∙ black (subst (λ (l : Bytes). 0 < length l) (sym is) one) in
+      sym (ap next is ∙ next_black b bs f)
 
-  pub token_left : i < length line → get_or line i 0 ≡ 40 → followed left (drop (i + 1) line) ≡ next (drop at line)
-  token_left h e = sym (ap (λ (b : ℕ). token_at b (drop (i + 1) line)) e) ∙ at_token h
+  pub token_left : b ≡ 40 → followed left bs ≡ next line
+  token_left e = sym (ap (λ (b : ℕ). token_at b bs) e) ∙ at_token
 
-  pub token_right : i < length line → get_or line i 0 ≡ 41 → followed right (drop (i + 1) line) ≡ next (drop at line)
-  token_right h e = sym (ap (λ (b : ℕ). token_at b (drop (i + 1) line)) e) ∙ at_token h
+  pub token_right : b ≡ 41 → followed right bs ≡ next line
+  token_right e = sym (ap (λ (b : ℕ). token_at b bs) e) ∙ at_token
 
-  pub token_bad : i < length line → (get_or line i 0 ≡ 40 → ⊥) → (get_or line i 0 ≡ 41 → ⊥) → in_word (get_or line i 0) ≡ false → followed bad (drop (i + 1) line) ≡ next (drop at line)
-  token_bad h f g e =
-      let x : token_at (get_or line i 0) (drop (i + 1) line) ≡ followed bad (drop (i + 1) line) = rw (ne_eqb (get_or line i 0) 40 f, ne_eqb (get_or line i 0) 41 g, e) in
-      sym x ∙ at_token h
+  pub token_bad : (b ≡ 40 → ⊥) → (b ≡ 41 → ⊥) → in_word b ≡ false → followed bad bs ≡ next line
+  token_bad f g e =
+      let x : token_at b bs ≡ followed bad bs = rw (ne_eqb b 40 f, ne_eqb b 41 g, e) in
+      sym x ∙ at_token
 
-  pub token_word : i < length line → (get_or line i 0 ≡ 40 → ⊥) → (get_or line i 0 ≡ 41 → ⊥) → in_word (get_or line i 0) ≡ true → {e : ℕ} → Ends line i e
-      → followed (word (piece i e line)) (drop e line) ≡ next (drop at line)
-  token_word h f g t {e} w =
-      let b = get_or line i 0 in
-      let bs = drop (i + 1) line in
-      let fw : front_word (b ∷ bs) ≡ piece i e line = ap front_word (sym (at_byte line i h)) ∙ w.is in
-      let o = w.on in
-      let n = w.inside in
-      let l : length (front_word (b ∷ bs)) ≡ e - i = ap length fw ∙ piece_length line i e o n in
-      let j : i + (e - i) ≡ e = omega arith in
-      let d : drop (length (front_word (b ∷ bs))) (b ∷ bs) ≡ drop e line
-      = ap (λ (m : ℕ). drop m (b ∷ bs)) l ∙ ap (drop (e - i)) (sym (at_byte line i h)) ∙ drop-drop (e - i) i line ∙ ap (λ (m : ℕ). drop m line) j in
+  pub token_word : (b ≡ 40 → ⊥) → (b ≡ 41 → ⊥) → in_word b ≡ true → {w : Bytes} → w ≡ front_word line → {r : Bytes}
+      → r ≡ drop (length (front_word line)) line → followed (word w) r ≡ next line
+  token_word f g t {w} e {r} d =
       let x : token_at b bs ≡ followed (word (front_word (b ∷ bs))) (drop (length (front_word (b ∷ bs))) (b ∷ bs)) = rw (ne_eqb b 40 f, ne_eqb b 41 g, t) in
-      sym (x ∙ ap₂ (λ (u v : Bytes). followed (word u) v) fw d) ∙ at_token h
-
--- a word has a byte
-pub word_some : {line : Bytes} {i e : ℕ} → i < length line → in_word (get_or line i 0) ≡ true → Ends line i e → i < e
-word_some {line} {i} {e} h t w =
-    let o = w.on in
-    let n = w.inside in
-    let f : front_word (get_or line i 0 ∷ drop (i + 1) line) ≡ piece i e line = ap front_word (sym (at_byte line i h)) ∙ w.is in
-    let l : suc (length (front_word (drop (i + 1) line))) ≡ e - i
-    = ap length (sym (front_more (get_or line i 0) (drop (i + 1) line) t) ∙ f) ∙ piece_length line i e o n in
-    omega arith
+      ap₂ (λ (u v : Bytes). followed (word u) v) (e ∙ ap front_word is) (d ∙ ap (λ (l : Bytes). drop (length (front_word l)) l) is) ∙ sym x ∙ at_token
 
 -- ---- the test for the same bytes
 pub same_refl : (x : Bytes) → same_numbers x x ≡ true
@@ -218,18 +213,6 @@ pub symbol_word : (b : ℕ) → (b ≡ 35 → ⊥) → (b ≡ 58 → ⊥) → in
 unfolding in_word in_symbol
 symbol_word b f g = rw (ne_eqb b 35 f, ne_eqb b 58 g)
 
--- where a word stands
-pub record Inside (line : Bytes) (at s e : ℕ) : Type 0 where
-  pub first : at ≤ s
-  pub some_byte : s < e
-  pub last : e ≤ length line
-
-pub word_inside : {line : Bytes} {at : ℕ} {r : Token} {s e : ℕ} → Lexed line at r → r ≡ T.Word s e → Inside line at s e
-word_inside {line} {at} {r} {s} {e} l f = let g : Lexed line at (T.Word s e) = subst (Lexed line at) f l in record { first = g.inside.0; some_byte = g.inside.1; last = g.inside.2 }
-
-pub word_next : {line : Bytes} {at : ℕ} {r : Token} {s e : ℕ} → Lexed line at r → r ≡ T.Word s e → next (drop at line) ≡ followed (word (piece s e line)) (drop e line)
-word_next {line} {at} {r} {s} {e} l f = let g : Lexed line at (T.Word s e) = subst (Lexed line at) f l in sym g.is
-
 -- ---- what stands after a prefix
 past_on : (p rest : Bytes) → past p (p ++ rest) ≡ some rest
 past_on [] rest = refl
@@ -245,11 +228,11 @@ past_off (b ∷ p) (c ∷ s) h = go (eqb b c) refl (past_off p s)
     go false e ih = refl
 
 -- what `strip_prefix` says
-pub stripped : (p s : Bytes) {r : Option (Bor Bytes)}
+pub stripped : (p s : Bytes) (r : Option (Bor Bytes))
     → MatchOption r (pointwise eqb (take (length p) s) p ≡ false) (λ x. (pointwise eqb (take (length p) s) p ≡ true) × (x.now ≡ drop (length p) s) × (length x.now + length p ≡ length s))
-    → Reads (λ (x : Bor Bytes). x.now) (λ x. Unit {0}) (past p s) r
-stripped p s {r} m = go r (strip_prefix_is Decides-eqb s p r m)
+    → option_map (λ (x : Bor Bytes). x.now) r ≡ past p s
+stripped p s r m = go r (strip_prefix_is Decides-eqb s p r m)
   where
-    go : (r : Option (Bor Bytes)) → MatchOption r ((rest : Bytes) → s ≡ p ++ rest → ⊥) (λ x. s ≡ p ++ x.now) → Reads (λ (x : Bor Bytes). x.now) (λ x. Unit {0}) (past p s) r
-    go none h = reads_none (past_off p s h)
-    go (some x) h = reads_some (ap (past p) h ∙ past_on p x.now) tt
+    go : (r : Option (Bor Bytes)) → MatchOption r ((rest : Bytes) → s ≡ p ++ rest → ⊥) (λ x. s ≡ p ++ x.now) → option_map (λ (x : Bor Bytes). x.now) r ≡ past p s
+    go none h = sym (past_off p s h)
+    go (some x) h = sym (ap (past p) h ∙ past_on p x.now)

@@ -1,5 +1,5 @@
 // Tokens of a line, tables of words, and numbers.
-#![tactic(auto)]
+#![tactic(auto, using(crate::proofs::Sets::laws))]
 
 pub mod numbers;
 pub mod tables;

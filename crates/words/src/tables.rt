@@ -1,8 +1,8 @@
 // The names of kinds and rules, with their numbers.
-ghost use Rattle.std.specs.Prelude.{◌≡◌, ◌<◌};
+ghost use Rattle.std.specs.Prelude.{◌≡◌, ◌<◌, Some, IfSome, option_map};
 ghost use Rattle.theory.specs.Record.{shape_of};
 ghost use Rattle.text.specs.Spelling.{named, kind_names, rule_number};
-ghost use Rattle.words.specs.Tables.{Beside, told};
+ghost use Rattle.words.specs.Tables.{Beside};
 
 use crate::tokens::same;
 
@@ -78,14 +78,15 @@ fn number_of(table: &[(&[u8], u32)], word: &[u8]) -> Option<u32>
 
 // The number of the rule of a name.
 pub fn rule_named(word: &[u8]) -> Option<u32>
-    ensures { told result ≡ rule_number word.now }
+    ensures { result ≡ rule_number word.now }
 {
     number_of(&RULES, word)
 }
 
-// The number of the kind of a name, or 0: the kinds are numbered from 20, 30 and 40 on.
-pub fn kind_named(word: &[u8]) -> u32
-    ensures { (shape_of result ≡ named word.now kind_names) × (result < 59) }
+// The number of the kind of a name: the kinds are numbered from 20, 30 and 40 on.
+pub fn kind_named(word: &[u8]) -> Option<u32>
+    ensures shape { option_map shape_of result ≡ option_map Some (named word.now kind_names) }
+    ensures below { IfSome result (λ k. k < 59) }
 {
-    number_of(&KINDS, word).unwrap_or(0)
+    number_of(&KINDS, word)
 }

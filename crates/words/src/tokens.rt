@@ -1,17 +1,24 @@
 // The tokens of a line.
-ghost use Rattle.std.specs.Prelude.{◌≡◌, ◌≤◌, ◌<◌, length};
+ghost use Rattle.std.specs.Prelude.{◌≡◌, ◌<◌, length, drop, get_or, false};
 ghost use Rattle.theory.specs.Term.{same_numbers};
-ghost use Rattle.text.specs.Tokens.{is_blank, in_word, in_symbol};
-ghost use Rattle.words.specs.Words.{Lexed, Skipped, Ends};
+ghost use Rattle.text.specs.Tokens.{is_blank, in_word, in_symbol, next, front_word};
+ghost use Rattle.words.specs.Words.{told_next};
 
-// A token: the place after it; of a word its first place too.
+// A token.
 #[derive(Clone, Copy)]
-pub enum Token {
+pub enum Token<'a> {
+    Left,
+    Right,
     End,
-    Bad(usize),
-    Left(usize),
-    Right(usize),
-    Word(usize, usize),
+    Bad,
+    Word(&'a [u8]),
+}
+
+// A token, and what stands after it.
+#[derive(Clone, Copy)]
+pub struct Next<'a> {
+    pub token: Token<'a>,
+    pub rest: &'a [u8],
 }
 
 // A space, a tab or a carriage return?
@@ -35,67 +42,78 @@ pub fn in_word(b: u8) -> bool
 pub fn in_symbol(b: u8) -> bool
     ensures { result ≡ in_symbol b }
 {
-    if b == 35 {
+    if b == b'#' {
         return false;
     }
-    if b == 58 {
+    if b == b':' {
         return false;
     }
     in_word(b)
 }
 
-// The place after the blanks at `at`.
-#[tactic(auto, using(crate::proofs::WordLaws::skip_turn))]
-fn skip_blanks(line: &[u8], at: usize) -> usize
-    requires { at ≤ length line.now }
-    ensures { Skipped line.now at result }
+// What stands after the blanks that a line begins with.
+fn skip_blanks(line: &[u8]) -> &[u8]
+    ensures same { next result.now ≡ next line.now }
+    ensures black { 0 < length result.now → is_blank (get_or result.now 0 0) ≡ false }
 {
-    for i in at..line.len() {
+    for i in 0..line.len() {
         if !is_blank(line[i]) {
-            return i;
+            return &line[i..];
         }
     }
-    line.len()
+    &[]
 }
 
-// The place after the word at `at`.
-#[tactic(auto, using(crate::proofs::WordLaws::word_start, crate::proofs::WordLaws::word_turn, crate::proofs::WordLaws::word_stop, crate::proofs::WordLaws::word_last))]
-fn word_end(line: &[u8], at: usize) -> usize
-    requires { at ≤ length line.now }
-    ensures { Ends line.now at result }
+// The word that a line begins with, and what stands after it.
+fn split_word(line: &[u8]) -> (&[u8], &[u8])
+    ensures word { result.0.now ≡ front_word line.now }
+    ensures rest { result.1.now ≡ drop (length (front_word line.now)) line.now }
 {
-    for i in at..line.len() {
+    for i in 0..line.len() {
         if !in_word(line[i]) {
-            return i;
+            return line.split_at(i);
         }
     }
-    line.len()
+    (line, &[])
 }
 
-// The first token at or after `at`.
-pub fn next_token(line: &[u8], at: usize) -> Token
-    requires { at ≤ length line.now }
-    ensures { Lexed line.now at result }
+// The first token of a line.
+pub fn next_token(line: &[u8]) -> Next<'_>
+    ensures { told_next result ≡ next line.now }
 {
-    let i = skip_blanks(line, at);
-    if line.len() <= i {
-        return Token::End;
+    let line = skip_blanks(line);
+    let Some((&b, rest)) = line.split_first() else {
+        return Next {
+            token: Token::End,
+            rest: &[],
+        };
+    };
+    if b == b'(' {
+        return Next {
+            token: Token::Left,
+            rest,
+        };
     }
-    let b = line[i];
-    if b == 40 {
-        return Token::Left(i + 1);
-    }
-    if b == 41 {
-        return Token::Right(i + 1);
+    if b == b')' {
+        return Next {
+            token: Token::Right,
+            rest,
+        };
     }
     if !in_word(b) {
-        return Token::Bad(i + 1);
+        return Next {
+            token: Token::Bad,
+            rest,
+        };
     }
-    Token::Word(i, word_end(line, i))
+    let (word, rest) = split_word(line);
+    Next {
+        token: Token::Word(word),
+        rest,
+    }
 }
 
 // Are these the same bytes?
-#[tactic(auto, using(crate::proofs::WordLaws::same_long, crate::proofs::WordLaws::same_byte, crate::proofs::WordLaws::same_all))]
 pub fn same(a: &[u8], b: &[u8]) -> bool
     ensures { result ≡ same_numbers a.now b.now }
 {

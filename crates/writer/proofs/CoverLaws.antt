@@ -5,9 +5,7 @@ use mathlib.Core.List.{List, [], ◌∷◌, ◌++◌, append_assoc, append-nil}
 use Rattle.std.specs.Prelude.{Option, None as none, Some as some}
 use Prim.Native.Nat.{ℕ, zero, suc, ◌+◌, ◌-◌, ◌≤◌, ◌<◌}
 use native.Mathlib.Omega.{arith}
-use lib.Dec.{eqb}
 use lib.ListN.{length, take, drop, length-append, take-append-drop}
-use borrow.Author.Tests.{eq-eqb, ne_eqb}
 use lib.Seq.{take-append-le, drop-append-le, take_all, take-nil, drop-length, drop_at}
 use Rattle.theory.specs.Limit.{first_terms, number_bytes, max_job}
 use Rattle.theory.specs.Term.{same_numbers}
@@ -17,10 +15,11 @@ use Rattle.terms.specs.Framing.{record_at}
 use Rattle.rows.specs.Layout.{link_bytes, missing}
 use Rattle.rows.specs.Rows as R
 use Rattle.rows.proofs.RowLaws.{length_kept}
-use Rattle.table.specs.Buckets.{TableAs, Table}
+use Rattle.table.specs.Buckets.{TableAs, Table, unless_missing}
+use Rattle.table.proofs.BucketLaws.{told_none, told_some}
 use Rattle.table.specs.Promise.{count_after, list_after, memory_after, Grown}
 use Rattle.table.specs.declared.kept.Added.{Added}
-use Rattle.table.specs.declared.kept.Added.TheVariants.{Found, New, Spent}
+use Rattle.table.specs.declared.kept.Added.TheVariants.{Found, New}
 use Rattle.text.specs.Writing.{Lone, Clean, kept, place_from}
 use Rattle.text.proofs.Records.{empty_clean, clean_more, kept_more, kept_step}
 use Rattle.writer.specs.Places.{row_records, Covered}
@@ -114,11 +113,11 @@ module _ {job work : Bytes} {rows covered : ℕ} (g : Covered job work rows cove
           ∙ ap (λ (n : ℕ). n + length (kept (drop covered job))) (length_kept (link_bytes number_bytes) (take covered job) work rows) in
           g.split ∙ ap (λ (x : List Bytes). row_records (take covered job) work rows ++ x) (nothing (kept (drop covered job)) (omega arith)) ∙ append-nil (row_records (take covered job) work rows)
 
-      pub covered_row : {work' : Bytes} {a : Added} {limit p : ℕ} → rows ≡ length (kept job) → Grown number_bytes (job ++ r) work work' rows limit (length job) 0 a → a ≡ New p
+      pub covered_row : {work' : Bytes} {a : Option Added} {limit p : ℕ} → rows ≡ length (kept job) → Grown number_bytes (job ++ r) work work' rows limit (length job) 0 a → a ≡ some (New p)
           → Covered (job ++ r) work' (rows + 1) (length (job ++ r))
       unfolding count_after list_after
       covered_row {work'} {a} {limit} {p} e h d =
-          let t : Grown number_bytes (job ++ r) work work' rows limit (length job) 0 (New p) = subst (Grown number_bytes (job ++ r) work work' rows limit (length job) 0) d h in
+          let t : Grown number_bytes (job ++ r) work work' rows limit (length job) 0 (some (New p)) = subst (Grown number_bytes (job ++ r) work work' rows limit (length job) 0) d h in
           let n = length (job ++ r) in
           let all : take n (job ++ r) ≡ job ++ r = take_all n (job ++ r) (omega arith) in
           let none_left : drop n (job ++ r) ≡ [] = drop-length (job ++ r) in
@@ -132,11 +131,17 @@ module _ {job work : Bytes} {rows covered : ℕ} (g : Covered job work rows cove
           }
 
 -- no row was added: the work memory is as it was
-pub unchanged : {job work work' : Bytes} {n limit at : ℕ} (a : Added) → ((p : ℕ) → a ≡ New p → ⊥) → Grown number_bytes job work work' n limit at 0 a → work' ≡ work
-unfolding memory_after
-unchanged (Found p) k h = h.memory_is
-unchanged (New p) k h = absurd (k p refl)
-unchanged Spent k h = h.memory_is
+module _ {job work work' : Bytes} {n limit at : ℕ} {a : Option Added} (g : Grown number_bytes job work work' n limit at 0 a) where
+  unchanged_for : {x : Option Added} → a ≡ x → Grown number_bytes job work work' n limit at 0 x
+  unchanged_for e = subst (Grown number_bytes job work work' n limit at 0) e g
+
+  pub unchanged_found : {p : ℕ} → a ≡ some (Found p) → work' ≡ work
+  unfolding memory_after
+  unchanged_found e = (unchanged_for e).memory_is
+
+  pub unchanged_none : a ≡ none → work' ≡ work
+  unfolding memory_after
+  unchanged_none e = (unchanged_for e).memory_is
 
 -- ---- a record is looked up
 place_append : (p : ℕ) (w : Bytes) (xs ys : List Bytes) → place_from p w (xs ++ ys) ≡ either (place_from (p + length xs) w ys) some (place_from p w xs)
@@ -150,15 +155,15 @@ place_append p w (x ∷ xs) ys = go (same_numbers w x) (place_append (suc p) w x
     go false e = let q : suc p + length xs ≡ p + suc (length xs) = omega arith in e ∙ ap (λ (n : ℕ). either (place_from n w ys) some (place_from (suc p) w xs)) q
 
 -- what the rows' place says: missing, or the place
-row_place : (p : ℕ) (w : Bytes) (xs : List Bytes) → p + length xs ≤ missing → place_from p w xs ≡ cond (eqb (R.place_from p w xs) missing) none (some (R.place_from p w xs))
+row_place : (p : ℕ) (w : Bytes) (xs : List Bytes) → p + length xs ≤ missing → place_from p w xs ≡ unless_missing (R.place_from p w xs)
 unfolding R.place_from
-row_place p w [] h = refl
+row_place p w [] h = told_none refl
 row_place p w (x ∷ xs) h = go (same_numbers w x) (row_place (suc p) w xs (omega arith))
   where
-    go : (b : Bool) → place_from (suc p) w xs ≡ cond (eqb (R.place_from (suc p) w xs) missing) none (some (R.place_from (suc p) w xs))
+    go : (b : Bool) → place_from (suc p) w xs ≡ unless_missing (R.place_from (suc p) w xs)
         → elim b as (λ z. Option ℕ) [ true ↦ some p | false ↦ place_from (suc p) w xs ]
-        ≡ cond (eqb (cond b p (R.place_from (suc p) w xs)) missing) none (some (cond b p (R.place_from (suc p) w xs)))
-    go true e = sym (ap (λ (z : Bool). cond z none (some p)) (ne_eqb p missing (λ q. omega arith)))
+        ≡ unless_missing (cond b p (R.place_from (suc p) w xs))
+    go true e = told_some refl (λ q. omega arith)
     go false e = e
 
 module _ {job work : Bytes} {rows covered : ℕ} (g : Covered job work rows covered) (w : Bytes) where
@@ -166,8 +171,7 @@ module _ {job work : Bytes} {rows covered : ℕ} (g : Covered job work rows cove
   unfolding link_bytes
   few_rows = g.table.rows.few
 
-  by_rows : place_from first_terms w (row_records (take covered job) work rows)
-      ≡ cond (eqb (R.place_of w (row_records (take covered job) work rows)) missing) none (some (R.place_of w (row_records (take covered job) work rows)))
+  by_rows : place_from first_terms w (row_records (take covered job) work rows) ≡ unless_missing (R.place_of w (row_records (take covered job) work rows))
   by_rows =
       let n : length (row_records (take covered job) work rows) ≡ rows = length_kept (link_bytes number_bytes) (take covered job) work rows in
       let f = few_rows in
@@ -180,13 +184,13 @@ module _ {job work : Bytes} {rows covered : ℕ} (g : Covered job work rows cove
       ap (place_from first_terms w) g.split ∙ place_append first_terms w (row_records (take covered job) work rows) (kept (drop covered job))
       ∙ ap (λ (m : ℕ). either (place_from m w (kept (drop covered job))) some (place_from first_terms w (row_records (take covered job) work rows))) n
 
-  pub found_row : {p : ℕ} → p ≡ R.place_of w (row_records (take covered job) work rows) → (p ≡ missing → ⊥) → some p ≡ place_from first_terms w (kept job)
-  found_row {p} e f =
-      sym (in_parts ∙ ap (either (place_from (rows + 2) w (kept (drop covered job))) some)
-      (by_rows ∙ ap (λ (m : ℕ). cond (eqb m missing) none (some m)) (sym e) ∙ ap (λ (z : Bool). cond z none (some p)) (ne_eqb p missing f)))
+  -- what the rows say, and the records after them
+  module _ {r : Option ℕ} (told : r ≡ unless_missing (R.place_of w (row_records (take covered job) work rows))) where
+    by_told : place_from first_terms w (kept job) ≡ either (place_from (rows + 2) w (kept (drop covered job))) some r
+    by_told = in_parts ∙ ap (either (place_from (rows + 2) w (kept (drop covered job))) some) (by_rows ∙ sym told)
 
-  pub found_rest : {p : ℕ} → p ≡ R.place_of w (row_records (take covered job) work rows) → p ≡ missing
-      → place_from (rows + 2) w (kept (drop covered job)) ≡ place_from first_terms w (kept job)
-  found_rest {p} e f =
-      sym (in_parts ∙ ap (either (place_from (rows + 2) w (kept (drop covered job))) some)
-      (by_rows ∙ ap (λ (m : ℕ). cond (eqb m missing) none (some m)) (sym e) ∙ ap (λ (z : Bool). cond z none (some p)) (eq-eqb p missing f)))
+    pub found_row : {p : ℕ} → r ≡ some p → some p ≡ place_from first_terms w (kept job)
+    found_row {p} e = sym (by_told ∙ ap (either (place_from (rows + 2) w (kept (drop covered job))) some) e)
+
+    pub found_rest : r ≡ none → place_from (rows + 2) w (kept (drop covered job)) ≡ place_from first_terms w (kept job)
+    found_rest e = sym (by_told ∙ ap (either (place_from (rows + 2) w (kept (drop covered job))) some) e)

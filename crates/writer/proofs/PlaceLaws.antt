@@ -23,9 +23,9 @@ use Rattle.theory.proofs.Positions.{records_whole, records_broken}
 use Rattle.text.proofs.Records.{stands, clean_more, kept_more}
 use Rattle.text.proofs.Encoding.{words_length, record_length}
 use Rattle.text.proofs.Placed.{small}
-use Rattle.rows.specs.Layout.{link_bytes, missing}
+use Rattle.rows.specs.Layout.{link_bytes}
 use Rattle.rows.specs.Rows as R
-use Rattle.table.specs.Buckets.{TableAs}
+use Rattle.table.specs.Buckets.{TableAs, unless_missing}
 use Rattle.table.specs.Promise.{Grown}
 use Rattle.table.specs.declared.kept.Added.{Added}
 use Rattle.table.specs.declared.kept.Added.TheVariants.{New}
@@ -306,7 +306,7 @@ module _ {out work : Bytes} {s : Spot} {end : ℕ} (g : Longer out work s end) w
         (subst (λ (n : ℕ). n + extent (drop n (so_far out s ++ last)) ≤ length (so_far out s ++ last)) job_long
         (record_ends g.ready.rows last g.ready.clean g.lone no_step fits_job))
 
-    pub grows_row : {work' : Bytes} {a : Added} {limit p : ℕ} → s.rows ≡ s.terms → Grown number_bytes (take end out) work work' s.rows limit s.done 0 a → a ≡ New p
+    pub grows_row : {work' : Bytes} {a : Option Added} {limit p : ℕ} → s.rows ≡ s.terms → Grown number_bytes (take end out) work work' s.rows limit s.done 0 a → a ≡ some (New p)
         → Grows out work' end (record { done = end; terms = s.terms + 1; rows = s.terms + 1; covered = end })
     grows_row {work'} {a} {limit} {p} e h d =
         let j = job_long in
@@ -336,14 +336,17 @@ module _ {out work : Bytes} {s : Spot} (g : Ready out work s) where
   unfolding link_bytes
   find_bounds = (covered_on, g.within, g.rows.table.rows.few)
 
-  pub find_row : (w : Bytes) {p : ℕ} → p ≡ R.place_of w (row_records (take s.covered out) work s.rows) → (p ≡ missing → ⊥) → some p ≡ place_from first_terms w (kept (so_far out s))
-  find_row w e f = found_row g.rows w (e ∙ ap (λ (x : Bytes). R.place_of w (row_records x work s.rows)) (sym covered_is)) f
+  module _ (w : Bytes) {r : Option ℕ} (told : r ≡ unless_missing (R.place_of w (row_records (take s.covered out) work s.rows))) where
+    told_here : r ≡ unless_missing (R.place_of w (row_records (take s.covered (so_far out s)) work s.rows))
+    told_here = told ∙ ap (λ (x : Bytes). unless_missing (R.place_of w (row_records x work s.rows))) (sym covered_is)
 
-  pub find_rest : (w : Bytes) {p : ℕ} → p ≡ R.place_of w (row_records (take s.covered out) work s.rows) → p ≡ missing
-      → place_from (s.rows + 2) w (kept (piece s.covered s.done out)) ≡ place_from first_terms w (kept (so_far out s))
-  find_rest w e f =
-      ap (λ (x : Bytes). place_from (s.rows + 2) w (kept x)) (part_is s.covered s.done out covered_on)
-      ∙ found_rest g.rows w (e ∙ ap (λ (x : Bytes). R.place_of w (row_records x work s.rows)) (sym covered_is)) f
+    pub find_row : {p : ℕ} → r ≡ some p → some p ≡ place_from first_terms w (kept (so_far out s))
+    find_row e = found_row g.rows w told_here e
+
+    pub find_rest : r ≡ none → place_from (s.rows + 2) w (kept (piece s.covered s.done out)) ≡ place_from first_terms w (kept (so_far out s))
+    find_rest e =
+        ap (λ (x : Bytes). place_from (s.rows + 2) w (kept x)) (part_is s.covered s.done out covered_on)
+        ∙ found_rest g.rows w told_here e
 
 -- ---- the numbers in a kind
 -- their bytes by the family

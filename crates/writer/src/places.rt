@@ -1,35 +1,25 @@
 // Where the job stands in the memory for it, and terms put there.
-ghost use Rattle.std.specs.Prelude.{◌≡◌, ◌+◌, ◌≤◌, ◌<◌, length};
-ghost use Rattle.std.proofs.lemmas.List.Edits.{sets};
+ghost use Rattle.std.specs.Prelude.{◌≡◌, ◌≤◌, ◌<◌, length};
 ghost use Rattle.theory.specs.Limit.{first_terms, number_bytes, max_terms, max_arguments};
 ghost use Rattle.theory.specs.Record.{kind_of, step_kind};
-ghost use Rattle.text.specs.Writing.{Lone, kept, place_from, front_bytes, keep, put_term, put_step, placed, placed_all};
+ghost use Rattle.text.specs.Writing.{Lone, kept, place_from, keep, put_term, put_step, placed, placed_all};
 ghost use Rattle.names.specs.Kinds.{op_of, Known};
-ghost use Rattle.writer.specs.Places.{so_far, Ready, Longer, Grows, Puts, Steps, Encoded, key_bytes};
+ghost use Rattle.writer.specs.Places.{so_far, Ready, Longer, Grows, Puts, Steps};
 
-use names::kinds::{Indices, Kind, family};
-use rows::bytes::put_number;
+use super::encode::{KEY_BYTES, encode};
+use names::kinds::Kind;
+use rows::FIRST_PLACE;
+use rows::bytes::put_number_of;
 use rows::layout::OFFSET_BYTES;
-use rows::{FIRST_PLACE, MISSING};
-use table::{Added, add_as, find_record};
+use table::{Added, add_record, find_record};
 use terms::Term;
 use words::tokens::same;
-
-// The bytes of an array that is long enough for any term's record: a constant's kind has the
-// most bytes of numbers.
-const KEY_BYTES: usize = Term::BODY_AT
-    + Term::NUMBER_BYTES
-    + Term::VALUE_BYTES
-    + Term::NUMBER_BYTES * Term::MAX_ARGUMENTS;
 
 // A step's body is the rule's number and the literals, here one ..
 const LITERAL_AT: usize = Term::BODY_AT + Term::NUMBER_BYTES;
 
 // .. so that it has so many bytes.
 const STEP_BYTES: usize = LITERAL_AT + Term::NUMBER_BYTES;
-
-// The kind of a step.
-const STEP: u32 = 100;
 
 // The longest part of a job that rows can cover, in bytes: the offset in a row has three.
 const MAX_COVERED: usize = 1 << (8 * OFFSET_BYTES);
@@ -63,7 +53,7 @@ fn walk_records(job: &[u8], first: usize, wanted: &[u8]) -> Option<usize>
     while let Some(size) = Term::frame(job, at) {
         let start = at;
         at += size;
-        if Term::number(job, start + Term::KIND_AT) == STEP {
+        if Term::number(job, start + Term::KIND_AT) == Term::STEP_KIND {
             continue;
         }
         if same(wanted, &job[start..at]) {
@@ -81,8 +71,12 @@ fn find_term(wanted: &[u8], out: &[u8], work: &[u8], spot: Spot) -> Option<usize
     ensures { result ≡ place_from first_terms wanted.now (kept (so_far out.now spot)) }
 {
     let covered = spot.covered;
-    let place = find_record(&out[..covered], work, Term::NUMBER_BYTES, spot.rows, wanted);
-    if place != MISSING {
+    if let Some(place) = find_record::<{ Term::NUMBER_BYTES }, { Term::NUMBER_BYTES }>(
+        &out[..covered],
+        work,
+        spot.rows,
+        wanted,
+    ) {
         return Some(place as usize);
     }
     walk_records(&out[covered..spot.done], spot.rows + FIRST_PLACE, wanted)
@@ -106,23 +100,24 @@ fn cover(out: &[u8], work: &mut [u8], spot: Spot, end: usize) -> Spot
     if MAX_COVERED < end {
         return plain;
     }
-    let added = add_as(
+    let Some(added) = add_record::<{ Term::NUMBER_BYTES }, { Term::NUMBER_BYTES }>(
         &out[..end],
         work,
-        Term::NUMBER_BYTES,
         spot.rows,
         Term::MAX_TERMS,
         spot.done,
         0,
-    );
+    ) else {
+        return plain;
+    };
     match added {
+        Added::Found(_) => plain,
         Added::New(_) => Spot {
             done: end,
             terms,
             rows: terms,
             covered: end,
         },
-        _ => plain,
     }
 }
 
@@ -147,62 +142,6 @@ fn keep(bytes: &[u8], out: &mut [u8], work: &mut [u8], spot: Spot) -> Option<Put
         number: spot.terms + FIRST_PLACE,
         spot: cover(out, work, spot, end),
     })
-}
-
-// The bytes of the numbers in a kind.
-fn front_size(kind: Kind) -> usize
-    requires { Known kind }
-    ensures { result ≡ length (front_bytes (op_of kind)) }
-{
-    match family(kind.number) {
-        Some(Indices::Indexed) => Term::NUMBER_BYTES,
-        Some(Indices::TwiceIndexed) => 2 * Term::NUMBER_BYTES,
-        Some(Indices::Valued) => Term::NUMBER_BYTES + Term::VALUE_BYTES,
-        _ => 0,
-    }
-}
-
-// Stores the numbers in a kind.
-fn put_front(kind: Kind, key: &mut [u8])
-    requires sized { length key.old ≡ key_bytes }
-    requires known { Known kind }
-    ensures { key.new ≡ sets key.old 4 (front_bytes (op_of kind)) }
-{
-    let x = kind.x as usize;
-    let y = kind.y as usize;
-    let second = Term::BODY_AT + Term::NUMBER_BYTES;
-    match family(kind.number) {
-        Some(Indices::Indexed) => put_number(key, Term::BODY_AT, Term::NUMBER_BYTES, x),
-        Some(Indices::TwiceIndexed) => {
-            put_number(key, Term::BODY_AT, Term::NUMBER_BYTES, x);
-            put_number(key, second, Term::NUMBER_BYTES, y);
-        }
-        Some(Indices::Valued) => {
-            put_number(key, Term::BODY_AT, Term::NUMBER_BYTES, x);
-            put_number(key, second, Term::VALUE_BYTES, y);
-        }
-        _ => {}
-    }
-}
-
-// Stores the record of a term, and returns its size.
-fn encode(kind: Kind, numbers: &[u16], key: &mut [u8]) -> usize
-    requires sized { length key.old ≡ key_bytes }
-    requires known { Known kind }
-    requires few { length numbers.now ≤ max_arguments }
-    ensures { Encoded key.new (op_of kind) numbers.now result }
-{
-    let front = front_size(kind);
-    let size = Term::BODY_AT + front + Term::NUMBER_BYTES * numbers.len();
-    put_number(key, 0, Term::NUMBER_BYTES, size - Term::NUMBER_BYTES);
-    put_number(key, Term::KIND_AT, Term::NUMBER_BYTES, kind.number as usize);
-    put_front(kind, key);
-    let mut at = Term::BODY_AT + front;
-    for &number in numbers {
-        put_number(key, at, Term::NUMBER_BYTES, number as usize);
-        at += Term::NUMBER_BYTES;
-    }
-    size
 }
 
 // Puts a term of that kind with these arguments, unless an equal one is there; none where it does
@@ -248,15 +187,10 @@ pub fn put_step(
     if out.len() - done < STEP_BYTES {
         return None;
     }
-    put_number(
-        out,
-        done,
-        Term::NUMBER_BYTES,
-        STEP_BYTES - Term::NUMBER_BYTES,
-    );
-    put_number(out, done + Term::KIND_AT, Term::NUMBER_BYTES, STEP as usize);
-    put_number(out, done + Term::BODY_AT, Term::NUMBER_BYTES, rule as usize);
-    put_number(out, done + LITERAL_AT, Term::NUMBER_BYTES, number as usize);
+    put_number_of::<{ Term::NUMBER_BYTES }>(out, done, STEP_BYTES - Term::NUMBER_BYTES);
+    put_number_of::<{ Term::NUMBER_BYTES }>(out, done + Term::KIND_AT, Term::STEP_KIND as usize);
+    put_number_of::<{ Term::NUMBER_BYTES }>(out, done + Term::BODY_AT, rule as usize);
+    put_number_of::<{ Term::NUMBER_BYTES }>(out, done + LITERAL_AT, usize::from(number));
     Some(Spot {
         done: done + STEP_BYTES,
         ..spot

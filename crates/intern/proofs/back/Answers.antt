@@ -3,4 +3,4 @@ use Rattle.intern.proofs.Growing.{cut_back}
 use Rattle.intern.proofs.back.Goals as goal
 
 pub returns : goal.returns
-returns c = let p = c.requires in cut_back p.0 p.1 p.2 c.drop_rows.ensures
+returns c = let p = c.requires in cut_back p.kept p.some p.within c.drop_rows.ensures

@@ -6,7 +6,7 @@ pub loop-i-init : goal.loop-i-init
 loop-i-init c = listing_start _ _ _ _ (count_is c.args.job.now c.args.a)
 
 pub argument-requires : goal.argument-requires
-argument-requires c = (c.requires.inside, omega (arith, c.loop-i-test.true, c.loop-i.invariant.most, count_is c.args.job.now c.args.a))
+argument-requires c = record { inside = c.requires.inside; below = omega (arith, c.loop-i-test.true, c.loop-i.invariant.most, count_is c.args.job.now c.args.a) }
 
 pub set_mark-requires : goal.set_mark-requires
 set_mark-requires c = listing_room c.loop-i-test.true c.loop-i.invariant c.requires.rooms c.argument.ensures

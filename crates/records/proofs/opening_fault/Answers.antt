@@ -1,27 +1,31 @@
 -- `opening_fault`: the place, the kind and the length of the record.
 use mathlib.Core.Path.{◌≡◌, sym, ◌∙◌}
 use native.Mathlib.Omega.{arith}
-use Rattle.theory.specs.Record.{kind_of}
 use Rattle.terms.specs.Framing.{record_at}
 use Rattle.terms.proofs.Reading.{stands, kind_there}
 use Rattle.records.proofs.StepTests.{opening_later, opening_other, opening_body, opening_none, body_length}
 use Rattle.records.proofs.opening_fault.Goals as goal
 
 pub returns-then-place-ne0 : goal.returns-then-place-ne0
-returns-then-place-ne0 c = let a = c.args in opening_later a.place (record_at a.job.now a.at) c.if-place-ne0.true
+returns-then-place-ne0 c = opening_later c.args.place (record_at c.args.job.now c.args.at) c.if-place-ne0.true
 
 pub overflow_add-at : goal.overflow_add-at
 overflow_add-at c = omega (arith, (stands c.args.job.now c.args.at c.requires).end)
 
-pub returns-then-number : goal.returns-then-number
-returns-then-number c = let a = c.args in
-    opening_other a.place (record_at a.job.now a.at) c.if-place-ne0.false (λ e. c.if-number.true (sym (let kind_is_here : let a = c.args in kind_of (record_at a.job.now a.at) ≡ c.number.result = kind_there (stands c.args.job.now c.args.at c.requires) c.number.ensures.value in kind_is_here) ∙ e))
+pub returns-then-number-from : goal.returns-then-number-from
+returns-then-number-from c =
+    opening_other c.args.place (record_at c.args.job.now c.args.at) c.if-place-ne0.false
+    (λ e. c.if-number-from.true (sym (kind_there (stands c.args.job.now c.args.at c.requires) c.number.ensures.value) ∙ e ∙ sym c.from.ensures))
 
 pub returns-then-number-ne-NUMBER_BYTES : goal.returns-then-number-ne-NUMBER_BYTES
-returns-then-number-ne-NUMBER_BYTES c = let low = (stands c.args.job.now c.args.at c.requires).low in
-    opening_body c.args.place (record_at c.args.job.now c.args.at) c.if-place-ne0.false ((let kind_is_here : let a = c.args in kind_of (record_at a.job.now a.at) ≡ c.number.result = kind_there (stands c.args.job.now c.args.at c.requires) c.number.ensures.value in kind_is_here) ∙ c.if-number.false)
+returns-then-number-ne-NUMBER_BYTES c =
+    let s = stands c.args.job.now c.args.at c.requires in
+    let low = s.low in
+    opening_body c.args.place (record_at c.args.job.now c.args.at) c.if-place-ne0.false (kind_there s c.number.ensures.value ∙ c.if-number-from.false ∙ c.from.ensures)
     (λ e. c.if-number-ne-NUMBER_BYTES.true (omega (arith, e, body_length c.args.job.now c.args.at c.number-2.result c.requires c.number-2.ensures.value, c.number-2.ensures.value)))
 
 pub returns : goal.returns
-returns c = opening_none c.args.place (record_at c.args.job.now c.args.at) c.if-place-ne0.false ((let kind_is_here : let a = c.args in kind_of (record_at a.job.now a.at) ≡ c.number.result = kind_there (stands c.args.job.now c.args.at c.requires) c.number.ensures.value in kind_is_here) ∙ c.if-number.false)
+returns c =
+    opening_none c.args.place (record_at c.args.job.now c.args.at) c.if-place-ne0.false
+    (kind_there (stands c.args.job.now c.args.at c.requires) c.number.ensures.value ∙ c.if-number-from.false ∙ c.from.ensures)
     (body_length c.args.job.now c.args.at _ c.requires c.number-2.ensures.value ∙ omega (arith, c.if-number-ne-NUMBER_BYTES.false))

@@ -1,42 +1,59 @@
 -- `take_record`: each arm is the record that was read.
-use mathlib.Core.Path.{refl}
+use mathlib.Core.Path.{refl, sym, ap, ◌∙◌}
 use native.Mathlib.Omega.{arith}
-use Rattle.terms.specs.declared.Item.TheVariants as I
+use Rattle.terms.specs.declared.Fault.TheVariants as F
 use Rattle.intern.specs.Interning.{limits_of}
-use Rattle.records.specs.Turning.{Reading}
-use Rattle.records.proofs.Turns.{reading, stopped, opened}
+use Rattle.records.specs.Turning.{code_in}
+use Rattle.records.proofs.Turns.{same_err, reading, told_none, stopped, stopped_by, opened}
 use Rattle.records.proofs.take_record.Goals as goal
 
 pub term_record-requires : goal.term_record-requires
-term_record-requires c = reading c.requires.0.store c.requires.1 c.read-item.ensures.says c.read-item.ensures.placed c.in-Term.is
+term_record-requires c = reading c.read.result c.requires.noted.store c.requires.stands c.read.ensures.says c.read.ensures.placed
+    (let f = c.in-Ok-Term.is in let g = c.in-Ok-Term.field-0-is in let h = c.in-Ok-Term.t-is in cc)
 
 pub step_record-requires : goal.step_record-requires
-step_record-requires c = (reading c.requires.0.store c.requires.1 c.read-item.ensures.says c.read-item.ensures.placed c.in-Step.is, c.requires.0.roomy)
+step_record-requires c = record {
+  reading = reading c.read.result c.requires.noted.store c.requires.stands c.read.ensures.says c.read.ensures.placed
+      (let f = c.in-Ok-Step.is in let g = c.in-Ok-Step.field-0-is in let h = c.in-Ok-Step.rule-is in let i = c.in-Ok-Step.literals-is in cc);
+  roomy = c.requires.noted.roomy;
+}
 
 pub chain_record-requires : goal.chain_record-requires
-chain_record-requires c = (reading c.requires.0.store c.requires.1 c.read-item.ensures.says c.read-item.ensures.placed c.in-Chain.is, c.requires.0)
+chain_record-requires c = record {
+  reading = reading c.read.result c.requires.noted.store c.requires.stands c.read.ensures.says c.read.ensures.placed
+      (let f = c.in-Ok-Chain.is in let g = c.in-Ok-Chain.field-0-is in let h = c.in-Ok-Chain.rule-is in let i = c.in-Ok-Chain.premises-is in let j = c.in-Ok-Chain.literal-is in cc);
+  noted = c.requires.noted;
+}
 
 pub back_record-requires : goal.back_record-requires
-back_record-requires c = reading c.requires.0.store c.requires.1 c.read-item.ensures.says c.read-item.ensures.placed c.in-Back.is
+back_record-requires c = reading c.read.result c.requires.noted.store c.requires.stands c.read.ensures.says c.read.ensures.placed
+    (let f = c.in-Ok-Back.is in let g = c.in-Ok-Back.field-0-is in let h = c.in-Ok-Back.count-is in cc)
 
-pub returns-in-Term : goal.returns-in-Term
-returns-in-Term c = c.term_record.ensures c.args.place c.args.answers.now
+pub returns-in-Ok-Term : goal.returns-in-Ok-Term
+returns-in-Ok-Term c = c.term_record.ensures c.args.place c.args.answers.now
 
-pub returns-in-Step : goal.returns-in-Step
-returns-in-Step c = let a = c.args in
-    c.step_record.ensures (limits_of a.limits) a.place
+pub returns-in-Ok-Step : goal.returns-in-Ok-Step
+returns-in-Ok-Step c = c.step_record.ensures (limits_of c.args.limits) c.args.place
 
-pub returns-in-Chain : goal.returns-in-Chain
-returns-in-Chain c = let a = c.args in
-    c.chain_record.ensures (limits_of a.limits) a.place
+pub returns-in-Ok-Chain : goal.returns-in-Ok-Chain
+returns-in-Ok-Chain c = c.chain_record.ensures (limits_of c.args.limits) c.args.place
 
-pub returns-in-Back : goal.returns-in-Back
-returns-in-Back c = c.back_record.ensures (limits_of c.args.limits) c.args.place c.args.answers.now
+pub returns-in-Ok-Back : goal.returns-in-Ok-Back
+returns-in-Ok-Back c = c.back_record.ensures (limits_of c.args.limits) c.args.place c.args.answers.now
 
-pub returns-in-Unknown : goal.returns-in-Unknown
-returns-in-Unknown c = let g : Reading c.args.job.now c.args.work.now c.args.rows c.args.at I.Unknown = reading c.requires.0.store c.requires.1 c.read-item.ensures.says c.read-item.ensures.placed c.in-Unknown.is in
-    opened (limits_of c.args.limits) c.args.place g c.args.answers.now c.args.answered _ c.opening_fault.ensures
+pub returns-in_err-opening_fault-in-Err-Unknown : goal.returns-in_err-opening_fault-in-Err-Unknown
+returns-in_err-opening_fault-in-Err-Unknown c = rw (same_err c.from_residual.result c.from_residual.ensures.1)
+    (stopped_by (limits_of c.args.limits) c.args.place
+    (told_none c.read.result F.Unknown c.requires.noted.store c.read.ensures.says (let f = c.in-Err-Unknown.is in let g = c.in-Err-Unknown.field-0-is in cc)) c.args.answers.now c.args.answered
+    c.opening_fault.ensures c.in_err-opening_fault-in-Err-Unknown.was)
 
-pub returns-in-Misfit : goal.returns-in-Misfit
-returns-in-Misfit c = let g : Reading c.args.job.now c.args.work.now c.args.rows c.args.at I.Misfit = reading c.requires.0.store c.requires.1 c.read-item.ensures.says c.read-item.ensures.placed c.in-Misfit.is in
-    stopped (limits_of c.args.limits) c.args.place g c.args.answers.now c.args.answered 5 (λ z. omega arith) refl
+pub returns-in_ok-opening_fault-in-Err-Unknown : goal.returns-in_ok-opening_fault-in-Err-Unknown
+returns-in_ok-opening_fault-in-Err-Unknown c =
+    opened (limits_of c.args.limits) c.args.place
+    (told_none c.read.result F.Unknown c.requires.noted.store c.read.ensures.says (let f = c.in-Err-Unknown.is in let g = c.in-Err-Unknown.field-0-is in cc)) c.args.answers.now c.args.answered
+    (sym (ap code_in c.in_ok-opening_fault-in-Err-Unknown.was) ∙ c.opening_fault.ensures)
+
+pub returns-in-Err-Misfit : goal.returns-in-Err-Misfit
+returns-in-Err-Misfit c =
+    stopped (limits_of c.args.limits) c.args.place
+    (told_none c.read.result F.Misfit c.requires.noted.store c.read.ensures.says (let f = c.in-Err-Misfit.is in let g = c.in-Err-Misfit.field-0-is in cc)) c.args.answers.now c.args.answered _ refl

@@ -14,10 +14,10 @@ pub loop-i-init : goal.loop-i-init
 loop-i-init c = record { rest = refl }
 
 pub operand-requires : goal.operand-requires
-operand-requires c = (c.requires.left_placed, omega (arith, c.loop-i-test.true, c.count.ensures, c.if-count-premises.false))
+operand-requires c = record { placed = c.requires.left_placed; below = omega (arith, c.loop-i-test.true, c.count.ensures, c.if-count-premises.false) }
 
 pub operand-requires-in-loop-i : goal.operand-requires-in-loop-i
-operand-requires-in-loop-i c = (c.requires.right_placed, omega (arith, c.loop-i-test.true, c.count-2.ensures, c.if-count-premises-2.false))
+operand-requires-in-loop-i c = record { placed = c.requires.right_placed; below = omega (arith, c.loop-i-test.true, c.count-2.ensures, c.if-count-premises-2.false) }
 
 pub shows-requires : goal.shows-requires
 shows-requires c = record {

@@ -1,9 +1,10 @@
 use borrow.Author.Rules.{rules}
-use Rattle.circuits.proofs.FillLaws.{map_turn, map_end}
+use Rattle.circuits.proofs.AppendLaws.{append_turn, append_end, map_next, map_none, drop_next}
 use Rattle.circuits.proofs.bits.nots.Goals as goal
 
-pub loop-i-preserved : goal.loop-i-preserved
-loop-i-preserved c = map_turn c.loop-i.invariant c.not1.ensures (search rules) (search rules)
+pub loop-bit-preserved : goal.loop-bit-preserved
+loop-bit-preserved c = let l = c.loop-bit in
+    append_turn l.invariant c.push.ensures.items (map_next _ c.as_slice-bit-items.result.now l.bit-index c.not1.ensures (search rules)) (drop_next c.as_slice-bit-items.result.now l.bit-index (search rules))
 
 pub returns : goal.returns
-returns c = map_end c.loop-i.invariant (search rules) (search rules)
+returns c = let l = c.loop-bit in append_end l.invariant (map_none _ c.as_slice-bit-items.result.now l.bit-index (search rules))

@@ -1,6 +1,7 @@
+use Rattle.std.specs.Prelude.{◌≡◌, length}
 use Rattle.store.specs.Lookup.{bit_gate}
-use Rattle.circuits.proofs.FillLaws.{Filling}
+use Rattle.theory.specs.Move.{bits}
 use Rattle.circuits.proofs.bits.select_bits.Given as goal
 
 abbrev pub invariant-loop-i : goal.invariant-loop-i
-invariant-loop-i l = Filling (λ k. bit_gate l.lookup k l.t) l.w l.out l.i
+invariant-loop-i l = (l.out.items ≡ bits l.i (λ k. bit_gate l.lookup k l.t)) × (length l.out.items ≡ l.i)

@@ -1,5 +1,11 @@
-use Rattle.circuits.proofs.FillLaws.{Zipping}
+use Rattle.std.specs.Iterator.Adapters.{zip_first, zip_second}
+use Rattle.std.specs.Prelude.{length}
+use Rattle.std.specs.Slice.Iter.{iter_rest}
+use Rattle.theory.specs.Circuit.{zip_with}
+use Rattle.circuits.proofs.AppendLaws.{Appending}
 use Rattle.circuits.proofs.bits.zips.Given as goal
 
-abbrev pub invariant-loop-i : goal.invariant-loop-i
-invariant-loop-i g l = Zipping (g.G.Gate.gate l.lookup) l.x l.y l.w l.out l.i
+abbrev pub invariant-loop-a : goal.invariant-loop-a
+invariant-loop-a g l = let xs = iter_rest (zip_first l.a-iterator) in let ys = iter_rest (zip_second l.a-iterator) in
+    let f = g.G.Gate.gate l.lookup in
+    Appending l.out.items (zip_with f xs ys) (zip_with f l.x.items l.y.items) (length xs)

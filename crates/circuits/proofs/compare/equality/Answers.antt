@@ -1,24 +1,13 @@
-use borrow.Author.Rules.{rules}
-use mathlib.Core.Path.{sym, ap, ◌∙◌}
-use lib.Seq.{length-take-le}
+use mathlib.Core.Path.{ap, ◌∙◌}
 use Rattle.theory.specs.Circuit.{gather}
-use Rattle.circuits.proofs.FillLaws.{take_short}
-use Rattle.circuits.proofs.CompareLaws.{gather_one, gather_many}
+use Rattle.circuits.proofs.CompareLaws.{gather_none, gather_one, gather_many}
 use Rattle.circuits.proofs.compare.equality.Goals as goal
 
-pub slice_bounds-all_of-end : goal.slice_bounds-all_of-end
-slice_bounds-all_of-end c = sym (length-take-le _ _ (search rules))
+pub returns-in-empty : goal.returns-in-empty
+returns-in-empty c = gather_none _ c.as_slice.result.now c.in-empty.len_below ∙ ap (gather _) (c.as_slice.ensures.value ∙ c.eqs-bits.ensures)
 
-pub all_of-requires : goal.all_of-requires
-all_of-requires c = let a = c.args in
-    take_short c.eqs-bits.result a.w (search rules) (search rules)
+pub returns-in-len1 : goal.returns-in-len1
+returns-in-len1 c = gather_one _ c.as_slice.result.now c.in-len1.len_at_least c.in-len1.len_below ∙ ap (gather _) (c.as_slice.ensures.value ∙ c.eqs-bits.ensures)
 
-pub returns-then-w-gt1 : goal.returns-then-w-gt1
-returns-then-w-gt1 c = let a = c.args in
-    let b = c.eqs-bits.result in
-    c.all_of.ensures ∙ gather_many _ b a.w (search rules) (search rules) ∙ ap (gather _) c.eqs-bits.ensures
-
-pub returns : goal.returns
-returns c = let a = c.args in
-    let b = c.eqs-bits.result in
-    gather_one _ b a.w (search rules) (search rules) (search rules) ∙ ap (gather _) c.eqs-bits.ensures
+pub returns-in_default : goal.returns-in_default
+returns-in_default c = c.all_of.ensures ∙ gather_many _ c.as_slice.result.now c.in_default.len_at_least ∙ ap (gather _) (c.as_slice.ensures.value ∙ c.eqs-bits.ensures)

@@ -1,12 +1,14 @@
-use borrow.Author.Rules.{rules}
-use Rattle.circuits.proofs.MultiplyLaws.{row_start, row_turn, row_end}
+use mathlib.Core.Path.{ap}
+use Rattle.std.specs.Prelude.{length}
+use Rattle.std.proofs.lemmas.Slice.Zip.{either_empty_from_Zip}
+use Rattle.circuits.proofs.AppendLaws.{append_turn, append_end}
+use Rattle.circuits.proofs.MultiplyLaws.{row_next, row_none}
 use Rattle.circuits.proofs.multiplier.add_row.Goals as goal
 
-pub loop-k-init : goal.loop-k-init
-loop-k-init c = row_start (search rules) (search rules) (search rules) (search rules)
-
-pub loop-k-preserved : goal.loop-k-preserved
-loop-k-preserved c = let a = c.full_adder-next.ensures in row_turn c.loop-k.invariant c.and2-product.ensures a.bit_value a.carry_value (search rules) (search rules) (search rules) (search rules) (search rules)
+pub loop-bit-preserved : goal.loop-bit-preserved
+loop-bit-preserved c = let h = c.in-Some.ensures.steps in
+    let a = c.full_adder-next.ensures in
+    append_turn c.loop-bit.invariant c.push.ensures.items (row_next _ _ h c.and2-product.ensures a.bit_value a.carry_value) (ap length h.1)
 
 pub returns : goal.returns
-returns c = row_end c.loop-k.invariant (search rules) (search rules) (search rules) (search rules)
+returns c = append_end c.loop-bit.invariant (row_none _ _ _ (either_empty_from_Zip c.loop-bit.bit-iterator c.next.new.self _ c.in-None.is c.next.ensures.steps))

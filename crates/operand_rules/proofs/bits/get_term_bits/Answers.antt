@@ -14,4 +14,4 @@ pub argument_bits-requires : goal.argument_bits-requires
 argument_bits-requires c = list_inside c.term_at.ensures _ (ap operands_of c.in-BvBbTerm.is)
 
 pub returns : goal.returns
-returns c = argued _ c.requires c.term_at.ensures c.in-BvBbTerm.is c.argument_bits.ensures
+returns c = argued c.requires c.term_at.ensures c.in-BvBbTerm.is c.argument_bits.ensures

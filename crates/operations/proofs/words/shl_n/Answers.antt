@@ -1,8 +1,11 @@
+use Rattle.std.proofs.Common.{◌<◌, ◌≤◌, arith}
 use Rattle.operations.proofs.WordLaws.{shl_is, shl_out}
 use Rattle.operations.proofs.words.shl_n.Goals as goal
 
-pub returns-then-y-n : goal.returns-then-y-n
-returns-then-y-n c = shl_is _ _ _ _ c.requires.most c.if-y-n.true c.low.ensures
+pub returns-then-y-from : goal.returns-then-y-from
+returns-then-y-from c = let below : c.args.y < c.args.n = omega (arith, c.from.ensures, c.if-y-from.true) in
+    shl_is _ _ _ _ c.requires.most below c.low.ensures
 
 pub returns : goal.returns
-returns c = shl_out _ _ _ c.if-y-n.false
+returns c = let past : c.args.n ≤ c.args.y = omega (arith, c.from.ensures, c.if-y-from.false) in
+    shl_out _ _ _ past

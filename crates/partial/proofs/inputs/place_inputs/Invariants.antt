@@ -1,12 +1,8 @@
-use Prim.Native.Nat.{◌+◌, ◌-◌, ◌≤◌}
-use lib.Dec.{T}
-use Rattle.marks.specs.Marks.{mark_of}
+use Prim.Native.Nat.{ℕ}
+use Rattle.marks.proofs.Walking.{Walking}
 use Rattle.partial.proofs.InputLaws.{Placing}
 use Rattle.partial.proofs.inputs.place_inputs.Given as goal
 
 abbrev pub invariant-loop-k : goal.invariant-loop-k
 invariant-loop-k l = let t = l.asked.terms in
-    Placing t.job.now t.work.now t.rows l.asked.place l.initial.values l.values l.at l.k × (l.k ≤ l.asked.place → T (mark_of t.job.now t.work.now l.k))
-
-abbrev pub decreases-loop-k : goal.decreases-loop-k
-decreases-loop-k l = l.asked.place + 1 - l.k
+    Walking l.asked (λ (k : ℕ). Placing t.job.now t.work.now t.rows l.asked.place l.initial.values l.values l.at k) l.k-iterator

@@ -10,4 +10,4 @@ abbrev pub decreases-read_term : goal.decreases-read_term
 decreases-read_term l = l.nesting + l.nesting
 
 abbrev pub invariant-read_arguments-loop-count : goal.invariant-read_arguments-loop-count
-invariant-read_arguments-loop-count l = Going l.line l.initial.out l.out l.initial.work l.work l.initial.spot (declared_in l.declarations) l.nesting l.at l.numbers l.count l.next l.spot
+invariant-read_arguments-loop-count l = Going l.line l.initial.out l.out l.initial.work l.work l.initial.spot (declared_in l.declarations) l.nesting l.numbers l.count l.rest l.spot

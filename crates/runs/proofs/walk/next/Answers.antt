@@ -1,37 +1,49 @@
 -- `next`: a frame that is not whole is code 3, and a whole one has the record's size.
-use mathlib.Core.Path.{refl, sym, ◌∙◌}
+use mathlib.Core.Path.{refl, sym, ap, ◌∙◌}
+use Prim.Native.Nat.{ℕ, ◌+◌}
 use native.Mathlib.Omega.{arith}
 use lib.ListN.{drop}
-use Rattle.theory.specs.Record.{extent}
+use Rattle.std.specs.Prelude.{Ok}
 use Rattle.terms.proofs.Reading.{broken_learnt, whole_learnt, stands}
-use Rattle.runs.specs.Walking.{broken, taken}
-use Rattle.runs.proofs.Walks.{turn_repeats, moved_on, moved_not}
+use Rattle.intern.specs.Interning.{limits_of}
+use Rattle.records.proofs.Turns.{same_err}
+use Rattle.runs.specs.Walking.{state, broken, taken, stopped}
+use Rattle.runs.proofs.Walks.{turn_repeats, turned_as}
 use Rattle.runs.proofs.walk.next.Goals as goal
 
 pub returns-in_default : goal.returns-in_default
 returns-in_default c = broken (broken_learnt (drop c.args.s.at c.args.job.now) (sym c.in_default.is ∙ c.frame.ensures)) refl refl refl
 
-pub take_record-t-requires : goal.take_record-t-requires
-take_record-t-requires c = (c.requires.noted, (whole_learnt (drop c.args.s.at c.args.job.now) (sym c.in-Some.is ∙ c.frame.ensures)).0)
+pub take_record-requires : goal.take_record-requires
+take_record-requires c = record { noted = c.requires.noted; stands = (whole_learnt (drop c.args.s.at c.args.job.now) (sym c.in-Some.is ∙ c.frame.ensures)).0 }
 
-pub returns-then-t-ne0 : goal.returns-then-t-ne0
-returns-then-t-ne0 c = let bs = drop c.args.s.at c.args.job.now in
-    taken (whole_learnt bs (sym c.in-Some.is ∙ c.frame.ensures)).0 c.take_record-t.result c.take_record-t.ensures
-    (moved_not (extent bs) c.args.s c.take_record-t.result c.if-t-ne0.true)
+pub returns-in_err-t : goal.returns-in_err-t
+returns-in_err-t c =
+    stopped (whole_learnt (drop c.args.s.at c.args.job.now) (sym c.in-Some.is ∙ c.frame.ensures)).0 _
+    (turned_as (limits_of c.args.limits) c.args.job.now c.args.work.now c.args.answers.now c.take_record.new.work c.take_record.new.answers c.args.s c.in_err-t.was c.take_record.ensures)
+    (same_err c.from_residual.result c.from_residual.ensures.1)
 
 pub overflow_add-result : goal.overflow_add-result
-overflow_add-result c = let e = whole_learnt (drop c.args.s.at c.args.job.now) (sym c.in-Some.is ∙ c.frame.ensures) in
+overflow_add-result c =
+    let e = whole_learnt (drop c.args.s.at c.args.job.now) (sym c.in-Some.is ∙ c.frame.ensures) in
     omega (arith, e.1, (stands c.args.job.now c.args.s.at e.0).end)
 
 pub overflow_add-result-2 : goal.overflow_add-result-2
-overflow_add-result-2 c = let e = whole_learnt (drop c.args.s.at c.args.job.now) (sym c.in-Some.is ∙ c.frame.ensures) in
+overflow_add-result-2 c =
+    let e = whole_learnt (drop c.args.s.at c.args.job.now) (sym c.in-Some.is ∙ c.frame.ensures) in
     omega (arith, c.requires.counted, (stands c.args.job.now c.args.s.at e.0).end)
 
 pub overflow_add-result-3 : goal.overflow_add-result-3
-overflow_add-result-3 c = let e = whole_learnt (drop c.args.s.at c.args.job.now) (sym c.in-Some.is ∙ c.frame.ensures) in
-    omega (arith, c.requires.counted, c.requires.repeated, turn_repeats c.take_record-t.ensures, (stands c.args.job.now c.args.s.at e.0).end)
+overflow_add-result-3 c =
+    let e = whole_learnt (drop c.args.s.at c.args.job.now) (sym c.in-Some.is ∙ c.frame.ensures) in
+    let few = turn_repeats (turned_as (limits_of c.args.limits) c.args.job.now c.args.work.now c.args.answers.now c.take_record.new.work c.take_record.new.answers c.args.s c.in_ok-t.was c.take_record.ensures) in
+    omega (arith, few, c.requires.counted, c.requires.repeated, (stands c.args.job.now c.args.s.at e.0).end)
 
 pub returns : goal.returns
-returns c = let bs = drop c.args.s.at c.args.job.now in
-    let e = whole_learnt bs (sym c.in-Some.is ∙ c.frame.ensures) in
-    taken e.0 c.take_record-t.result c.take_record-t.ensures (moved_on (extent bs) c.args.s c.take_record-t.result c.if-t-ne0.false e.1)
+returns c =
+    let s = c.args.s in
+    let t = c.in_ok-t.t in
+    let e = whole_learnt (drop s.at c.args.job.now) (sym c.in-Some.is ∙ c.frame.ensures) in
+    taken e.0 t
+    (turned_as (limits_of c.args.limits) c.args.job.now c.args.work.now c.args.answers.now c.take_record.new.work c.take_record.new.answers s c.in_ok-t.was c.take_record.ensures)
+    (ap (λ (m : ℕ). Ok (state (s.at + m) s.stop (s.records + 1) t.answers t.rows (s.repeats + t.repeats))) e.1)

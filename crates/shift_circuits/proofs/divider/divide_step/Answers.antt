@@ -1,13 +1,27 @@
-use borrow.Author.Rules.{rules}
-use Prim.Native.Nat.{◌≤◌}
-use lib.ListN.{length}
-use Rattle.shift_circuits.proofs.DivideLaws.{first, stepped}
+use mathlib.Core.List.{List}
+use mathlib.Core.Path.{ap, ◌∙◌}
+use Prim.Native.Nat.{ℕ}
+use lib.ListN.{get_or}
+use native.Mathlib.Omega.{arith}
+use Rattle.store.specs.Lookup.{gates}
+use Rattle.theory.specs.Circuit.{next_remainder}
+use Rattle.circuits.proofs.AppendLaws.{with_left, zip_shorter}
+use Rattle.shift_circuits.proofs.DivideLaws.{remainder_fits, stepped}
 use Rattle.shift_circuits.proofs.divider.divide_step.Goals as goal
 
-pub returns : goal.returns
-returns c = let a = c.args in
-    let p = c.requires in
-    stepped _ _ _ _ _ _ _ c.next_remainder-r1.result c.shift_left-q1.result a.w c.no_carry-sign.result c.ite3-low.result
-    (first a.x a.w p.some (let long_here : c.args.w ≤ length c.args.x = search rules in long_here)) c.next_remainder-r1.ensures c.no_carry-sign.ensures c.ite3-low.ensures
-    c.shift_left-q1.ensures c.reduced-less.ensures c.ites-r2.ensures c.no_carry-below.ensures c.ites-quot.ensures c.ites-rem.ensures
-    (let long_q_here : c.args.w ≤ length c.shift_left-q1.result = search rules in long_q_here) p.within
+pub no_carry-sign-requires : goal.no_carry-sign-requires
+no_carry-sign-requires c = let a = c.requires in
+    record { beside = remainder_fits _ _ _ _ c.next_remainder-r1.ensures (omega (arith, a.smaller, a.beside)) (omega (arith, a.some, a.beside)) }
+
+pub reduced-less-requires : goal.reduced-less-requires
+reduced-less-requires c = let a = c.requires in
+    record { beside = remainder_fits _ _ _ _ c.next_remainder-r1.ensures (omega (arith, a.smaller, a.beside)) (omega (arith, a.some, a.beside)) }
+
+pub returns-clause-value : goal.returns-clause-value
+returns-clause-value c =
+    stepped _ _ _ _ _ _ c.requires.some (c.next_remainder-r1.ensures ∙ ap (λ (l : List ℕ). next_remainder (gates c.args.lookup.now) (get_or l 0 0) c.args.half.now.rem.items) c.deref.ensures.0) c.no_carry-sign.ensures c.ite3-low.ensures
+    c.shift_left-q1.ensures c.reduced-less.ensures c.ites-r2.ensures c.no_carry-below.ensures
+    (with_left _ _ _ c.ites-quot.ensures c.same_bits-falses.ensures c.len.ensures.value) c.ites-rem.ensures
+
+pub returns-clause-smaller : goal.returns-clause-smaller
+returns-clause-smaller c = rw c.ites-rem.ensures (zip_shorter _ c.args.x.now.items _)

@@ -1,8 +1,7 @@
-use borrow.Author.Rules.{rules}
+use mathlib.Core.Path.{ap, ◌∙◌}
 use Rattle.store.specs.Lookup.{gates}
-use Rattle.shift_circuits.proofs.DivideLaws.{zero_by}
+use Rattle.circuits.proofs.AppendLaws.{with_right}
 use Rattle.shift_circuits.proofs.divider.is_zero.Goals as goal
 
 pub returns : goal.returns
-returns c = let a = c.args in
-    zero_by (gates a.lookup.now) a.y c.eqs-bits.result a.w c.all_of.ensures c.eqs-bits.ensures (search rules) (search rules)
+returns c = c.all_of.ensures ∙ ap (gates c.args.lookup.now).all_gate (c.as_slice.ensures.value ∙ with_right _ _ _ c.eqs-bits.ensures c.same_bits-falses.ensures c.len.ensures.value)

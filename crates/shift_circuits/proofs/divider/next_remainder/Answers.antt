@@ -1,9 +1,8 @@
-use borrow.Author.Rules.{rules}
-use lib.ListN.{take}
-use Rattle.store.specs.Lookup.{gates}
-use Rattle.shift_circuits.proofs.DivideLaws.{remainder}
+use mathlib.Core.Path.{refl, ◌∙◌}
+use Rattle.circuits.proofs.AppendLaws.{filled}
 use Rattle.shift_circuits.proofs.divider.next_remainder.Goals as goal
 
 pub returns : goal.returns
-returns c = let a = c.args in
-    remainder (gates a.lookup.now) a.low (take a.w a.r) c.shift_left-shifted.result a.w c.shift_left-shifted.ensures (cc) c.ripple_carry_adder-sum.ensures.bits_value (search rules) (search rules)
+returns c =
+    c.ripple_carry_adder-sum.ensures.bits_value
+    ∙ rw (filled _ _ c.same_bits-falses.ensures c.len.ensures.value, c.shift_left-shifted.ensures, c.ite3-one_if_odd.ensures, c.eq2.ensures) refl

@@ -1,7 +1,7 @@
-use borrow.Author.Rules.{rules}
-use lib.ListN.{take}
-use Rattle.shift_circuits.proofs.DivideLaws.{all_true}
+use mathlib.Core.Path.{◌∙◌, sym}
+use Rattle.circuits.proofs.AppendLaws.{filled}
+use Rattle.theory.proofs.Indexed.{cond_false}
 use Rattle.shift_circuits.proofs.divider.reduced.Goals as goal
 
 pub returns : goal.returns
-returns c = let a = c.args in all_true _ a.standard a.r (take a.w a.y) a.w c.if-standard.false (search rules) (search rules)
+returns c = filled _ _ c.same_bits.ensures c.len.ensures.value ∙ sym (cond_false _ _ c.if-standard.false)

@@ -1,12 +1,9 @@
-use borrow.Author.Rules.{rules}
-use mathlib.Core.Path.{◌≡◌, refl}
-use Prim.Native.Nat.{◌≤◌}
-use lib.ListN.{length, take}
-use lib.Seq.{length-take-le}
+use mathlib.Core.Path.{refl}
+use Rattle.circuits.proofs.AppendLaws.{with_left}
 use Rattle.shift_circuits.proofs.DivideLaws.{quotient}
 use Rattle.shift_circuits.proofs.divider.udiv.Goals as goal
 
 pub returns : goal.returns
-returns c = let a = c.args in
-    quotient _ _ _ (take a.w a.y) (take a.w a.x) a.w c.bitblast_udiv_urem_rec-d.result.quot c.bitblast_udiv_urem_rec-d.ensures refl c.is_zero-zero.ensures c.ites.ensures
-    (length-take-le a.w a.x (let long_here : c.args.w ≤ length c.args.x = search rules in long_here)) (rw (let long_q_here : length c.bitblast_udiv_urem_rec-d.result.quot ≡ 64 = search rules in long_q_here) (search rules)) (search rules)
+returns c =
+    quotient _ _ _ _ c.args.x.now.items c.bitblast_udiv_urem_rec-d.ensures.value c.len.ensures.value refl c.is_zero-zero.ensures
+    (with_left _ _ _ c.ites.ensures c.same_bits-trues.ensures c.len-2.ensures.value)

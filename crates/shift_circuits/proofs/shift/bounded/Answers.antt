@@ -1,7 +1,6 @@
-use borrow.Author.Rules.{rules}
-use Rattle.shift_circuits.proofs.ShiftLaws.{within}
+use mathlib.Core.Path.{refl, ◌∙◌}
+use Rattle.circuits.proofs.AppendLaws.{with_right}
 use Rattle.shift_circuits.proofs.shift.bounded.Goals as goal
 
 pub returns : goal.returns
-returns c = let a = c.args in
-    within _ _ _ a.p a.w a.beyond c.bitblast_ult-below.ensures c.ites.ensures (search rules) (search rules)
+returns c = with_right _ _ _ c.ites.ensures c.same_bits-others.ensures c.len.ensures.value ∙ rw (c.bitblast_ult-below.ensures, c.deref.ensures.0, c.deref-2.ensures.0) refl

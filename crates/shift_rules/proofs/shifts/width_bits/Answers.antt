@@ -1,5 +1,13 @@
+use borrow.Author.Rules.{rules}
+use mathlib.Core.Path.{ap, ◌∙◌}
+use mathlib.Core.List.{map}
+use Prim.Native.Nat.{ℕ}
+use Rattle.store.specs.Kept.{kept_number}
+use Rattle.operand_rules.specs.Rules.{width_bits}
 use Rattle.operand_rules.proofs.Sorts.{width_numbers}
 use Rattle.shift_rules.proofs.shifts.width_bits.Goals as goal
 
 pub returns : goal.returns
-returns c = width_numbers c.args.kept.now c.args.w c.requires.some c.requires.within c.constant-size.ensures c.select_bits.ensures
+returns c =
+    width_numbers c.args.kept.now c.len-w.result (search rules) c.len-w.ensures.fits c.constant-size.ensures c.select_bits.ensures
+    ∙ ap (λ (n : ℕ). map (kept_number c.args.kept.now) (width_bits n)) c.len-w.ensures.value

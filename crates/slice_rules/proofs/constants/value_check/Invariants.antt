@@ -4,6 +4,3 @@ use Rattle.slice_rules.proofs.constants.value_check.Given as goal
 
 abbrev pub invariant-loop-i : goal.invariant-loop-i
 invariant-loop-i l = Summing (words_in l.job l.list) l.sum l.i
-
-abbrev pub decreases-loop-i : goal.decreases-loop-i
-decreases-loop-i l = l.i

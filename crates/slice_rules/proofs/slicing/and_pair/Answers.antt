@@ -12,10 +12,10 @@ pub returns-then-list-ne2 : goal.returns-then-list-ne2
 returns-then-list-ne2 c = not_two c.args.kept.now c.term_at.ensures (ap op_of c.in-BvAnd.is) (ap operands_of c.in-BvAnd.is) c.if-list-ne2.true
 
 pub argument-x-requires : goal.argument-x-requires
-argument-x-requires c = (list_inside c.term_at.ensures _ (ap operands_of c.in-BvAnd.is), search rules)
+argument-x-requires c = record { inside = list_inside c.term_at.ensures _ (ap operands_of c.in-BvAnd.is); below = search rules }
 
 pub argument-y-requires : goal.argument-y-requires
-argument-y-requires c = (list_inside c.term_at.ensures _ (ap operands_of c.in-BvAnd.is), search rules)
+argument-y-requires c = record { inside = list_inside c.term_at.ensures _ (ap operands_of c.in-BvAnd.is); below = search rules }
 
 pub returns : goal.returns
 returns c = and_two c.args.kept.now c.term_at.ensures c.requires (ap op_of c.in-BvAnd.is) (ap operands_of c.in-BvAnd.is) c.if-list-ne2.false

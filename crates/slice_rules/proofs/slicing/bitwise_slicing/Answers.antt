@@ -29,12 +29,12 @@ unfolding on_sides
 returns-in_default-term_at c = let a = c.args in
     let claim = kept_term a.kept.now c.in-Equals.r in
     no_case c.term_at-2.ensures 29 c.in_default-term_at.in_default-term_at-own.keys2 tt _
-    ∙ pair_form c.and_pair.ensures c.in-Two.is (λ u v. form (args_of (kind BvConcat) claim) (slices_verdict u v (sort_width (sort_of v))))
+    ∙ pair_form c.and_pair.ensures c.in-Some.is (λ u v. form (args_of (kind BvConcat) claim) (slices_verdict u v (sort_width (sort_of v))))
     ∙ sides c.term_at.ensures by_bitwise_slicing c.in-Equals.is
 
 pub slices_check-requires : goal.slices_check-requires
 slices_check-requires c = let below = right_below c.term_at.ensures _ _ _ (ap operands_of c.in-Equals.is) c.requires in
-    record { arguments = list_given c.args.kept.now c.term_at-2.ensures below _ (ap operands_of c.in-BvConcat.is); left = (pair_kept c.and_pair.ensures c.in-Two.is).0; right = (pair_kept c.and_pair.ensures c.in-Two.is).1 }
+    record { arguments = list_given c.args.kept.now c.term_at-2.ensures below _ (ap operands_of c.in-BvConcat.is); left = (pair_kept c.and_pair.ensures c.in-Some.is).0; right = (pair_kept c.and_pair.ensures c.in-Some.is).1 }
 
 pub returns : goal.returns
 unfolding on_sides
@@ -42,5 +42,5 @@ returns c = let a = c.args in
     let claim = kept_term a.kept.now c.in-Equals.r in
     c.slices_check.ensures
     ∙ sym (args_form c.term_at-2.ensures BvConcat (Listed _) (ap op_of c.in-BvConcat.is) (ap operands_of c.in-BvConcat.is) _)
-    ∙ pair_form c.and_pair.ensures c.in-Two.is (λ u v. form (args_of (kind BvConcat) claim) (slices_verdict u v (sort_width (sort_of v))))
+    ∙ pair_form c.and_pair.ensures c.in-Some.is (λ u v. form (args_of (kind BvConcat) claim) (slices_verdict u v (sort_width (sort_of v))))
     ∙ sides c.term_at.ensures by_bitwise_slicing c.in-Equals.is

@@ -4,5 +4,5 @@ use Rattle.steps.proofs.Writing.{four}
 use Rattle.steps.proofs.answers.put_answer.Goals as goal
 
 pub returns : goal.returns
-returns c = four c.args.bytes c.args.d.now _ _ _ _ c.args.k c.args.place (given c.args.rule c.args.reply) c.requires.1
+returns c = four c.args.bytes c.args.d.now _ _ _ _ c.args.k c.args.place (given c.args.rule c.args.reply) c.requires.room
     c.put_number.ensures c.put_number-2.ensures c.put_number-3.ensures c.put_number-4.ensures

@@ -11,8 +11,7 @@ returns-then-s-lt-BODY_AT c = let a = c.args in record { value = hash_short a.m 
 
 pub loop-k-init : goal.loop-k-init
 loop-k-init c = let a = c.args in
-    let w = c.wide-h.ensures in
-    (omega (arith, w.below), hash_start a.m a.s.now (omega (arith, c.if-s-lt-BODY_AT.false)) w.value)
+    (omega (arith, c.from-h.ensures, (c.type_inv.s 2).fits), hash_start a.m a.s.now (omega (arith, c.if-s-lt-BODY_AT.false)) c.from-h.ensures)
 
 pub number_of-requires : goal.number_of-requires
 number_of-requires c = let t = c.loop-k-test.true in record { inside = omega arith; short = omega arith }

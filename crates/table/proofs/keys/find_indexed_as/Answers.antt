@@ -1,34 +1,19 @@
 -- `find_indexed_as`: the array has the record's head, the index and the argument.
-use mathlib.Core.Path.{subst, ◌∙◌}
-use mathlib.Core.Path.{◌≡◌}
+use mathlib.Core.Path.{◌≡◌, sym, ap, subst, ◌∙◌}
+use Rattle.table.specs.Buckets.{unless_missing}
+use Rattle.table.proofs.BucketLaws.{told_none}
 use Prim.Native.Nat.{ℕ, ◌+◌, ◌-◌, ◌<◌, ◌≤◌}
 use native.Mathlib.Omega.{arith}
-use borrow.Author.Rules.{rules}
 use Rattle.rows.proofs.RowLaws.{link_back}
 use Rattle.table.proofs.KeyLaws.{indexed_end, indexed_none, written_more, written_start}
 use Rattle.table.proofs.keys.find_indexed_as.Goals as goal
 
-pub last_number-requires : goal.last_number-requires
-last_number-requires g c = link_back c.requires.kept.rows.link_length
-
 pub returns-then-last_number-x : goal.returns-then-last_number-x
-returns-then-last_number-x g c = indexed_none g.row.B c.args.a _ _ (subst (λ (m : ℕ). m ≤ c.args.a) c.last_number.ensures c.if-last_number-x.true) _
-
-pub overflow_add-at : goal.overflow_add-at
-overflow_add-at g c = let l = (link_back c.requires.kept.rows.link_length).few_bytes in omega arith
-
-pub overflow_add-end : goal.overflow_add-end
-overflow_add-end g c = let l = (link_back c.requires.kept.rows.link_length).few_bytes in omega arith
-
-pub put_number_of-requires-4 : goal.put_number_of-requires-4
-put_number_of-requires-4 g c = let l = (link_back c.requires.kept.rows.link_length).few_bytes in search rules
-
-pub find_key-requires : goal.find_key-requires
-find_key-requires g c = record { kept = c.requires.kept; linked = c.requires.linked; short = let l = (link_back c.requires.kept.rows.link_length).few_bytes in omega arith }
+returns-then-last_number-x g c = told_none (sym (indexed_none g.row.B c.args.a _ _ (subst (λ (m : ℕ). m ≤ c.args.a) c.last_number.ensures c.if-last_number-x.true) _))
 
 pub returns : goal.returns
 returns g c = let l = (link_back c.requires.kept.rows.link_length).few_bytes in
     c.find_key.ensures
-    ∙ indexed_end g.row.B c.args.a _ _ _ _ (subst (λ (m : ℕ). c.args.a < m) c.last_number.ensures c.if-last_number-x.false) (let e : 4 + 2 + g.row.B ≡ 6 + g.row.B = omega arith in e)
+    ∙ ap unless_missing (indexed_end g.row.B c.args.a _ _ _ _ (subst (λ (m : ℕ). c.args.a < m) c.last_number.ensures c.if-last_number-x.false) (let e : 4 + 2 + g.row.B ≡ 6 + g.row.B = omega arith in e)
     (let e : 4 + 2 + g.row.B - 2 ≡ 4 + g.row.B = omega arith in e)
-    (written_more (written_more (written_more (written_more written_start 2 _ (omega arith) c.put_number_of.ensures) 2 _ (omega arith) c.put_number_of-2.ensures) 2 _ (omega arith) c.put_number_of-3.ensures) g.row.B _ (omega arith) c.put_number_of-4.ensures) _
+    (written_more (written_more (written_more (written_more written_start 2 _ (omega arith) c.put_number_of.ensures) 2 _ (omega arith) c.put_number_of-2.ensures) 2 _ (omega arith) c.put_number_of-3.ensures) g.row.B _ (omega arith) c.put_number_of-4.ensures) _)

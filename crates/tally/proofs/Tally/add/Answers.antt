@@ -5,4 +5,4 @@ use Rattle.tally.proofs.Tally.add.Goals as goal
 
 pub returns : goal.returns
 unfolding tally_after
-returns c = rw (c.up-self.ensures, c.add_class-self.ensures, c.add_class-self-2.ensures, c.add_class-self-3.ensures) refl
+returns c = rw (c.saturating_add-self.ensures, c.add_class-self.ensures, c.add_class-self-2.ensures, c.add_class-self-3.ensures) refl

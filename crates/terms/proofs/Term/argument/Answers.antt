@@ -14,21 +14,21 @@ there job list i h e f = argument_is job list i h (f ∙ ap (λ (m : ℕ). littl
 
 pub returns-then-bytes-eq1 : goal.returns-then-bytes-eq1
 returns-then-bytes-eq1 c = let a = c.args in
-    there a.job.now a.list a.i c.requires.1 c.if-bytes-eq1.true (one_byte a.job.now (a.list.at + a.list.bytes * a.i) c.from-one.ensures)
+    there a.job.now a.list a.i c.requires.below c.if-bytes-eq1.true (one_byte a.job.now (a.list.at + a.list.bytes * a.i) c.from-one.ensures)
 
 pub returns-then-bytes-eq2 : goal.returns-then-bytes-eq2
 returns-then-bytes-eq2 c = let a = c.args in
-    there a.job.now a.list a.i c.requires.1 c.if-bytes-eq2.true
+    there a.job.now a.list a.i c.requires.below c.if-bytes-eq2.true
     (two_bytes a.job.now (a.list.at + a.list.bytes * a.i) c.from-one.ensures c.from.ensures)
 
 pub returns-then-bytes-eq3 : goal.returns-then-bytes-eq3
 returns-then-bytes-eq3 c = let a = c.args in
-    there a.job.now a.list a.i c.requires.1 c.if-bytes-eq3.true
+    there a.job.now a.list a.i c.requires.below c.if-bytes-eq3.true
     (three_bytes a.job.now (a.list.at + a.list.bytes * a.i) c.from-one.ensures c.from.ensures c.from-2.ensures)
 
 pub returns : goal.returns
 returns c = let a = c.args in
-    let few = c.requires.0.sized.few_bytes in
-    let some = c.requires.0.sized.some_bytes in
-    there a.job.now a.list a.i {n = 4} c.requires.1 (omega arith)
+    let few = c.requires.inside.sized.few_bytes in
+    let some = c.requires.inside.sized.some_bytes in
+    there a.job.now a.list a.i {n = 4} c.requires.below (omega arith)
     (four_bytes a.job.now (a.list.at + a.list.bytes * a.i) c.from-one.ensures c.from.ensures c.from-2.ensures c.from-3.ensures)

@@ -7,7 +7,7 @@ pub overflow_mul-x : goal.overflow_mul-x
 overflow_mul-x c = omega (arith, sum_small c.loop-i.invariant c.requires c.loop-i-test.true)
 
 pub overflow_add-x : goal.overflow_add-x
-overflow_add-x c = omega (arith, sum_small c.loop-i.invariant c.requires c.loop-i-test.true, c.byte.ensures.1)
+overflow_add-x c = omega (arith, sum_small c.loop-i.invariant c.requires c.loop-i-test.true, c.byte.ensures.bound)
 
 pub loop-i-preserved : goal.loop-i-preserved
-loop-i-preserved c = sum_turn c.loop-i.invariant c.loop-i-test.true c.byte.ensures.0 c.byte.ensures.1
+loop-i-preserved c = sum_turn c.loop-i.invariant c.loop-i-test.true c.byte.ensures.value c.byte.ensures.bound

@@ -12,7 +12,7 @@ returns-then-bytes-eq-NUMBER_BYTES c = let a = c.args in
     subst (λ (m : ℕ). c.number.result ≡ little_endian (take m (drop a.at a.s.now))) (sym c.if-bytes-eq-NUMBER_BYTES.true) c.number.ensures.value
 
 pub overflow_cast-result : goal.overflow_cast-result
-overflow_cast-result c = omega (arith, place_small _ _ c.requires c.bytes.ensures.1)
+overflow_cast-result c = omega (arith, place_small _ _ c.requires c.bytes.ensures.bound)
 
 pub returns : goal.returns
-returns c = c.bytes.ensures.0
+returns c = c.bytes.ensures.value

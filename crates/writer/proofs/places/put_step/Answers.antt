@@ -14,6 +14,6 @@ returns-then-out-done-lt-STEP_BYTES c = step_full c.requires c.args.rule c.args.
 pub returns : goal.returns
 returns c =
     let number = two_bytes _ c.try_from.ensures c.ok.ensures.value c.in_ok-number.was in
-    let last = c.put_number-4.ensures ∙ ap (λ n. sets c.put_number-3.new.s (c.args.spot.done + 6) (word_bytes n)) number.1 in
+    let last = c.put_number_of-4.ensures ∙ ap (λ n. sets c.put_number_of-3.new.s (c.args.spot.done + 6) (word_bytes n)) (c.from.ensures ∙ number.1) in
     step_put c.requires c.args.rule c.args.literal number.0 c.if-out-done-lt-STEP_BYTES.false
-    (step_row c.args.out.now c.args.spot.done c.args.rule c.args.literal c.put_number.ensures c.put_number-2.ensures c.put_number-3.ensures last)
+    (step_row c.args.out.now c.args.spot.done c.args.rule c.args.literal c.put_number_of.ensures c.put_number_of-2.ensures c.put_number_of-3.ensures last)

@@ -10,10 +10,10 @@ pub returns-then-self-k : goal.returns-then-self-k
 returns-then-self-k c = premise_beyond _ _ _ _ _ c.if-number-eq0.false c.if-self-k.true
 
 pub code_at-requires : goal.code_at-requires
-code_at-requires c = answer_lies c.args.self.now _ c.number_length-bytes.ensures c.if-self-k.false
+code_at-requires c = let a = answer_lies c.args.self.now _ c.number_length-bytes.ensures c.if-self-k.false in record { sized = a.0; there = a.1 }
 
 pub place_at-at-requires : goal.place_at-at-requires
-place_at-at-requires c = answer_lies c.args.self.now _ c.number_length-bytes.ensures c.if-self-k.false
+place_at-at-requires c = let a = answer_lies c.args.self.now _ c.number_length-bytes.ensures c.if-self-k.false in record { sized = a.0; there = a.1 }
 
 pub returns-then-code_at-ne0 : goal.returns-then-code_at-ne0
 returns-then-code_at-ne0 c =

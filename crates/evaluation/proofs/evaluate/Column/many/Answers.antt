@@ -3,7 +3,7 @@ use Rattle.evaluation.proofs.ListLaws.{arg_low, folding_ready, folding_turn, sta
 use Rattle.evaluation.proofs.evaluate.Column.many.Goals as goal
 
 pub argument-first-requires : goal.argument-first-requires
-argument-first-requires c = (c.requires.inside, count_some c.args.op _ c.requires)
+argument-first-requires c = record { inside = c.requires.inside; below = count_some c.args.op _ c.requires }
 
 pub width_on-requires : goal.width_on-requires
 width_on-requires c = arg_low c.args.op _ c.requires.given 0 _ _ _ (count_first c.args.op _ c.requires) c.argument-first.ensures refl refl
@@ -15,7 +15,7 @@ pub loop-i-init : goal.loop-i-init
 loop-i-init c = folding_start c.args.op _ c.requires.given _ _ _ c.argument-first.ensures c.width_on.ensures c.number.ensures _ c.start-acc.ensures
 
 pub argument-k-requires : goal.argument-k-requires
-argument-k-requires c = (c.requires.inside, c.loop-i-test.true)
+argument-k-requires c = record { inside = c.requires.inside; below = c.loop-i-test.true }
 
 pub width_on-requires-in-loop-i : goal.width_on-requires-in-loop-i
 width_on-requires-in-loop-i c = arg_low c.args.op _ c.requires.given _ _ _ _ (count_in c.args.op _ c.requires c.loop-i-test.true) c.argument-k.ensures refl refl

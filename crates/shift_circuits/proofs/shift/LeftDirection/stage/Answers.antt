@@ -1,13 +1,10 @@
 use borrow.Author.Rules.{rules}
-use Rattle.shift_circuits.proofs.shift.LeftDirection.stage.Goals.{then-i-thresh, else-i-thresh}
-use Rattle.shift_circuits.proofs.ShiftLaws.{shl_low, shl_high, shl_end}
+use mathlib.Core.Path.{◌≡◌, refl, ◌∙◌}
+use Prim.Native.Nat.{◌^◌, min}
+use Rattle.shift_circuits.proofs.ShiftLaws.{left_stage}
 use Rattle.shift_circuits.proofs.shift.LeftDirection.stage.Goals as goal
 
-pub loop-i-preserved : goal.loop-i-preserved
-loop-i-preserved c = elim c.if-i-thresh.branch [
-  | then-i-thresh w ↦ shl_low c.loop-i.invariant c.ite3.ensures w.from-is w.if-i-thresh.true (search rules) (search rules) (search rules)
-  | else-i-thresh w ↦ shl_high c.loop-i.invariant c.ite3.ensures w.from-is w.if-i-thresh.false (search rules) (search rules) (search rules)
-]
-
 pub returns : goal.returns
-returns c = shl_end c.loop-i.invariant (search rules) (search rules)
+returns c = let k : c.min-count.result ≡ min c.len.result (2 ^ c.args.s) = search rules in
+    left_stage _ c.args.s _ c.args.p.now.items c.ites.ensures (c.append.ensures ∙ rw (c.same_bits-moved.ensures, c.len-2.ensures.value, c.deref.ensures.0) refl)
+    (k ∙ rw c.len.ensures.value refl)

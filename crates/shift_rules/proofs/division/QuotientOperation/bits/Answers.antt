@@ -8,5 +8,5 @@ use Rattle.shift_rules.proofs.division.QuotientOperation.bits.Goals as goal
 
 pub returns : goal.returns
 returns c = let k = c.args.kept.now in
-    let s = c.args.self.now.standard in
+    let s = c.args.self.standard in
     λ xs ys e d. c.udiv.ensures ∙ ap₂ (udiv _ s is_false_number) e d ∙ sym (udiv_hom (store_hom k) s literally_false is_false_number (false_test k) xs ys)

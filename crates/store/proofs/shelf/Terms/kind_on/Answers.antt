@@ -8,25 +8,11 @@ use Rattle.store.proofs.Keeping.{row_lies}
 use Rattle.store.proofs.Sorting.{low_root, row_kind, row_root, row_stands}
 use Rattle.store.proofs.shelf.Terms.kind_on.Goals as goal
 
-pub returns-then-k-lt-FIRST_PLACE : goal.returns-then-k-lt-FIRST_PLACE
-returns-then-k-lt-FIRST_PLACE c = low_root c.args.self.now.shelf c.args.place c.if-k-lt-FIRST_PLACE.true
-
-pub offset_at-at-requires : goal.offset_at-at-requires
-offset_at-at-requires c = let h = c.if-k-lt-FIRST_PLACE.false in
-    let l = c.requires in
-    row_lies c.args.self.now.shelf (omega arith)
-
-pub overflow_add-at : goal.overflow_add-at
-overflow_add-at c = let r = (let stands_here : let at = c.offset_at-at.result in
-    (at + extent (drop at c.args.self.now.job.now) ≤ length c.args.self.now.job.now) × (4 ≤ extent (drop at c.args.self.now.job.now)) = let h = c.if-k-lt-FIRST_PLACE.false in
-    let l = c.requires in
-    row_stands c.args.self.now.shelf (c.args.place - 2) (omega arith) refl refl c.offset_at-at.ensures.value in stands_here) in omega (arith, r.0, r.1)
-
 pub number-requires : goal.number-requires
 number-requires c = let r = (let stands_here : let at = c.offset_at-at.result in
     (at + extent (drop at c.args.self.now.job.now) ≤ length c.args.self.now.job.now) × (4 ≤ extent (drop at c.args.self.now.job.now)) = let h = c.if-k-lt-FIRST_PLACE.false in
     let l = c.requires in
-    row_stands c.args.self.now.shelf (c.args.place - 2) (omega arith) refl refl c.offset_at-at.ensures.value in stands_here) in (omega (arith, r.0, r.1), omega arith)
+    row_stands c.args.self.now.shelf (c.args.place - 2) (omega arith) refl refl c.offset_at-at.ensures.value in stands_here) in record { inside = omega (arith, r.0, r.1); short = omega arith }
 
 pub returns : goal.returns
 returns c = let h = c.if-k-lt-FIRST_PLACE.false in

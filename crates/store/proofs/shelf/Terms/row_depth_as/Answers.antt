@@ -1,23 +1,8 @@
 -- `row_depth_as`: what the row's record and its measure say.
-use native.Mathlib.Omega.{arith}
-use Rattle.store.proofs.Keeping.{row_lies_as}
-use Rattle.store.proofs.Sorting.{row_depth, row_stands}
+use mathlib.Core.Path.{refl}
+use Rattle.store.proofs.Sorting.{row_depth}
 use Rattle.store.proofs.shelf.Terms.row_depth_as.Goals as goal
 
-pub offset_as-at-requires : goal.offset_as-at-requires
-offset_as-at-requires g c = let r = row_lies_as c.args.self.now.shelf c.requires.own c.requires.linked c.requires.kept in record { inside = r.0; sized = r.1 }
-
-pub overflow_add-at : goal.overflow_add-at
-overflow_add-at g c = let r = row_stands c.args.self.now.shelf c.args.k c.requires.kept c.requires.own c.requires.linked c.offset_as-at.ensures.value in
-    omega (arith, r.0, r.1)
-
-pub number-kind-requires : goal.number-kind-requires
-number-kind-requires g c = let r = row_stands c.args.self.now.shelf c.args.k c.requires.kept c.requires.own c.requires.linked c.offset_as-at.ensures.value in
-    (omega (arith, r.0, r.1), omega arith)
-
-pub measure_as-measure-requires : goal.measure_as-measure-requires
-measure_as-measure-requires g c = let r = row_lies_as c.args.self.now.shelf c.requires.own c.requires.linked c.requires.kept in record { inside = r.0; sized = r.1 }
-
 pub returns : goal.returns
-returns g c = row_depth c.args.self.now.shelf c.args.k c.requires.kept c.requires.own c.requires.linked c.offset_as-at.ensures.value c.depth_in.ensures
-    c.number-kind.ensures.value c.measure_as-measure.ensures
+returns g c = row_depth c.args.self.now.shelf c.args.k c.requires.kept refl refl c.row_as-row.ensures.at_is c.depth_in.ensures
+    c.row_as-row.ensures.kind_is c.row_as-row.ensures.measure_is

@@ -1,5 +1,0 @@
-use Rattle.writer.proofs.PlaceLaws.{Filled}
-use Rattle.writer.proofs.places.encode.Given as goal
-
-abbrev pub invariant-loop-number : goal.invariant-loop-number
-invariant-loop-number l = Filled l.initial.key l.key l.initial.at l.numbers l.number-index l.at
