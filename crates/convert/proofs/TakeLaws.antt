@@ -2,7 +2,6 @@
 use mathlib.Core.Path.{◌≡◌, refl, sym, ap, ◌∙◌}
 use mathlib.Core.Bool.{Bool, true, false}
 use mathlib.Core.List.{List, [], ◌∷◌, ◌++◌}
-use Rattle.std.specs.Prelude as rust
 use Rattle.std.specs.Prelude.{Option, None as none, Some as some}
 use Prim.Native.Nat.{ℕ, ◌+◌, ◌≤◌, ◌<◌}
 use native.Mathlib.Omega.{arith}
@@ -15,15 +14,14 @@ use Rattle.text.specs.Convert.{State, state, declare, take_step, take_line}
 use Rattle.text.specs.Claim.{declared_by}
 use Rattle.theory.proofs.Basics.{none_some}
 use Rattle.words.specs.Words.{piece}
-use Rattle.words.proofs.ReadLaws.{read_some, reads_some}
+use Rattle.words.proofs.ReadLaws.{told_some, reads_some}
 use Rattle.names.specs.Kinds.{declared_in}
 use Rattle.names.specs.Lines.{Ended, Beyond}
 use Rattle.names.proofs.LineLaws.{further}
-use Rattle.writer.specs.declared.places.Spot.{Spot}
-use Rattle.writer.specs.Places.{so_far}
-use Rattle.entries.specs.Steps.{Stepped}
-use Rattle.entries.specs.Declarations as D
-use Rattle.entries.specs.Declarations.{and_declared}
+use Rattle.writer.specs.declared.places.Writer.{Writer}
+use Rattle.writer.specs.Written.{job_of, room}
+use Rattle.entries.specs.Steps.{told_step}
+use Rattle.entries.specs.Declarations.{and_declared, told_declared}
 use Rattle.convert.specs.declared.line.State as code
 use Rattle.convert.specs.Line.{Cut, told_state, Between, Lined}
 use Rattle.convert.proofs.CutLaws.{cut_next, declared_next}
@@ -75,7 +73,7 @@ never : {A : Type 0} → false ≡ true → A
 never e = absurd (let z : ◌≡◌ {A = ℕ} 0 1 = cc in omega arith)
 
 -- ---- a line that is taken
-module _ {text : Bytes} {at end next : ℕ} {old work₀ : Bytes} {s : code.State} (h : at < length text) (e : Ended text at end) (b : Beyond text end next) (g : Between text at old work₀ s) where
+module _ {text : Bytes} {at end next : ℕ} (old new : Writer) {s : code.State} (h : at < length text) (e : Ended text at end) (b : Beyond text end next) (g : Between text at s) where
   cut : Cut text at
   cut = g.cut (λ q. omega arith)
 
@@ -83,44 +81,38 @@ module _ {text : Bytes} {at end next : ℕ} {old work₀ : Bytes} {s : code.Stat
   declared_few = let f = g.few in let m = further h e b in omega arith
 
   -- a step
-  pub lined_step : {new work : Bytes} {r : rust.Option Spot} {t : Spot} {q : Bool → Option State}
-      → Stepped (declared_in (take s.declarations text)) old new work s.spot q r → r ≡ rust.Some t
-      → {p : Option State} → p ≡ q s.begun
-      → Lined text next old new work s.spot p (rust.Some (record { declarations = s.declarations; declared = s.declared; begun = true; spot = t }))
-  lined_step {new} {work} {r} {t} {q} d f {p} l =
-      let z = d s.begun in
+  pub lined_step : (r : Option (Unit {0})) {x : Unit {0}} {q : Option State}
+      → told_step (declared_in (take s.declarations text)) new r ≡ q → r ≡ some x
+      → {p : Option State} → p ≡ q → Lined text next new p (some (record { declarations = s.declarations; declared = s.declared; begun = true }))
+  lined_step r d f l =
       let m = declared_few in
-      let moved = z.fits t f in
-      reads_some (l ∙ read_some z f) (
-        moved,
-        record {
-          ready = moved.ready;
-          within = g.within;
-          counted = g.counted;
-          few = omega arith;
-          level = λ y. never (sym y);
-          cut = cut_next h e b cut;
-        },
-      )
+      reads_some (l ∙ told_some _ r d f) (record {
+        within = g.within;
+        counted = g.counted;
+        few = omega arith;
+        level = λ y. never (sym y);
+        cut = cut_next h e b cut;
+      })
 
   -- a declaration
-  pub lined_declared : {new work : Bytes} {r : rust.Option Spot} {t : Spot} → s.begun ≡ false
-      → D.Declared (piece at end text) (declared_in (take s.declarations text)) old new work s.spot (bind (declared_by (piece at end text)) (declare (length old) (state (declared_in (take s.declarations text)) false (so_far old s.spot)))) r
-      → r ≡ rust.Some t → {p : Option State}
-      → p ≡ bind (declared_by (piece at end text)) (declare (length old) (told_state text old s))
-      → Lined text next old new work s.spot p (rust.Some (record { declarations = next; declared = s.declared + 1; begun = false; spot = t }))
-  lined_declared {new} {work} {r} {t} n d f {p} l = go (declared_by (piece at end text)) refl
+  pub lined_declared : (r : Option (Unit {0})) {x : Unit {0}} → s.begun ≡ false
+      → told_declared (piece at end text) (declared_in (take s.declarations text)) new r
+      ≡ bind (declared_by (piece at end text)) (declare (room old) (state (declared_in (take s.declarations text)) false (job_of old)))
+      → r ≡ some x → {p : Option State}
+      → p ≡ bind (declared_by (piece at end text)) (declare (room old) (told_state text old s))
+      → Lined text next new p (some (record { declarations = next; declared = s.declared + 1; begun = false }))
+  lined_declared r n d f {p} l = go (declared_by (piece at end text)) refl
     where
-      so : p ≡ some (state (and_declared (piece at end text) (declared_in (take s.declarations text))) false (so_far new t))
+      so : p ≡ some (state (and_declared (piece at end text) (declared_in (take s.declarations text))) false (job_of new))
       so =
-          l ∙ ap (λ (x : Bool). bind (declared_by (piece at end text)) (declare (length old) (state (declared_in (take s.declarations text)) x (so_far old s.spot)))) n
-          ∙ read_some d f
+          l ∙ ap (λ (x : Bool). bind (declared_by (piece at end text)) (declare (room old) (state (declared_in (take s.declarations text)) x (job_of old)))) n
+          ∙ told_some _ r d f
 
       go : (q : Option Declared) → declared_by (piece at end text) ≡ q
-          → Lined text next old new work s.spot p (rust.Some (record { declarations = next; declared = s.declared + 1; begun = false; spot = t }))
+          → Lined text next new p (some (record { declarations = next; declared = s.declared + 1; begun = false }))
       go none y =
-          absurd (let z : p ≡ none = l ∙ ap (λ (x : Option Declared). bind x (declare (length old) (told_state text old s))) y in
-          none_some (state (and_declared (piece at end text) (declared_in (take s.declarations text))) false (so_far new t)) (sym z ∙ so))
+          absurd (let z : p ≡ none = l ∙ ap (λ (x : Option Declared). bind x (declare (room old) (told_state text old s))) y in
+          none_some (state (and_declared (piece at end text) (declared_in (take s.declarations text))) false (job_of new)) (sym z ∙ so))
       go (some v) y =
           let lv : s.declarations ≡ at = g.level n in
           let nd : declared_in (take next text) ≡ declared_in (take s.declarations text) ++ (v ∷ [])
@@ -130,18 +122,13 @@ module _ {text : Bytes} {at end next : ℕ} {old work₀ : Bytes} {s : code.Stat
           let c = g.counted in
           let len : length (declared_in (take s.declarations text) ++ (v ∷ [])) ≡ length (declared_in (take s.declarations text)) + 1 = length-append (declared_in (take s.declarations text)) (v ∷ []) in
           let all : length (declared_in (take next text)) ≡ length (declared_in (take s.declarations text) ++ (v ∷ [])) = ap length nd in
-          let moved = d.fits t f in
-          reads_some (so ∙ ap (λ (x : List Declared). some (state x false (so_far new t))) (ad ∙ sym nd)) (
-            moved,
-            record {
-              ready = moved.ready;
-              within = b.inside;
-              counted = omega arith;
-              few = declared_few;
-              level = λ z. refl;
-              cut = cut_next h e b cut;
-            },
-          )
+          reads_some (so ∙ ap (λ (x : List Declared). some (state x false (job_of new))) (ad ∙ sym nd)) (record {
+            within = b.inside;
+            counted = omega arith;
+            few = declared_few;
+            level = λ z. refl;
+            cut = cut_next h e b cut;
+          })
 
 -- a declaration after a step is refused
 pub line_begun : (room : ℕ) (vars : List Declared) {begun : Bool} (job line : Bytes) {a b : Bytes} → begun ≡ true → after left line ≡ some a → after (word (ascii "declare-const")) a ≡ some b

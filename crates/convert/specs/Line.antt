@@ -7,8 +7,8 @@ use Rattle.text.specs.Convert as C
 use Rattle.text.specs.Convert.{lines}
 use Rattle.words.specs.Tables.{Reads}
 use Rattle.names.specs.Kinds.{declared_in}
-use Rattle.writer.specs.declared.places.Spot.{Spot}
-use Rattle.writer.specs.Places.{so_far, Ready, Moved}
+use Rattle.writer.specs.declared.places.Writer.{Writer}
+use Rattle.writer.specs.Written.{job_of}
 use Rattle.convert.specs.declared.line.State as code
 
 -- a line starts at this place: the lines before it and the lines from it on are the lines
@@ -16,12 +16,11 @@ pub record Cut (text : Bytes) (at : ℕ) : Type 0 where
   pub apart : (bs : Bytes) → lines (take at text ++ bs) ≡ lines (take at text) ++ lines bs
 
 -- the state that the code's stands for
-abbrev pub told_state : Bytes → Bytes → code.State → C.State
-told_state text out s = C.state (declared_in (take s.declarations text)) s.begun (so_far out s.spot)
+abbrev pub told_state : Bytes → Writer → code.State → C.State
+told_state text w s = C.state (declared_in (take s.declarations text)) s.begun (job_of w)
 
--- the job is ready, the declarations are counted, and up to the first step they are all lines before
-pub record Between (text : Bytes) (at : ℕ) (out work : Bytes) (s : code.State) : Type 0 where
-  pub ready : Ready out work s.spot
+-- the declarations are counted, and up to the first step they are all lines before
+pub record Between (text : Bytes) (at : ℕ) (s : code.State) : Type 0 where
   pub within : s.declarations ≤ length text
   pub counted : s.declared ≡ length (declared_in (take s.declarations text))
   pub few : s.declared ≤ at
@@ -29,6 +28,5 @@ pub record Between (text : Bytes) (at : ℕ) (out work : Bytes) (s : code.State)
   pub cut : (at ≡ length text → ⊥) → Cut text at
 
 -- a line was taken, and the next starts at that place; or it was refused
-abbrev pub Lined : Bytes → ℕ → Bytes → Bytes → Bytes → Spot → Option C.State → rust.Option code.State → Type 0
-Lined text next old new work from expected r =
-    Reads (told_state text new) (λ s. Moved old new work from s.spot × Between text next new work s) expected r
+abbrev pub Lined : Bytes → ℕ → Writer → Option C.State → rust.Option code.State → Type 0
+Lined text next new expected r = Reads (told_state text new) (Between text next) expected r

@@ -7,13 +7,14 @@ mod line;
 
 ghost use Rattle.std.specs.Prelude.{[], ◌≡◌};
 ghost use Rattle.table.specs.Buckets.{Table};
+ghost use Rattle.writer.specs.Written.{Moved};
 ghost use Rattle.convert.specs.Text.{told, text_call, Taken};
 
 use crate::line::{State, take_line};
 use names::lines::{line_after, line_end};
 use table::{clear, wipe};
 use text::REFUSED;
-use writer::places::Spot;
+use writer::places::{Spot, Writer};
 
 // What a text comes to: 0 and the job's length, or 25 and the place of the first line that is
 // refused.
@@ -25,37 +26,46 @@ pub struct Converted {
     pub length: u64,
 }
 
-// Reads the lines of a text into a job, with a work memory that is cleared but for the seed: the
-// job's length, or the place of the first line that is refused.
-fn take_lines(text: &[u8], work: &mut [u8], out: &mut [u8]) -> Result<usize, u64>
-    requires { Table [] work.old 0 }
-    ensures { Taken text.now out.old out.new result }
+// Reads the lines of a text into a job in which nothing is put yet: the job's length, or the place
+// of the first line that is refused.
+fn take_lines(text: &[u8], writer: &mut Writer<'_>) -> Result<usize, u64>
+    requires { writer.old.spot.done ≡ 0 }
+    ensures moved { Moved writer.old writer.new }
+    ensures takes { Taken text.now writer.old.out.now writer.new.out.now result }
 {
     let mut s = State {
         declarations: 0,
         declared: 0,
         begun: false,
-        spot: Spot {
-            done: 0,
-            terms: 0,
-            rows: 0,
-            covered: 0,
-        },
     };
     let mut at: usize = 0;
     let mut place: u64 = 1;
     while at < text.len() {
         let end = line_end(text, at);
         let next = line_after(text, end);
-        let Some(after) = take_line(text, at, end, next, out, work, s) else {
+        let Some(after) = take_line(text, at, end, next, s, writer) else {
             return Err(place);
         };
         s = after;
         at = next;
         place += 1;
     }
-    let spot = s.spot;
-    Ok(spot.done)
+    Ok(writer.spot.done)
+}
+
+// The same, from the start of a job's memory, with a work memory that is cleared but for the seed.
+fn write_job(text: &[u8], work: &mut [u8], out: &mut [u8]) -> Result<usize, u64>
+    requires { Table [] work.old 0 }
+    ensures { Taken text.now out.old out.new result }
+{
+    let spot = Spot {
+        done: 0,
+        terms: 0,
+        rows: 0,
+        covered: 0,
+    };
+    let mut writer = Writer { out, work, spot };
+    take_lines(text, &mut writer)
 }
 
 // Reads a text into a job. The work memory makes lookups faster; it may hold anything, and is all
@@ -66,7 +76,7 @@ pub fn convert(text: &[u8], work: &mut [u8], job: &mut [u8]) -> Converted
     ensures job { job.new ≡ (text_call text work job).job_memory }
 {
     clear(work);
-    let lines = take_lines(text, work, job);
+    let lines = write_job(text, work, job);
     wipe(work);
     match lines {
         Ok(length) => Converted {

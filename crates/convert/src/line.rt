@@ -3,63 +3,56 @@ ghost use Rattle.std.specs.Prelude.{◌<◌, length};
 ghost use Rattle.text.specs.Convert.{take_line};
 ghost use Rattle.words.specs.Words.{piece};
 ghost use Rattle.names.specs.Lines.{Ended, Beyond};
+ghost use Rattle.writer.specs.Written.{room, Moved};
 ghost use Rattle.convert.specs.Line.{told_state, Between, Lined};
 
 use entries::declarations::declare;
 use entries::steps::take_step;
 use names::marks::{left_after, word_after};
-use writer::places::Spot;
+use writer::places::Writer;
 
-// Between two lines: where the declarations end in the text, how many there are, whether a step was
-// read, and where the job stands.
+// Between two lines: where the declarations end in the text, how many there are, and whether a step
+// was read.
 #[derive(Clone, Copy)]
 pub struct State {
     pub declarations: usize,
     pub declared: usize,
     pub begun: bool,
-    pub spot: Spot,
 }
 
-// The line from `at` to `end` of the text; the one after it starts at `next`.
+// Reads the line from `at` to `end` of the text; the one after it starts at `next`.
 pub fn take_line(
     text: &[u8],
     at: usize,
     end: usize,
     next: usize,
-    out: &mut [u8],
-    work: &mut [u8],
     s: State,
+    writer: &mut Writer<'_>,
 ) -> Option<State>
     requires inside { at < length text.now }
     requires ends { Ended text.now at end }
     requires goes_on { Beyond text.now end next }
-    requires between { Between text.now at out.old work.old s }
-    ensures { Lined text.now next out.old out.new work.new s.spot
-        (take_line (length out.old) (told_state text.now out.old s)
-        (piece at end text.now)) result }
+    requires between { Between text.now at s }
+    ensures moved { Moved writer.old writer.new }
+    ensures takes { Lined text.now next writer.new
+        (take_line (room writer.old) (told_state text.now writer.old s) (piece at end text.now))
+        result }
 {
-    let old = s.spot;
     let line = &text[at..end];
-    let before = s.declarations;
+    let before = &text[..s.declarations];
     let a = left_after(line)?;
     if word_after(a, b"declare-const").is_some() {
         if s.begun {
             return None;
         }
-        let spot = declare(line, &text[..before], s.declared, out, work, old)?;
+        declare(line, before, s.declared, writer)?;
         return Some(State {
             declarations: next,
             declared: s.declared + 1,
             begun: false,
-            spot,
         });
     }
     let b = word_after(a, b"step")?;
-    let after = take_step(b, &text[..before], out, work, old)?;
-    Some(State {
-        declarations: before,
-        declared: s.declared,
-        begun: true,
-        spot: after,
-    })
+    take_step(b, before, writer)?;
+    Some(State { begun: true, ..s })
 }

@@ -2,7 +2,6 @@
 use mathlib.Core.Path.{◌≡◌, refl, sym, ap, ◌∙◌}
 use mathlib.Core.Bool.{Bool, false, cond}
 use mathlib.Core.List.{List, [], ◌∷◌, ◌++◌}
-use Rattle.std.specs.Prelude as rust
 use Rattle.std.specs.Prelude.{Option, None as none, Some as some}
 use Prim.Native.Nat.{ℕ, ◌<◌, ◌≤◌}
 use lib.Dec.{ltb}
@@ -16,11 +15,10 @@ use Rattle.text.specs.Reading.{bind, number_end, variable, find_name}
 use Rattle.text.specs.Writing.{Placed, placed_all, write, put_term}
 use Rattle.text.specs.Convert.{State, state, declare}
 use Rattle.text.specs.Claim.{declared_by}
-use Rattle.writer.specs.declared.places.Spot.{Spot}
-use Rattle.writer.specs.declared.places.Put.{Put}
-use Rattle.writer.specs.Places.{Puts}
-use Rattle.words.proofs.ReadLaws.{read_none, read_some, reads_some}
-use Rattle.entries.specs.Declarations.{and_declared, Declared}
+use Rattle.writer.specs.declared.places.Writer.{Writer}
+use Rattle.writer.specs.Written.{job_of, told_put}
+use Rattle.words.proofs.ReadLaws.{told_none, told_some}
+use Rattle.entries.specs.Declarations.{and_declared}
 
 abbrev put_so : List R.Declared → Option Placed → Option State
 put_so vars q = bind q (λ p. some (state vars false p.job))
@@ -37,9 +35,6 @@ declare_is vars room job d = refl
 module _ (line : Bytes) (vars : List R.Declared) (room : ℕ) (job : Bytes) where
   abbrev declares : Option R.Declared → Option State
   declares q = bind q (declare room (state vars false job))
-
-  pub declare_1 : declared_by line ≡ none → declares (declared_by line) ≡ none
-  declare_1 e = ap declares e
 
   module _ {d : R.Declared} (e : declared_by line ≡ some d) where
     declare_so : declares (declared_by line)
@@ -67,10 +62,10 @@ module _ (line : Bytes) (vars : List R.Declared) (room : ℕ) (job : Bytes) wher
           ∙ ap (λ (x : Op). put_so (vars ++ (d ∷ [])) (put_term room x (placed_all [] job))) (sym (k ∙ ap (λ (m : ℕ). variable m d) i))
           ∙ ap (λ (q : Option R.Declared). put_so (either vars (λ c. vars ++ (c ∷ [])) q) (put_term room o (placed_all [] job))) (sym e)
 
-pub declares_put : (line : Bytes) (vars : List R.Declared) {old new work : Bytes} {from : Spot} {q : Option State} (o : Op) (room : ℕ) (job : Bytes) {r : rust.Option Put} {p : Put}
-    → Puts old new work from (put_term room o (placed_all [] job)) r → r ≡ rust.Some p → q ≡ put_so (and_declared line vars) (put_term room o (placed_all [] job)) → Declared line vars old new work from q (rust.Some p.spot)
-declares_put line vars o room job {r} {p} h f e = reads_some (e ∙ ap (put_so (and_declared line vars)) (read_some h f)) (h.fits p f)
+-- the variable is put, or does not fit
+module _ (vars : List R.Declared) (new : Writer) {q : Option State} (r : Option ℕ) {p : Option Placed} (h : told_put new r ≡ p) (e : q ≡ put_so vars p) where
+  pub declares_put : {k : ℕ} → r ≡ some k → some (state vars false (job_of new)) ≡ q
+  declares_put f = sym (e ∙ ap (put_so vars) (told_some _ r h f))
 
-pub declares_full : (line : Bytes) (vars : List R.Declared) {old new work : Bytes} {from : Spot} {q : Option State} (o : Op) (room : ℕ) (job : Bytes) {r : rust.Option Put}
-    → Puts old new work from (put_term room o (placed_all [] job)) r → r ≡ rust.None → q ≡ put_so (and_declared line vars) (put_term room o (placed_all [] job)) → q ≡ none
-declares_full line vars o room job h f e = e ∙ ap (put_so (and_declared line vars)) (read_none h f)
+  pub declares_full : r ≡ none → none ≡ q
+  declares_full f = sym (e ∙ ap (put_so vars) (told_none _ r h f))

@@ -2,20 +2,18 @@
 use mathlib.Core.Path.{◌≡◌, refl, sym, ap, ◌∙◌}
 use mathlib.Core.Bool.{Bool, true}
 use mathlib.Core.List.{List}
-use Rattle.std.specs.Prelude as rust
-use Rattle.std.specs.Prelude.{Option, None as none, Some as some, option_map}
+use Rattle.std.specs.Prelude.{Option, None as none, Some as some}
 use Prim.Native.Nat.{ℕ}
-use lib.ListN.{length}
 use Rattle.theory.specs.Record.{Bytes}
 use Rattle.text.specs.Reading as R
 use Rattle.text.specs.Reading.{bind, Declared, Word, first_word, is_symbol, step_front, step_back, read_term, max_nesting}
 use Rattle.text.specs.Writing.{Placed, placed, write, put_step}
 use Rattle.text.specs.Convert.{State, state, take_step}
-use Rattle.words.specs.Tables.{Reads}
-use Rattle.writer.specs.declared.places.Spot.{Spot}
-use Rattle.writer.specs.Places.{so_far, Moved, Steps}
+use Rattle.writer.specs.declared.places.Writer.{Writer}
+use Rattle.writer.specs.Written as W
+use Rattle.writer.specs.Written.{job_of}
 use Rattle.reader.specs.Reader.{Got, got, read_write}
-use Rattle.writer.proofs.Moves.{moved_on}
+use Rattle.entries.specs.Steps.{told_step}
 
 -- ---- the step
 abbrev put_so : List Declared → ℕ → ℕ → Placed → Option State
@@ -79,16 +77,14 @@ module _ (vars : List Declared) (begun : Bool) (room : ℕ) (job bs : Bytes) whe
       step_4 g = step_is vars begun room job bs ∙ ap (with_front vars room job) e ∙ ap (with_literal vars room) f ∙ ap (with_rule vars room (got k rest j)) g
 
 -- a step that is put after its literal, or does not fit
-pub stepped : {vars : List Declared} {old mid new work work' : Bytes} {from s : Spot} (room rule k : ℕ) {p : Option State} {r : rust.Option Spot} → length mid ≡ room → Moved old mid work from s
-    → Steps mid new work' s (put_step (length mid) rule (placed k (so_far mid s))) r
-    → p ≡ put_so vars room rule (placed k (so_far mid s)) → Reads (λ (x : Spot). state vars true (so_far new x)) (Moved old new work' from) p r
-stepped {vars} {old} {mid} {new} {work} {work'} {from} {s} room rule k {p} {r} l m h e = record {
-  is = told_state r
-      ∙ ap (λ (q : Option Bytes). bind q (λ b. some (state vars true b))) h.is
-      ∙ ap (λ (j : ℕ). put_so vars j rule (placed k (so_far mid s))) l ∙ sym e;
-  fits = λ t u. moved_on m (h.fits t u);
-}
+pub stepped : (vars : List Declared) (mid new : Writer) (room rule k : ℕ) {p : Option State} (r : Option (Unit {0})) → W.room mid ≡ room
+    → W.told_job new r ≡ put_step (W.room mid) rule (placed k (job_of mid))
+    → p ≡ put_so vars room rule (placed k (job_of mid)) → told_step vars new r ≡ p
+stepped vars mid new room rule k r l h e =
+    told_state r
+    ∙ ap (λ (q : Option Bytes). bind q (λ b. some (state vars true b))) h
+    ∙ ap (λ (j : ℕ). put_so vars j rule (placed k (job_of mid))) l ∙ sym e
   where
-    told_state : (q : rust.Option Spot) → option_map (λ (x : Spot). state vars true (so_far new x)) q ≡ bind (option_map (λ (x : Spot). so_far new x) q) (λ b. some (state vars true b))
-    told_state rust.None = refl
-    told_state (rust.Some t) = refl
+    told_state : (q : Option (Unit {0})) → told_step vars new q ≡ bind (W.told_job new q) (λ b. some (state vars true b))
+    told_state none = refl
+    told_state (some t) = refl

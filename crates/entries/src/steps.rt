@@ -1,17 +1,17 @@
 // A step line.
-ghost use Rattle.std.specs.Prelude.{◌≡◌, length};
+ghost use Rattle.std.specs.Prelude.{◌≡◌, Bool};
 ghost use Rattle.text.specs.Reading.{step_front, step_back};
 ghost use Rattle.text.specs.Convert.{state, take_step};
 ghost use Rattle.names.specs.Kinds.{declared_in};
 ghost use Rattle.names.specs.Marks.{rest_of};
-ghost use Rattle.writer.specs.Places.{so_far, Ready};
-ghost use Rattle.entries.specs.Steps.{Stepped};
+ghost use Rattle.writer.specs.Written.{job_of, room, Moved};
+ghost use Rattle.entries.specs.Steps.{told_step};
 
 use names::marks::{at_end, first_word, left_after, right_after, word_after};
 use names::symbols::is_symbol;
 use reader::reading::read_term;
 use words::tables::rule_named;
-use writer::places::{Spot, put_step};
+use writer::places::Writer;
 
 // The deepest nesting.
 const MAX_NESTING: usize = 200;
@@ -44,24 +44,16 @@ fn step_back(line: &[u8]) -> Option<u32>
     rule_named(name)
 }
 
-// A step after `(step`: its literal is read and put, then the step. Where the job stands then, if
-// all of it fits.
-pub fn take_step(
-    line: &[u8],
-    declarations: &[u8],
-    out: &mut [u8],
-    work: &mut [u8],
-    spot: Spot,
-) -> Option<Spot>
-    requires { Ready out.old work.old spot }
-    ensures { Stepped (declared_in declarations.now)
-        out.old out.new work.new spot
-        (λ begun. take_step (length out.old)
-        (state (declared_in declarations.now) begun (so_far out.old spot))
-        line.now) result }
+// A step after `(step`: its literal is read and put, then the step, if all of it fits. Whether a
+// step was read before does not matter.
+pub fn take_step(line: &[u8], declarations: &[u8], writer: &mut Writer<'_>) -> Option<()>
+    ensures moved { Moved writer.old writer.new }
+    ensures takes { (begun : Bool) → told_step (declared_in declarations.now) writer.new result
+        ≡ take_step (room writer.old)
+        (state (declared_in declarations.now) begun (job_of writer.old)) line.now }
 {
     let front = step_front(line)?;
-    let literal = read_term(front, MAX_NESTING, declarations, out, work, spot)?;
+    let literal = read_term(front, MAX_NESTING, declarations, writer)?;
     let rule = step_back(literal.rest)?;
-    put_step(rule, literal.number, out, work, literal.spot)
+    writer.put_step(rule, literal.number)
 }

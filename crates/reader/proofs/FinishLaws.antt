@@ -1,15 +1,12 @@
 -- A term whose arguments are put.
-use mathlib.Core.Path.{◌≡◌, refl, ap, ◌∙◌}
+use mathlib.Core.Path.{◌≡◌, refl, sym, ap, ◌∙◌}
 use mathlib.Core.Bool.{Bool, true, false, cond}
 use mathlib.Core.Logic.{◌⊎◌, inl, inr}
 use mathlib.Core.List.{List, [], ◌∷◌}
-use Rattle.std.specs.Prelude as rust
-use Rattle.std.specs.Borrow.{Bor}
 use Rattle.std.specs.Prelude.{Option, None as none, Some as some}
-use Prim.Native.Nat.{ℕ, suc, ◌<◌, ◌≤◌}
+use Prim.Native.Nat.{ℕ, suc, ◌<◌}
 use native.Mathlib.Omega.{arith}
-use lib.ListN.{length, take}
-use lib.Seq.{length-take-le}
+use lib.ListN.{length}
 use borrow.Author.Tests.{ne_eqb}
 use Rattle.theory.specs.Limit.{first_terms}
 use Rattle.theory.specs.Kind.{Op, True, False, kind, arity, takes}
@@ -18,11 +15,10 @@ use Rattle.theory.specs.Codes.{all_below}
 use Rattle.text.specs.Reading.{bind, number_end}
 use Rattle.text.specs.Writing.{Placed, placed, placed_all, put_term}
 use Rattle.text.proofs.Placed.{low}
-use Rattle.writer.specs.declared.places.Spot.{Spot}
-use Rattle.writer.specs.declared.places.Put.{Put}
-use Rattle.writer.specs.Places.{so_far, Puts}
-use Rattle.words.proofs.ReadLaws.{read_some, reads_some}
-use Rattle.reader.specs.Reader.{Got, got, got_all, leaf_write, finish, Reads}
+use Rattle.writer.specs.declared.places.Writer.{Writer}
+use Rattle.writer.specs.Written.{job_of, told_put}
+use Rattle.words.proofs.ReadLaws.{told_some}
+use Rattle.reader.specs.Reader.{Got, got, got_all, leaf_write, finish}
 
 -- `true` and `false` take no arguments, so none that is too large
 pub low_takes : (o : Op) → kind o < first_terms → (ks : List ℕ) → all_below number_end ks ≡ false → takes (arity o) (length ks) ≡ false
@@ -59,17 +55,12 @@ module _ (room : ℕ) (o : Op) (ks : List ℕ) (rest job : Bytes) where
   unfolding leaf_write
   leaf_put e = rw e
 
-pub count_is : (numbers : List ℕ) (count : ℕ) → count ≤ length numbers → length (take count numbers) ≡ count
-count_is numbers count h = length-take-le count numbers h
-
 -- what was put, with what is left of the line
-module _ {old new work : Bytes} {from : Spot} {rest : Bor Bytes} (o : Op) where
-  pub finish_reads : (ks : List ℕ) {r : rust.Option Put} {p : Put} → takes (arity o) (length ks) ≡ true
-      → Puts old new work from (put_term (length old) o (placed_all ks (so_far old from))) r → r ≡ rust.Some p
-      → Reads old new work from (finish (length old) o (got_all ks rest.now (so_far old from))) (rust.Some (record { rest = rest; number = p.number; spot = p.spot }))
-  finish_reads ks {r} {p} t g e = reads_some (finish_put (length old) o ks rest.now (so_far old from) t (read_some g e)) (g.fits p e)
+module _ (new : Writer) (room : ℕ) (o : Op) (rest job : Bytes) where
+  pub finish_reads : (ks : List ℕ) (r : Option ℕ) {k : ℕ} → takes (arity o) (length ks) ≡ true
+      → told_put new r ≡ put_term room o (placed_all ks job) → r ≡ some k → some (got k rest (job_of new)) ≡ finish room o (got_all ks rest job)
+  finish_reads ks r t e f = sym (finish_put room o ks rest job t (told_some _ r e f))
 
-  pub leaf_reads : {r : rust.Option Put} {p : Put}
-      → Puts old new work from (put_term (length old) o (placed_all [] (so_far old from))) r → r ≡ rust.Some p
-      → Reads old new work from (leaf_write (length old) o rest.now (so_far old from)) (rust.Some (record { rest = rest; number = p.number; spot = p.spot }))
-  leaf_reads {r} {p} g e = reads_some (leaf_put (length old) o [] rest.now (so_far old from) (read_some g e)) (g.fits p e)
+  pub leaf_reads : (r : Option ℕ) {k : ℕ}
+      → told_put new r ≡ put_term room o (placed_all [] job) → r ≡ some k → some (got k rest (job_of new)) ≡ leaf_write room o rest job
+  leaf_reads r e f = sym (leaf_put room o [] rest job (told_some _ r e f))

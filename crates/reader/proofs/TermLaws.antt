@@ -2,25 +2,21 @@
 use mathlib.Core.Path.{◌≡◌, refl, sym, ap, ◌∙◌}
 use mathlib.Core.Bool.{Bool, true, false, cond}
 use mathlib.Core.List.{List}
-use Rattle.std.specs.Prelude as rust
 use Rattle.std.specs.Prelude.{Option, None as none, Some as some}
 use Prim.Native.Nat.{ℕ, suc, ◌-◌, ◌≤◌}
 use native.Mathlib.Omega.{arith}
 use native.Mathlib.Decide.{dec_le}
-use lib.ListN.{length, take}
 use Rattle.theory.specs.Limit.{first_terms, max_arguments}
 use Rattle.theory.specs.Kind.{Op, kind}
 use Rattle.theory.specs.Record.{Bytes}
 use Rattle.theory.specs.Codes.{all_below}
 use Rattle.text.specs.Reading.{bind, number_end, Declared, branch, head}
-use Rattle.writer.specs.declared.places.Spot.{Spot}
+use Rattle.writer.specs.declared.places.Writer.{Writer}
+use Rattle.writer.specs.Written.{job_of, room, Moved}
 use Rattle.reader.specs.declared.reading.Read.{Read}
 use Rattle.reader.specs.declared.reading.List as list
-use Rattle.writer.specs.Places.{so_far}
-use Rattle.reader.specs.Reader.{GotAll, got_all, read_write, read_write_all, finish, fitting, Reads, Lists}
+use Rattle.reader.specs.Reader.{GotAll, read_write, read_write_all, finish, fitting, told_read, got_list, told_list}
 use Rattle.reader.proofs.ReaderLaws.{too_deep, at_branch}
-use Rattle.words.proofs.ReadLaws.{read_some}
-use Rattle.writer.proofs.Moves.{moved_on}
 use Rattle.writer.proofs.PutLaws.{put_over}
 use Rattle.reader.proofs.FinishLaws.{finish_not, finish_full, low_takes}
 
@@ -55,16 +51,14 @@ module _ (vars : List Declared) (room : ℕ) (n : ℕ) (bs job : Bytes) (o : Op)
   at_none f h e = at_more f h ∙ ap (λ (q : Option GotAll). bind q (finish room o)) e
 
 -- a term whose arguments were read and written
-pub branch_reads : (vars : List Declared) (n : ℕ) (bs : Bytes) (o : Op) (rest : Bytes) {old mid new work work' : Bytes} {from : Spot} {p : rust.Option list.List} {l : list.List} {r : rust.Option Read}
-    → ((n ≡ 0) → ⊥) → head vars bs ≡ some (branch o rest)
-    → Lists old mid work from (fitting (read_write_all (n - 1) vars (length old) max_arguments rest (so_far old from))) p → p ≡ rust.Some l
-    → length mid ≡ length old
-    → Reads mid new work' l.spot (finish (length mid) o (got_all (take l.count l.numbers) l.rest.now (so_far mid l.spot))) r
-    → Reads old new work' from (read_write n vars (length old) bs (so_far old from)) r
-branch_reads vars n bs o rest {old} {mid} {new} {work} {work'} {from} {p} {l} {r} f h g w e d = record {
-  is = d.is
-      ∙ sym (at_more vars (length old) n bs (so_far old from) o rest f h
-      ∙ ap (λ (q : Option GotAll). bind q (finish (length old) o)) (read_some g w)
-      ∙ ap (λ (m : ℕ). finish m o (got_all (take l.count l.numbers) l.rest.now (so_far mid l.spot))) (sym e));
-  fits = λ t u. moved_on (g.fits l w).1 (d.fits t u);
-}
+pub branch_reads : (vars : List Declared) (n : ℕ) (bs : Bytes) (o : Op) (rest : Bytes) (old mid new : Writer) {p : Option list.List} {l : list.List} (r : Option Read)
+    → ((n ≡ 0) → ⊥) → head vars bs ≡ some (branch o rest) → Moved old mid
+    → told_list mid p ≡ fitting (read_write_all (n - 1) vars (room old) max_arguments rest (job_of old)) → p ≡ some l
+    → told_read new r ≡ finish (room mid) o (got_list mid l)
+    → told_read new r ≡ read_write n vars (room old) bs (job_of old)
+branch_reads vars n bs o rest old mid new {p} {l} r f h m g w d =
+    d
+    ∙ ap (λ (z : ℕ). finish z o (got_list mid l)) m.memory.out_size
+    ∙ ap (λ (q : Option list.List). bind (told_list mid q) (finish (room old) o)) (sym w)
+    ∙ ap (λ (q : Option GotAll). bind q (finish (room old) o)) g
+    ∙ sym (at_more vars (room old) n bs (job_of old) o rest f h)

@@ -1,22 +1,20 @@
 -- A term that is read and written at one time; its arguments.
-use Rattle.std.specs.Prelude.{◌≡◌, Bool, true, false, cond, List, [], ◌++◌, ℕ, ◌≤◌, length, take}
+use Rattle.std.specs.Prelude.{◌≡◌, Bool, true, false, cond, List, [], ◌++◌, ℕ, length}
 use Rattle.std.specs.Prelude as rust
 use Rattle.std.specs.Prelude.{Option, None as none, Some as some}
-use Rattle.theory.specs.Limit.{max_arguments}
 use Rattle.theory.specs.Kind.{Op, arity, takes}
 use Rattle.theory.specs.Term.{from_list}
 use Rattle.theory.specs.Record.{Bytes}
 use Rattle.theory.specs.Codes.{all_below}
 use Rattle.text.specs.Reading.{bind, number_end, Declared, read_term, arguments}
 use Rattle.text.specs.Writing.{placed_all, put_term, write, write_all}
-use Rattle.words.specs.Tables as tables
-use Rattle.writer.specs.declared.places.Spot.{Spot}
+use Rattle.writer.specs.declared.places.Writer.{Writer}
 use Rattle.reader.specs.declared.reading.Read.{Read}
 use Rattle.reader.specs.declared.reading.List as list
 use Rattle.reader.specs.declared.reading.Span.{Span}
 use Rattle.terms.specs.Bodies.{least, most}
 use Rattle.names.specs.Kinds.{kind_at}
-use Rattle.writer.specs.Places.{so_far, Moved}
+use Rattle.writer.specs.Written.{job_of}
 
 -- a term's number, what is left of the line, and the job with the term
 pub record Got : Type 0 where
@@ -67,22 +65,17 @@ abbrev pub before : List ℕ → Option GotAll → Option GotAll
 before ks p = bind p (λ g. some (got_all (ks ++ g.numbers) g.rest g.job))
 
 -- ---- what the code says
--- a term was read and written, or refused
-abbrev pub told : Bytes → Read → Got
-told out r = got r.number r.rest.now (so_far out r.spot)
+-- a term that was read and written
+abbrev pub told_read : Writer → rust.Option Read → Option Got
+told_read w r = rust.option_map (λ t. got t.number t.rest.now (job_of w)) r
 
-abbrev pub Reads : Bytes → Bytes → Bytes → Spot → Option Got → rust.Option Read → Type 0
-Reads old new work from expected r = tables.Reads (told new) (λ r. Moved old new work from r.spot) expected r
+-- arguments that were read and written
+abbrev pub got_list : Writer → list.List → GotAll
+got_list w l = got_all l.numbers.items l.rest.now (job_of w)
 
--- arguments were read and written, or refused
-abbrev pub told_list : Bytes → list.List → GotAll
-told_list out l = got_all (take l.count l.numbers) l.rest.now (so_far out l.spot)
-
-abbrev pub list_moved : Bytes → Bytes → Bytes → Spot → list.List → Type 0
-list_moved old new work from l = (l.count ≤ max_arguments) × Moved old new work from l.spot
-
-abbrev pub Lists : Bytes → Bytes → Bytes → Spot → Option GotAll → rust.Option list.List → Type 0
-Lists old new work from expected r = tables.Reads (told_list new) (list_moved old new work from) expected r
+-- the same, where there are any
+abbrev pub told_list : Writer → rust.Option list.List → Option GotAll
+told_list w r = rust.option_map (got_list w) r
 
 -- the arguments of a kind, whatever the numbers in it
 pub record Spanned (k : ℕ) (r : Span) : Type 0 where

@@ -1,33 +1,32 @@
 // A term's reader calls the reader of its arguments, which calls it again.
-ghost use Rattle.std.specs.Prelude.{◌≡◌, ◌≤◌, ◌<◌, length, take};
+ghost use Rattle.std.specs.Prelude.{◌≡◌, ◌<◌};
 ghost use Rattle.theory.specs.Limit.{max_arguments};
 ghost use Rattle.theory.specs.Kind.{arity, takes};
 ghost use Rattle.names.specs.Kinds.{op_of, kinds_end, Known, declared_in};
-ghost use Rattle.writer.specs.Places.{so_far, Ready};
-ghost use Rattle.reader.specs.Reader.{Spanned, got_all, leaf_write, read_write, read_write_all, fitting, finish, Reads, Lists};
+ghost use Rattle.writer.specs.Written.{job_of, room, Moved};
+ghost use Rattle.reader.specs.Reader.{Spanned, leaf_write, read_write, read_write_all};
+ghost use Rattle.reader.specs.Reader.{fitting, finish, told_read, got_list, told_list};
 
+use arrayvec::ArrayVec;
 use heads::heads::{Start, begin};
 use names::kinds::Kind;
 use names::marks::right_after;
 use terms::Term;
-use writer::places::{Spot, put_term};
+use writer::places::Writer;
 
-// A term that was read and put: what stands after it, its number, and where the job stands then.
+// A term that was read and put: what stands after it, and its number.
 #[derive(Clone, Copy)]
 pub struct Read<'a> {
     pub rest: &'a [u8],
     pub number: usize,
-    pub spot: Spot,
 }
 
-// Arguments that were read and put, and whose numbers fit into a record: what stands after them,
-// their numbers, and where the job stands then.
-#[derive(Clone, Copy)]
+// Arguments that were read and put: what stands after them, and their numbers, which fit into a
+// record.
+#[derive(Drop)]
 pub struct List<'a> {
     pub rest: &'a [u8],
-    pub count: usize,
-    pub numbers: [u16; Term::MAX_ARGUMENTS],
-    pub spot: Spot,
+    pub numbers: ArrayVec<u16, { Term::MAX_ARGUMENTS }>,
 }
 
 // How many arguments a kind has, from the least to the most.
@@ -64,45 +63,31 @@ fn allowed(kind: Kind, count: usize) -> bool
 }
 
 // Puts a term whose arguments are put, where its kind has so many.
-fn finish<'a>(kind: Kind, list: &List<'a>, out: &mut [u8], work: &mut [u8]) -> Option<Read<'a>>
-    requires ready { Ready out.old work.old list.now.spot }
-    requires known { Known kind }
-    requires few { list.now.count ≤ max_arguments }
-    ensures { Reads out.old out.new work.new list.now.spot
-        (finish (length out.old) (op_of kind)
-        (got_all (take list.now.count list.now.numbers) list.now.rest.now
-        (so_far out.old list.now.spot))) result }
+fn finish<'a>(kind: Kind, list: &List<'a>, writer: &mut Writer<'_>) -> Option<Read<'a>>
+    requires { Known kind }
+    ensures moved { Moved writer.old writer.new }
+    ensures reads { told_read writer.new result
+        ≡ finish (room writer.old) (op_of kind) (got_list writer.old list.now) }
 {
-    if !allowed(kind, list.count) {
+    if !allowed(kind, list.numbers.len()) {
         return None;
     }
-    let put = put_term(kind, &list.numbers[..list.count], out, work, list.spot)?;
+    let number = writer.put_term(kind, list.numbers.as_slice())?;
     Some(Read {
         rest: list.rest,
-        number: put.number,
-        spot: put.spot,
+        number,
     })
 }
 
 // Puts a term without arguments; `rest` is what stands after it.
-fn finish_leaf<'a>(
-    rest: &'a [u8],
-    kind: Kind,
-    out: &mut [u8],
-    work: &mut [u8],
-    spot: Spot,
-) -> Option<Read<'a>>
-    requires ready { Ready out.old work.old spot }
-    requires known { Known kind }
-    ensures { Reads out.old out.new work.new spot
-        (leaf_write (length out.old) (op_of kind) rest.now (so_far out.old spot)) result }
+fn finish_leaf<'a>(rest: &'a [u8], kind: Kind, writer: &mut Writer<'_>) -> Option<Read<'a>>
+    requires { Known kind }
+    ensures moved { Moved writer.old writer.new }
+    ensures reads { told_read writer.new result
+        ≡ leaf_write (room writer.old) (op_of kind) rest.now (job_of writer.old) }
 {
-    let put = put_term(kind, &[], out, work, spot)?;
-    Some(Read {
-        rest,
-        number: put.number,
-        spot: put.spot,
-    })
+    let number = writer.put_term(kind, &[])?;
+    Some(Read { rest, number })
 }
 
 // Reads the term that a line begins with, nested no deeper than `nesting`, and puts it.
@@ -111,23 +96,21 @@ pub fn read_term<'a>(
     line: &'a [u8],
     nesting: usize,
     declarations: &[u8],
-    out: &mut [u8],
-    work: &mut [u8],
-    spot: Spot,
+    writer: &mut Writer<'_>,
 ) -> Option<Read<'a>>
-    requires { Ready out.old work.old spot }
-    ensures { Reads out.old out.new work.new spot
-        (read_write nesting (declared_in declarations.now) (length out.old)
-        line.now (so_far out.old spot)) result }
+    ensures moved { Moved writer.old writer.new }
+    ensures reads { told_read writer.new result
+        ≡ read_write nesting (declared_in declarations.now) (room writer.old) line.now
+        (job_of writer.old) }
 {
     match begin(line, declarations)? {
-        Start::Leaf(kind, rest) => finish_leaf(rest, kind, out, work, spot),
+        Start::Leaf(kind, rest) => finish_leaf(rest, kind, writer),
         Start::Branch(kind, rest) => {
             if nesting == 0 {
                 return None;
             }
-            let list = read_arguments(rest, nesting - 1, declarations, out, work, spot)?;
-            finish(kind, &list, out, work)
+            let list = read_arguments(rest, nesting - 1, declarations, writer)?;
+            finish(kind, &list, writer)
         }
     }
 }
@@ -138,39 +121,25 @@ fn read_arguments<'a>(
     line: &'a [u8],
     nesting: usize,
     declarations: &[u8],
-    out: &mut [u8],
-    work: &mut [u8],
-    spot: Spot,
+    writer: &mut Writer<'_>,
 ) -> Option<List<'a>>
-    requires { Ready out.old work.old spot }
-    ensures { Lists out.old out.new work.new spot
-        (fitting (read_write_all nesting (declared_in declarations.now) (length out.old)
-        max_arguments line.now (so_far out.old spot))) result }
+    ensures moved { Moved writer.old writer.new }
+    ensures lists { told_list writer.new result
+        ≡ fitting (read_write_all nesting (declared_in declarations.now) (room writer.old)
+        max_arguments line.now (job_of writer.old)) }
 {
-    let mut numbers = [0u16; Term::MAX_ARGUMENTS];
+    let mut numbers = ArrayVec::new();
     let mut rest = line;
-    let mut spot = spot;
-    for count in 0..Term::MAX_ARGUMENTS {
+    for _ in 0..Term::MAX_ARGUMENTS {
         if let Some(rest) = right_after(rest) {
-            return Some(List {
-                rest,
-                count,
-                numbers,
-                spot,
-            });
+            return Some(List { rest, numbers });
         }
-        let term = read_term(rest, nesting, declarations, out, work, spot)?;
+        let term = read_term(rest, nesting, declarations, writer)?;
         // A number of more than two bytes: no record holds it, and its parent can't be written.
         let number = u16::try_from(term.number).ok()?;
-        numbers[count] = number;
+        numbers.push(number);
         rest = term.rest;
-        spot = term.spot;
     }
     let rest = right_after(rest)?;
-    Some(List {
-        rest,
-        count: Term::MAX_ARGUMENTS,
-        numbers,
-        spot,
-    })
+    Some(List { rest, numbers })
 }

@@ -1,4 +1,3 @@
 -- Laws that the proofs of `report` use.
-pub mod Writing
 pub mod Decimal
 pub mod Lines

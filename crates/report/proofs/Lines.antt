@@ -1,125 +1,113 @@
--- The lines of a report, put together from their parts.
+-- The lines of a report, one after the other.
 use mathlib.Core.Path.{◌≡◌, refl, sym, ap, ap₂, ◌∙◌}
-use mathlib.Core.List.{[], ◌++◌, append_assoc, append-nil}
+use mathlib.Core.List.{[], ◌∷◌, ◌++◌, append_assoc, append-nil}
+use mathlib.Core.Logic.{◌⊎◌, inl, inr}
 use Prim.Native.Nat.{ℕ, zero, suc, ◌+◌, ◌*◌, ◌-◌, ◌≤◌, ◌<◌}
-use native.Mathlib.Numerals.{add-one}
 use native.Mathlib.Omega.{arith}
-use borrow.Author.Tests.{le-leb, lt-leb}
-use lib.ListN.{length, take, drop}
-use lib.Seq.{drop-drop}
+use borrow.Author.Tests.{le-leb}
+use borrow.Rule.Slice.PartMut.{put_mid}
+use lib.ListN.{length, take, drop, length-append, length-drop, drop_of_length-le}
+use lib.Seq.{take_at, drop_at, drop-drop, take-length}
+use Rattle.std.proofs.lemmas.Bool.Decides.{nat_tests}
+use Rattle.std.proofs.lemmas.List.{take-append-le, drop-append-le}
 use Rattle.theory.specs.Limit.{answer_bytes}
-use Rattle.theory.specs.Record.{Bytes, word, little_endian}
+use Rattle.theory.specs.Record.{Bytes}
 use Rattle.theory.specs.Answer.{decode_answer, decode_answers}
-use Rattle.theory.specs.Program.{decimal, steps_text, terms_text, repeats_text, stop_text, blank, end_line, too_long_text, answer_lines}
-use Rattle.report.specs.Text.{Wrote, head_space, head, line, report_text, too_long, written}
-use Rattle.report.proofs.Writing.{wrote_more, wrote_same, wrote_none, at_start}
+use Rattle.theory.specs.Program.{answer_lines}
+use Rattle.report.specs.Text.{head, line, report_text, written}
 
--- the first line: four totals and the end of the line
-head_parts : (s a t b q d u c e : Bytes) → s ++ a ++ (t ++ b) ++ (q ++ d) ++ (u ++ c) ++ e ≡ s ++ a ++ t ++ b ++ q ++ d ++ u ++ c ++ e
-head_parts s a t b q d u c e = simp append_assoc
+-- all that is left after so many bytes
+all_left : (xs : Bytes) (size : ℕ) → take (length xs - size) (drop size xs) ≡ drop size xs
+all_left xs size = ap (λ n. take n (drop size xs)) (sym (length-drop size xs)) ∙ take-length (drop size xs)
 
-pub head_written : (n t q s : ℕ) {old m₁ m₂ m₃ m₄ new : Bytes} {at a b c d e : ℕ} → Wrote old at (steps_text ++ decimal n) m₁ a → Wrote m₁ a (terms_text ++ decimal t) m₂ b
-    → Wrote m₂ b (repeats_text ++ decimal q) m₃ c → Wrote m₃ c (stop_text ++ decimal s) m₄ d → Wrote m₄ d end_line new e → Wrote old at (head n t q s) new e
-head_written n t q s w₁ w₂ w₃ w₄ w₅ =
-    wrote_same (wrote_more (wrote_more (wrote_more (wrote_more w₁ w₂) w₃) w₄) w₅)
-    (head_parts steps_text (decimal n) terms_text (decimal t) repeats_text (decimal q) stop_text (decimal s) end_line)
+module _ (old done : Bytes) {now : Bytes} {size : ℕ} where
+  left_of : now ≡ written done old → size ≡ length done → drop size now ≡ drop size old
+  left_of e s = ap (drop size) e ∙ drop_at done (drop (length done) old) size (sym s) ∙ ap (λ n. drop n old) (sym s)
 
--- the line of an answer: four numbers, each with the byte that ends it
-line_parts : (a b c d : Bytes) → a ++ blank ++ (b ++ blank) ++ (c ++ blank) ++ (d ++ end_line) ≡ a ++ blank ++ b ++ blank ++ c ++ blank ++ d ++ end_line
-line_parts a b c d = simp append_assoc
+  -- a second text right after the first
+  pub written_more : (t : Bytes) → now ≡ written done old → size ≡ length done
+      → put_mid size (length now - size) now (written t (take (length now - size) (drop size now))) ≡ written (done ++ t) old
+  written_more t e s =
+      let front : take size now ≡ done = ap (take size) e ∙ take_at done (drop (length done) old) size (sym s) in
+      let none : drop (length now - size) (drop size now) ≡ [] = drop_of_length-le (drop size now) (omega (arith, length-drop size now)) in
+      let after : drop (length t) (drop size old) ≡ drop (length (done ++ t)) old
+      = drop-drop (length t) size old ∙ ap (λ n. drop n old) (let z : size + length t ≡ length (done ++ t) = omega (arith, length-append done t) in z) in
+      rw (front, none, all_left now size, left_of e s, append-nil, after, append_assoc)
 
-pub line_written : (b : ℕ) (bs : Bytes) (k d : ℕ) {old m₁ m₂ m₃ new : Bytes} {at p q r e : ℕ} → let i = k * answer_bytes b in
-    Wrote old at (decimal (k + 1) ++ blank) m₁ p → Wrote m₁ p (decimal (word (drop (i + 4) bs)) ++ blank) m₂ q → Wrote m₂ q (decimal (word (drop (i + 6) bs)) ++ blank) m₃ r
-    → d ≡ little_endian (take b (drop (i + 8) bs)) → Wrote m₃ r (decimal d ++ end_line) new e → Wrote old at (line (k + 1) (decode_answer b (drop i bs))) new e
-line_written b bs k d w₁ w₂ w₃ f w₄ =
-    let i = k * answer_bytes b in
-    wrote_same (wrote_more (wrote_more (wrote_more w₁ w₂) w₃) w₄)
-    (line_parts (decimal (k + 1)) (decimal (word (drop (i + 4) bs))) (decimal (word (drop (i + 6) bs))) (decimal d)
-    ∙ rw (f, ← drop-drop 4 i bs, ← drop-drop 6 i bs, ← drop-drop 8 i bs))
+-- the first of the answers
+front_at : (k j : ℕ) (x rest : Bytes) → j + k ≤ length x → take k (drop j (x ++ rest)) ≡ take k (drop j x)
+front_at k j x rest h = ap (take k) (drop-append-le j x rest (omega arith)) ∙ take-append-le k (drop j x) rest (omega (arith, length-drop j x))
 
--- the lines of the first k answers are written, of `count`
-pub record Lines (b : ℕ) (bs : Bytes) (count : ℕ) (old : Bytes) (at : ℕ) (now : Bytes) (next k : ℕ) : Type 0 where
-  pub within : k ≤ count
+decode_next : (b n : ℕ) (x rest : Bytes) → length x ≡ answer_bytes b → decode_answers b (suc n) (x ++ rest) ≡ decode_answer b x ∷ decode_answers b n rest
+decode_next b n x rest h =
+    rw (front_at 2 4 x rest (omega arith), front_at 2 6 x rest (omega arith), front_at b 8 x rest (omega arith), drop_at x rest (answer_bytes b) h) refl
+
+-- `done` is written at the start of `old`, and with the lines of the answers that are left, of `count`, it is the whole text
+pub record Lines (b count : ℕ) (old text now : Bytes) (size k last chunk : ℕ) (rest : Bytes) : Type 0 where
   pub done : Bytes
-  pub wrote : Wrote old at done now next
-  pub near : next ≤ at + k * 34
-  pub whole : done ++ answer_lines (suc k) (decode_answers b (count - k) (drop (k * answer_bytes b) bs)) ≡ answer_lines 1 (decode_answers b count bs)
+  pub left : ℕ
+  pub now_is : now ≡ written done old
+  pub size_is : size ≡ length done
+  pub near : size ≤ 80 + k * 34
+  pub last_is : last ≡ count
+  pub left_is : k + left ≡ count
+  pub chunk_is : chunk ≡ answer_bytes b
+  pub there : left * answer_bytes b ≤ length rest
+  pub text_is : done ++ answer_lines (suc k) (decode_answers b left rest) ≡ text
 
-module _ {b : ℕ} {bs old : Bytes} {count at : ℕ} where
-  pub lines_start : at ≤ length old → Lines b bs count old at old at 0
-  lines_start h =
-      let e : count - 0 ≡ count = omega arith in
+zero_left : (n a r : ℕ) → n * a ≤ r → r < a → n ≡ 0
+zero_left zero a r g h = refl
+zero_left (suc n) a r g h = absurd (omega arith)
+
+module _ {b count : ℕ} {old text now : Bytes} {size k last chunk : ℕ} {rest : Bytes} where
+  -- a step of the range and one of the chunks, and the line that was written
+  pub lines_turn : (x : Bytes) {rest' t part : Bytes} {k' last' chunk' n j : ℕ} → Lines b count old text now size k last chunk rest
+      → (last' ≡ last) × ((0 < last - k) × (j ≡ k) × (k' ≡ k + 1)) → chunk' ≡ chunk → (rest ≡ x ++ rest') × (length x ≡ chunk)
+      → t ≡ line (j + 1) (decode_answer b x) → length t ≤ 34 → part ≡ written t (take (length now - size) (drop size now)) → n ≡ length t
+      → Lines b count old text (put_mid size (length now - size) now part) (size + n) k' last' chunk' rest'
+  lines_turn x {rest'} {t} {part} {k'} {n = n} {j = j} l r c h e f p s =
+      let m = l.left - 1 in
+      let left : l.left ≡ suc m = omega arith in
+      let size_b : length x ≡ answer_bytes b = h.1 ∙ l.chunk_is in
+      let a = decode_answer b x in
+      let place : suc k ≡ k' = omega arith in
+      let text_line : line (suc k) a ≡ t = ap (λ z. line z a) (let z : suc k ≡ j + 1 = omega arith in z) ∙ sym e in
       record {
-        within = omega arith;
-        done = [];
-        wrote = wrote_none old at h;
+        done = l.done ++ t;
+        left = m;
+        now_is = ap (put_mid size (length now - size) now) p ∙ written_more old l.done t l.now_is l.size_is;
+        size_is = omega (arith, length-append l.done t);
         near = omega arith;
-        whole = ap₂ (λ (n d : ℕ). answer_lines 1 (decode_answers b n (drop d bs))) e (let z : 0 * answer_bytes b ≡ 0 = omega arith in z);
+        last_is = r.0 ∙ l.last_is;
+        left_is = omega arith;
+        chunk_is = c ∙ l.chunk_is;
+        there = let p = ap (λ (z : ℕ). z * answer_bytes b) left in omega (arith, p, l.there, ap length h.0, length-append x rest');
+        text_is =
+            append_assoc l.done t (answer_lines (suc k') (decode_answers b m rest'))
+            ∙ ap₂ (λ y z. l.done ++ (y ++ answer_lines (suc z) (decode_answers b m rest'))) (sym text_line) (sym place)
+            ∙ ap (λ ls. l.done ++ answer_lines (suc k) ls) (sym (decode_next b m x rest' size_b))
+            ∙ ap₂ (λ d bs. l.done ++ answer_lines (suc k) (decode_answers b d bs)) (sym left) (sym h.0)
+            ∙ l.text_is;
       }
 
-  pub lines_turn : {now now' : Bytes} {next next' k : ℕ} → k < count → Lines b bs count old at now next k
-      → Wrote now next (line (k + 1) (decode_answer b (drop (k * answer_bytes b) bs))) now' next' × (next' ≤ next + 34) → Lines b bs count old at now' next' (k + 1)
-  lines_turn {now} {now'} {next} {next'} {k} h l w =
-      let n = l.near in
-      let m = w.1 in
-      let left : count - k ≡ suc (count - (k + 1)) = omega arith in
-      let tail : drop (answer_bytes b) (drop (k * answer_bytes b) bs) ≡ drop ((k + 1) * answer_bytes b) bs = drop-drop (answer_bytes b) (k * answer_bytes b) bs ∙ ap (λ (j : ℕ). drop j bs) (let z : k * answer_bytes b + answer_bytes b ≡ (k + 1) * answer_bytes b = omega arith in z) in
-      let a = decode_answer b (drop (k * answer_bytes b) bs) in
-      let rest : ℕ → Bytes → Bytes = λ p l. answer_lines p (decode_answers b (count - (k + 1)) l) in
-      record {
-        within = omega arith;
-        done = l.done ++ line (k + 1) a;
-        wrote = wrote_more l.wrote w.0;
-        near = omega arith;
-        whole =
-            append_assoc l.done (line (k + 1) a) (rest (suc (k + 1)) (drop ((k + 1) * answer_bytes b) bs))
-            ∙ ap₂ (λ (p : ℕ) (t : Bytes). l.done ++ (line p a ++ rest (suc p) t)) (add-one k) (sym tail)
-            ∙ ap (λ (n : ℕ). l.done ++ answer_lines (suc k) (decode_answers b n (drop (k * answer_bytes b) bs))) (sym left)
-            ∙ l.whole;
-      }
-
-  pub lines_end : {now : Bytes} {next k : ℕ} → count ≤ k → Lines b bs count old at now next k → Wrote old at (answer_lines 1 (decode_answers b count bs)) now next
-  lines_end {now} {next} {k} h l =
-      let w = l.within in
-      let e : count - k ≡ 0 = omega arith in
-      wrote_same l.wrote
-      (sym (append-nil l.done) ∙ ap (λ (n : ℕ). l.done ++ answer_lines (suc k) (decode_answers b n (drop (k * answer_bytes b) bs))) (sym e) ∙ l.whole)
+  -- where the range or the chunks have ended
+  pub lines_end : Lines b count old text now size k last chunk rest → (last - k ≡ 0) ⊎ (length rest < chunk) → (now ≡ written text old) × (size ≡ length text)
+  lines_end l h =
+      let none : l.left ≡ 0 = elim h [ inl z ↦ omega arith | inr z ↦ zero_left l.left (answer_bytes b) (length rest) l.there (omega (arith, l.chunk_is)) ] in
+      let e : l.done ≡ text = sym (append-nil l.done) ∙ ap (λ d. l.done ++ answer_lines (suc k) (decode_answers b d rest)) (sym none) ∙ l.text_is in
+      (l.now_is ∙ ap (λ t. written t old) e, l.size_is ∙ ap length e)
 
 -- as many answers are read as are asked for
 length_decode : (b k : ℕ) (bs : Bytes) → length (decode_answers b k bs) ≡ k
 length_decode b zero bs = refl
 length_decode b (suc k) bs = ap suc (length_decode b k (drop (answer_bytes b) bs))
 
--- the cases of the report
-module _ (stop terms repeats count b : ℕ) (bs old : Bytes) where
-  -- a memory is left as the report says, and so many bytes of it are the text
-  abbrev pub Reported : Bytes → ℕ → Type 0
-  Reported new p = let text = report_text stop terms repeats count b bs (length old) in (new ≡ written text old) × (p ≡ length text)
-
-  pub report_none : length bs < count * answer_bytes b → Reported old 0
+-- the text of a report that has the answers and the space
+module _ (stop terms repeats count b : ℕ) (bs : Bytes) (space : ℕ) where
+  pub report_whole : count * answer_bytes b ≤ length bs → 80 + count * 34 ≤ space
+      → report_text stop terms repeats count b bs space ≡ head count terms repeats stop ++ answer_lines 1 (decode_answers b count bs)
   unfolding report_text
-  report_none h = rw (lt-leb _ _ h) (refl, refl)
+  report_whole g h = rw (le-leb _ _ g, le-leb _ _ h) (ap (λ n. head n terms repeats stop ++ answer_lines 1 (decode_answers b count bs)) (length_decode b count bs))
 
-  pub report_short : count * answer_bytes b ≤ length bs → length old < 80 + count * 34 → Reported old 0
-  unfolding report_text
-  report_short g h = rw (le-leb _ _ g, lt-leb _ _ h) (refl, refl)
-
-  pub report_whole : {mid new : Bytes} {p q : ℕ} → count * answer_bytes b ≤ length bs → 80 + count * 34 ≤ length old
-      → Wrote old 0 (head count terms repeats stop) mid p → Wrote mid p (answer_lines 1 (decode_answers b count bs)) new q → Reported new q
-  unfolding report_text
-  report_whole g h w v =
-      rw (le-leb _ _ g, le-leb _ _ h)
-      (at_start (wrote_same (wrote_more w v) (ap (λ (n : ℕ). head n terms repeats stop ++ answer_lines 1 (decode_answers b count bs)) (sym (length_decode b count bs)))))
-
--- the cases of `too long`
-module _ (old : Bytes) where
-  abbrev pub Refused : Bytes → ℕ → Type 0
-  Refused new p = let text = too_long (length old) in (new ≡ written text old) × (p ≡ length text)
-
-  pub refused_none : length old < head_space → Refused old 0
-  unfolding too_long
-  refused_none h = rw (lt-leb _ _ h) (refl, refl)
-
-  pub refused_whole : {new : Bytes} {p : ℕ} → head_space ≤ length old → Wrote old 0 (too_long_text ++ end_line) new p → Refused new p
-  unfolding too_long
-  refused_whole h w = rw (le-leb _ _ h) (at_start w)
+-- what the functions' goals need
+pub ruleset laws = (nat_tests, lines_turn)

@@ -1,22 +1,10 @@
 -- The text of what a run came to, and where it is written.
-use Rattle.std.specs.Prelude.{◌≡◌, cond, ◌&&◌, [], ◌++◌, ℕ, ◌+◌, ◌*◌, ◌≤◌, leb, length, take, drop}
-use Rattle.std.specs.Borrow.{MutBor}
-use denote.Triple.Both.{Both}
+use Rattle.std.specs.Prelude.{cond, ◌&&◌, [], ◌++◌, ℕ, ◌+◌, ◌*◌, leb, length, drop}
 use Rattle.theory.specs.Limit.{answer_bytes}
 use Rattle.theory.specs.Record.{Bytes}
 use Rattle.theory.specs.Answer.{Answer, decode_answers}
 use Rattle.theory.specs.Job.{Outcome}
 use Rattle.theory.specs.Program.{decimal, steps_text, terms_text, repeats_text, stop_text, blank, end_line, too_long_text, outcome_text}
-
--- a memory `old` is `new` after a text was written at `at`, with every other byte as it was; `end` is the place after the text
-pub record Wrote (old : Bytes) (at : ℕ) (text new : Bytes) (end : ℕ) : Type 0 where
-  pub fits : at + length text ≤ length old
-  pub now_is : new ≡ take at old ++ text ++ drop (at + length text) old
-  pub end_is : end ≡ at + length text
-
--- the lent memory `out` has a text at `at` afterwards
-abbrev pub WroteAt : Both (MutBor Bytes) (MutBor Bytes) → ℕ → Bytes → ℕ → Type 0
-WroteAt out at text end = Wrote out.entry.now at text out.exit.now end
 
 -- no first line is longer than this, and no line of an answer than that
 abbrev pub head_space : ℕ

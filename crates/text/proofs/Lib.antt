@@ -6,3 +6,4 @@ pub mod Placed
 pub mod Readable
 pub mod Steps
 pub mod Computed
+pub mod Facts

@@ -22,7 +22,7 @@ use Rattle.table.specs.declared.kept.Added.{Added}
 use Rattle.table.specs.declared.kept.Added.TheVariants.{Found, New}
 use Rattle.text.specs.Writing.{Lone, Clean, kept, place_from}
 use Rattle.text.proofs.Records.{empty_clean, clean_more, kept_more, kept_step}
-use Rattle.writer.specs.Places.{row_records, Covered}
+use Rattle.writer.specs.Places.{row_records, Covered, Ready}
 use Rattle.writer.proofs.Frame.{same_kept, same_table}
 
 nothing : {A : Type 0} (l : List A) → length l ≡ 0 → l ≡ []
@@ -44,6 +44,11 @@ part_is (suc a) (suc b) (x ∷ l) h = let e : suc b - suc a ≡ b - a = omega ar
 pub covered_none : {work : Bytes} → Table [] work 0 → Covered [] work 0 0
 unfolding R.kept_as R.column number_length
 covered_none t = record { before = omega arith; table = t; split = refl; rest = empty_clean }
+
+-- nothing is put yet
+pub ready_first : {out work : Bytes} → Table [] work 0 → Ready out work (record { done = 0; terms = 0; rows = 0; covered = 0 })
+unfolding kept cut
+ready_first t = record { within = omega arith; counted = refl; clean = empty_clean; few = omega arith; rows = covered_none t }
 
 -- ---- one record more
 module _ {job work : Bytes} {rows covered : ℕ} (g : Covered job work rows covered) (r : Bytes) (c : Clean job) (l : Lone r) where

@@ -6,23 +6,38 @@ use native.Mathlib.Decide.{dec_le}
 use lib.ListN.{drop}
 use lib.Seq.{drop-drop}
 use Rattle.theory.specs.Record.{Bytes}
-use Rattle.writer.specs.declared.places.Spot.{Spot}
-use Rattle.writer.specs.Places.{Ready, Moved}
+use Rattle.writer.specs.declared.places.Writer.{Writer}
+use Rattle.writer.specs.Written.{SameMemory, Moved}
 
 -- ---- from place to place
-pub moved_none : {out work : Bytes} {s : Spot} → Ready out work s → Moved out out work s s
-moved_none r = record { ready = r; grown = omega arith; past = refl }
-
 pub past_more : (a b c : Bytes) (m n : ℕ) → m ≤ n → drop n c ≡ drop n b → drop m b ≡ drop m a → drop n c ≡ drop n a
 past_more a b c m n h e f =
     let k : n ≡ m + (n - m) = omega arith in
     e ∙ ap (λ (j : ℕ). drop j b) k ∙ sym (drop-drop (n - m) m b) ∙ ap (drop (n - m)) f ∙ drop-drop (n - m) m a ∙ ap (λ (j : ℕ). drop j a) (sym k)
 
-pub moved_on : {old mid new work work' : Bytes} {from s t : Spot} → Moved old mid work from s → Moved mid new work' s t → Moved old new work' from t
-moved_on {old} {mid} {new} {work} {work'} {from} {s} {t} p q =
+pub same_none : (w : Writer) → SameMemory w w
+same_none w = record { out_name = refl; work_name = refl; out_size = refl; work_size = refl }
+
+pub same_on : {a b c : Writer} → SameMemory a b → SameMemory b c → SameMemory a c
+same_on p q = record {
+  out_name = q.out_name ∙ p.out_name;
+  work_name = q.work_name ∙ p.work_name;
+  out_size = q.out_size ∙ p.out_size;
+  work_size = q.work_size ∙ p.work_size;
+}
+
+pub moved_none : (w : Writer) → Moved w w
+moved_none w = record { memory = same_none w; grown = omega arith; past = refl }
+
+pub moved_on : {a b c : Writer} → Moved a b → Moved b c → Moved a c
+moved_on {a} {b} {c} p q =
     let g = p.grown in
     let h = q.grown in
-    record { ready = q.ready; grown = omega arith; past = past_more old mid new s.done t.done h q.past p.past }
+    record {
+      memory = same_on p.memory q.memory;
+      grown = omega arith;
+      past = past_more a.out.now b.out.now c.out.now b.spot.done c.spot.done h q.past p.past;
+    }
 
 -- ---- all numbers from lo on, n of them
 abbrev pub AllFrom : (ℕ → Type 0) → ℕ → ℕ → Type 0

@@ -32,12 +32,12 @@ use Rattle.table.specs.declared.kept.Added.TheVariants.{New}
 use Rattle.words.specs.Words.{piece}
 use Rattle.words.proofs.WordLaws.{piece_length}
 use Rattle.writer.specs.declared.places.Spot.{Spot}
-use Rattle.words.proofs.ReadLaws.{reads_none, reads_some}
+use Rattle.writer.specs.declared.places.Writer.{Writer}
+use Rattle.writer.specs.Written.{room}
 use Rattle.names.specs.declared.kinds.Indices.{Indices}
 use Rattle.names.specs.declared.kinds.Indices.TheVariants as F
 use Rattle.names.specs.Kinds.{kind_at, kinds_end, family_of}
-use Rattle.writer.specs.Places.{so_far, row_records, Covered, Ready, Longer, Grows, Puts, key_bytes, Encoded}
-use Rattle.writer.proofs.Moves.{moved_none}
+use Rattle.writer.specs.Places.{so_far, row_records, Covered, Ready, Longer, Grows, key_bytes, Encoded}
 use Rattle.writer.proofs.Moves.{AllFrom, each}
 use Rattle.writer.proofs.CoverLaws.{part_is, covered_more, covered_table, record_ends, covered_row, found_row, found_rest}
 
@@ -165,91 +165,101 @@ part_set a b out bs h e n =
     ap₂ (λ (x y : Bytes). take a out ++ (x ++ y)) n (Post-is a b out (omega arith) ∙ ap (λ (j : ℕ). drop j out) e)
     ∙ sym (append_assoc (take a out) bs (drop (a + length bs) out)) ∙ sym (sets-eq bs out a h)
 
--- ---- what keep says
-module _ {out work : Bytes} {s : Spot} (r : Bytes) (g : Ready out work s) where
-  pub keep_there : {q : Option ℕ} {k : ℕ} → q ≡ place_from first_terms r (kept (so_far out s)) → q ≡ some k
-      → Puts out out work s (keep (length out) r (so_far out s)) (some (record { number = k; spot = s }))
-  unfolding keep
-  keep_there {q} {k} e f = reads_some (ap (λ (p : Option ℕ). elim p as (λ x. Option Placed) [
-    | none ↦ bind (append (length out) r (so_far out s)) (λ j. some (placed (first_terms + length (kept (so_far out s))) j))
-    | some n ↦ some (placed n (so_far out s))
-  ]) (sym e ∙ f)) (moved_none g)
-
+-- ---- bytes put past the job
+module _ {out work : Bytes} {s : Spot} (g : Ready out work s) (r : Bytes) (f : s.done + length r ≤ length out) {new : Bytes} (n : new ≡ sets out s.done r) where
   so_long : length (so_far out s) ≡ s.done
   so_long = length-take-le s.done out g.within
 
-  missing_is : {q : Option ℕ} → q ≡ place_from first_terms r (kept (so_far out s)) → q ≡ none
-      → keep (length out) r (so_far out s) ≡ bind (append (length out) r (so_far out s)) (λ j. some (placed (first_terms + length (kept (so_far out s))) j))
+  pub so_put : take (s.done + length r) new ≡ so_far out s ++ r
+  so_put = ap (take (s.done + length r)) n ∙ put_front out s.done r f
+
+  so_same : so_far new s ≡ so_far out s
+  so_same =
+      let l = so_long in
+      sym (take-take s.done (s.done + length r) new (omega arith)) ∙ ap (take s.done) so_put ∙ take_at (so_far out s) r s.done l
+
+  piece_put : piece s.done (s.done + length r) new ≡ r
+  piece_put = part_is s.done (s.done + length r) new (omega arith) ∙ ap (drop s.done) so_put ∙ drop_at (so_far out s) r s.done so_long
+
+  pub put_long : length new ≡ length out
+  put_long = ap length n ∙ length-sets out s.done r
+
+  pub past_put : {m : ℕ} → m ≡ s.done + length r → drop m new ≡ drop m out
+  past_put {m} e = ap (λ (k : ℕ). drop k new) e ∙ ap (drop (s.done + length r)) n ∙ put_past out s.done r f ∙ ap (λ (k : ℕ). drop k out) (sym e)
+
+  -- the job is what it was
+  pub still_ready : Ready new work s
+  still_ready =
+      let l = put_long in
+      let w = g.within in
+      record {
+        within = omega arith;
+        counted = g.counted ∙ ap (λ (x : Bytes). length (kept x)) (sym so_same);
+        clean = subst Clean (sym so_same) g.clean;
+        few = g.few;
+        rows = subst (λ (x : Bytes). Covered x work s.rows s.covered) (sym so_same) g.rows;
+      }
+
+  pub put_longer : {end : ℕ} → end ≡ s.done + length r → Lone r → kind_of r < step_kind → Longer new work s end
+  put_longer {end} e lone low =
+      let l = put_long in
+      let w = g.within in
+      record {
+        ready = still_ready;
+        on = omega arith;
+        within = omega arith;
+        lone = subst Lone (sym piece_put ∙ ap (λ (k : ℕ). piece s.done k new) (sym e)) lone;
+        low = subst (λ (x : Bytes). kind_of x < step_kind) (sym piece_put ∙ ap (λ (k : ℕ). piece s.done k new) (sym e)) low;
+      }
+
+-- a record is put at the end, and counted
+pub put_moved : (old : Writer) {out : Bytes} (t : Spot) (r : Bytes) {end : ℕ} → old.spot.done + length r ≤ room old → out ≡ sets old.out.now old.spot.done r → end ≡ old.spot.done + length r → t.done ≡ end
+    → (old.spot.done ≤ t.done) × ((length out ≡ room old) × (drop t.done out ≡ drop t.done old.out.now))
+put_moved old {out} t r {end} f n e d = (omega arith, (put_long old.ready r f n, past_put old.ready r f n (d ∙ e)))
+
+-- ---- what keep says
+module _ {out work : Bytes} {s : Spot} (r : Bytes) (g : Ready out work s) {q : Option ℕ} (e : q ≡ place_from first_terms r (kept (so_far out s))) where
+  pub keep_there : {k : ℕ} → q ≡ some k → some (placed k (so_far out s)) ≡ keep (length out) r (so_far out s)
   unfolding keep
-  missing_is e f = ap (λ (q : Option ℕ). elim q as (λ x. Option Placed) [
+  keep_there {k} f = sym (ap (λ (p : Option ℕ). elim p as (λ x. Option Placed) [
+    | none ↦ bind (append (length out) r (so_far out s)) (λ j. some (placed (first_terms + length (kept (so_far out s))) j))
+    | some n ↦ some (placed n (so_far out s))
+  ]) (sym e ∙ f))
+
+  missing_is : q ≡ none → keep (length out) r (so_far out s) ≡ bind (append (length out) r (so_far out s)) (λ j. some (placed (first_terms + length (kept (so_far out s))) j))
+  unfolding keep
+  missing_is f = ap (λ (q : Option ℕ). elim q as (λ x. Option Placed) [
     | none ↦ bind (append (length out) r (so_far out s)) (λ j. some (placed (first_terms + length (kept (so_far out s))) j))
     | some n ↦ some (placed n (so_far out s))
   ]) (sym e ∙ f)
 
-  pub keep_full : {q : Option ℕ} → q ≡ place_from first_terms r (kept (so_far out s)) → q ≡ none → length out < s.done + length r → Puts out out work s (keep (length out) r (so_far out s)) none
-  keep_full e n f =
-      reads_none (missing_is e n ∙ ap (λ (b : Bool). bind (cond b (some (so_far out s ++ r)) none) (λ j. some (placed (first_terms + length (kept (so_far out s))) j)))
-      (lt-leb (length (so_far out s) + length r) (length out) (let l = so_long in omega arith)))
+  job_long : length (so_far out s) ≡ s.done
+  job_long = length-take-le s.done out g.within
+
+  pub keep_full : q ≡ none → length out < s.done + length r → none ≡ keep (length out) r (so_far out s)
+  keep_full n f =
+      sym (missing_is n ∙ ap (λ (b : Bool). bind (cond b (some (so_far out s ++ r)) none) (λ j. some (placed (first_terms + length (kept (so_far out s))) j)))
+      (lt-leb (length (so_far out s) + length r) (length out) (let l = job_long in omega arith)))
 
   -- the record is put at the end, and counted
-  module _ (f : s.done + length r ≤ length out) {new : Bytes} (n : new ≡ sets out s.done r) where
-    so_put : take (s.done + length r) new ≡ so_far out s ++ r
-    so_put = ap (take (s.done + length r)) n ∙ put_front out s.done r f
-
-    so_same : so_far new s ≡ so_far out s
-    so_same =
-        let l = so_long in
-        sym (take-take s.done (s.done + length r) new (omega arith)) ∙ ap (take s.done) so_put ∙ take_at (so_far out s) r s.done l
-
-    piece_put : piece s.done (s.done + length r) new ≡ r
-    piece_put = part_is s.done (s.done + length r) new (omega arith) ∙ ap (drop s.done) so_put ∙ drop_at (so_far out s) r s.done so_long
-
-    new_long : length new ≡ length out
-    new_long = ap length n ∙ length-sets out s.done r
-
-    pub keep_longer : Lone r → kind_of r < step_kind → Longer new work s (s.done + length r)
-    keep_longer lone low =
-        let l = new_long in
-        let w = g.within in
-        record {
-          ready = record {
-            within = omega arith;
-            counted = g.counted ∙ ap (λ (x : Bytes). length (kept x)) (sym so_same);
-            clean = subst Clean (sym so_same) g.clean;
-            few = g.few;
-            rows = subst (λ (x : Bytes). Covered x work s.rows s.covered) (sym so_same) g.rows;
-          };
-          on = omega arith;
-          within = omega arith;
-          lone = subst Lone (sym piece_put) lone;
-          low = subst (λ (x : Bytes). kind_of x < step_kind) (sym piece_put) low;
-        }
-
-    pub keep_put : {q : Option ℕ} → q ≡ place_from first_terms r (kept (so_far out s)) → q ≡ none → {work' : Bytes} {t : Spot} → Grows new work' (s.done + length r) t
-        → Puts out new work' s (keep (length out) r (so_far out s)) (some (record { number = s.terms + 2; spot = t }))
-    keep_put e m {work'} {t} h =
-        let job = so_far out s in
-        let l = so_long in
-        let cnt = g.counted in
-        let d = h.done_is in
-        let far : so_far new t ≡ job ++ r = ap (λ (m : ℕ). take m new) d ∙ so_put in
-        reads_some
-        (missing_is e m
-        ∙ ap (λ (b : Bool). bind (cond b (some (job ++ r)) none) (λ j. some (placed (first_terms + length (kept job)) j))) (le-leb (length job + length r) (length out) (omega arith))
-        ∙ ap₂ (λ (k : ℕ) (j : Bytes). some (placed k j)) (let q : first_terms + length (kept job) ≡ s.terms + 2 = omega arith in q) (sym far))
-        (record {
-          ready = h.ready;
-          grown = omega arith;
-          past = ap (λ (m : ℕ). drop m new) d ∙ ap (drop (s.done + length r)) n ∙ put_past out s.done r f ∙ ap (λ (m : ℕ). drop m out) (sym d);
-        })
+  pub keep_put : q ≡ none → (f : s.done + length r ≤ length out) → {new : Bytes} → new ≡ sets out s.done r → (t : Spot) → t.done ≡ s.done + length r
+      → some (placed (s.terms + 2) (so_far new t)) ≡ keep (length out) r (so_far out s)
+  keep_put m f {new} n t d =
+      let job = so_far out s in
+      let l = job_long in
+      let cnt = g.counted in
+      let far : so_far new t ≡ job ++ r = ap (λ (j : ℕ). take j new) d ∙ so_put g r f n in
+      sym (missing_is m
+      ∙ ap (λ (b : Bool). bind (cond b (some (job ++ r)) none) (λ j. some (placed (first_terms + length (kept job)) j))) (le-leb (length job + length r) (length out) (omega arith))
+      ∙ ap₂ (λ (k : ℕ) (j : Bytes). some (placed k j)) (let q : first_terms + length (kept job) ≡ s.terms + 2 = omega arith in q) (sym far))
 
 -- ---- a term's record, counted
 module _ {out work : Bytes} {s : Spot} {end : ℕ} (g : Longer out work s end) where
   abbrev last : Bytes
   last = piece s.done end out
 
-  job_long : length (so_far out s) ≡ s.done
-  job_long = length-take-le s.done out g.ready.within
+  spot_long : length (so_far out s) ≡ s.done
+  spot_long = length-take-le s.done out g.ready.within
 
   last_long : length last ≡ end - s.done
   last_long = let o = g.on in let w = g.within in piece_length out s.done end o w
@@ -295,7 +305,7 @@ module _ {out work : Bytes} {s : Spot} {end : ℕ} (g : Longer out work s end) w
   -- with one
   module _ (short : end ≤ max_job) where
     fits_job : length (so_far out s ++ last) ≤ max_job
-    fits_job = let l = job_long in let m = last_long in let o = g.on in let n : length (so_far out s ++ last) ≡ length (so_far out s) + length last = length-append (so_far out s) last in omega arith
+    fits_job = let l = spot_long in let m = last_long in let o = g.on in let n : length (so_far out s ++ last) ≡ length (so_far out s) + length last = length-append (so_far out s) last in omega arith
 
     pub add_ready : TableAs number_bytes (take end out) work s.rows
     add_ready = subst (λ (x : Bytes). TableAs number_bytes x work s.rows) (sym far) (covered_table g.ready.rows last g.ready.clean g.lone no_step fits_job)
@@ -303,13 +313,13 @@ module _ {out work : Bytes} {s : Spot} {end : ℕ} (g : Longer out work s end) w
     pub add_ends : s.done + extent (drop s.done (take end out)) ≤ length (take end out)
     add_ends =
         subst (λ (x : Bytes). s.done + extent (drop s.done x) ≤ length x) (sym far)
-        (subst (λ (n : ℕ). n + extent (drop n (so_far out s ++ last)) ≤ length (so_far out s ++ last)) job_long
+        (subst (λ (n : ℕ). n + extent (drop n (so_far out s ++ last)) ≤ length (so_far out s ++ last)) spot_long
         (record_ends g.ready.rows last g.ready.clean g.lone no_step fits_job))
 
     pub grows_row : {work' : Bytes} {a : Option Added} {limit p : ℕ} → s.rows ≡ s.terms → Grown number_bytes (take end out) work work' s.rows limit s.done 0 a → a ≡ some (New p)
         → Grows out work' end (record { done = end; terms = s.terms + 1; rows = s.terms + 1; covered = end })
     grows_row {work'} {a} {limit} {p} e h d =
-        let j = job_long in
+        let j = spot_long in
         let m = last_long in
         let o = g.on in
         let n : length (so_far out s ++ last) ≡ end = length-append (so_far out s) last ∙ omega arith in
@@ -328,9 +338,6 @@ module _ {out work : Bytes} {s : Spot} (g : Ready out work s) where
 
   covered_is : take s.covered (so_far out s) ≡ take s.covered out
   covered_is = take-take s.covered s.done out covered_on
-
-  pub find_table : TableAs number_bytes (take s.covered out) work s.rows
-  find_table = subst (λ (x : Bytes). TableAs number_bytes x work s.rows) covered_is g.rows.table
 
   pub find_bounds : (s.covered ≤ s.done) × (s.done ≤ length out) × (first_terms + s.rows < 65536)
   unfolding link_bytes

@@ -2,7 +2,7 @@
 use mathlib.Core.Path.{◌≡◌, refl, sym, ap, subst, ◌∙◌}
 use mathlib.Core.Bool.{true, false}
 use mathlib.Core.List.{List, [], ◌∷◌, ◌++◌}
-use Rattle.std.specs.Prelude.{Option, None as none, Some as some}
+use Rattle.std.specs.Prelude.{None as none, Some as some}
 use Prim.Native.Nat.{ℕ, suc, ◌+◌, ◌<◌, ◌≤◌}
 use mir.Syntax.{w16}
 use mir.Val.{Fits}
@@ -14,14 +14,9 @@ use Rattle.theory.specs.Kind.{Op, kind}
 use Rattle.theory.specs.Record.{Bytes, kind_of, step_kind}
 use Rattle.theory.specs.Codes.{all_below}
 use Rattle.text.specs.Reading.{number_end}
-use Rattle.text.specs.Writing.{Lone, Placed, placed, placed_all, keep, record_of, words_bytes, front_bytes, term_record, put_term}
+use Rattle.text.specs.Writing.{Lone, placed, placed_all, keep, record_of, words_bytes, front_bytes, term_record, put_term}
 use Rattle.text.proofs.Encoding.{record_kind, record_lone, words_length}
 use Rattle.text.proofs.Placed.{small}
-use Rattle.writer.specs.declared.places.Spot.{Spot}
-use Rattle.writer.specs.declared.places.Put.{Put}
-use Rattle.words.proofs.ReadLaws.{reads_some}
-use Rattle.writer.specs.Places.{so_far, Ready, Puts}
-use Rattle.writer.proofs.Moves.{moved_none}
 
 -- ---- the record of a term is one, and no step
 module _ (o : Op) (ks : List ℕ) (h : length ks ≤ max_arguments) where
@@ -57,18 +52,11 @@ module _ (room : ℕ) (o : Op) (ks : List ℕ) (job : Bytes) where
   unfolding put_term
   put_high h e = rw (le-ltb (kind o) first_terms h, e)
 
-pub puts_as : {old new work : Bytes} {from : Spot} {q p : Option Placed} {r : Option Put} → Puts old new work from q r → p ≡ q → Puts old new work from p r
-puts_as {old} {new} {work} {from} {q} {p} {r} h e = subst (λ (x : Option Placed). Puts old new work from x r) (sym e) h
-
-pub puts_here : {out work : Bytes} {s : Spot} {q : Option Placed} {k n : ℕ} → Ready out work s → q ≡ some (placed k (so_far out s)) → n ≡ k
-    → Puts out out work s q (some (record { number = n; spot = s }))
-puts_here {out} {work} {s} g e f = reads_some (e ∙ ap (λ (m : ℕ). some (placed m (so_far out s))) (sym f)) (moved_none g)
-
 -- numbers of two bytes
 words_small : (ks : List ℕ) → ((i : ℕ) → Fits w16 (get_or ks i 0)) → all_below number_end ks ≡ true
 words_small [] h = refl
 words_small (k ∷ ks) h = let l = (h 0).fits in rw (lt-ltb k number_end l) (words_small ks (λ i. h (suc i)))
 
-pub puts_record : {old new work : Bytes} {from : Spot} (room : ℕ) (o : Op) (ks : List ℕ) (job : Bytes) {x : Bytes} {r : Option Put} → first_terms ≤ kind o → ((i : ℕ) → Fits w16 (get_or ks i 0)) → x ≡ term_record o ks
-    → Puts old new work from (keep room x job) r → Puts old new work from (put_term room o (placed_all ks job)) r
-puts_record room o ks job h b e p = puts_as p (put_high room o ks job h (words_small ks b) ∙ ap (λ (y : Bytes). keep room y job) (sym e))
+pub put_record : (room : ℕ) (o : Op) (ks : List ℕ) (job : Bytes) {x : Bytes} → first_terms ≤ kind o → ((i : ℕ) → Fits w16 (get_or ks i 0)) → x ≡ term_record o ks
+    → keep room x job ≡ put_term room o (placed_all ks job)
+put_record room o ks job h b e = sym (put_high room o ks job h (words_small ks b) ∙ ap (λ (y : Bytes). keep room y job) (sym e))

@@ -3,14 +3,11 @@ use mathlib.Core.Path.{◌≡◌, refl, sym, ap, ap₂, subst, ◌∙◌}
 use mathlib.Core.Bool.{Bool, true, false, cond}
 use mathlib.Core.List.{[], ◌∷◌, ◌++◌}
 use Rattle.std.specs.Prelude.{Option, None as none, Some as some}
-use Rattle.std.specs.declared.result.Result.{Result}
-use Rattle.std.specs.declared.result.Result.TheVariants.{Ok, Err}
-use Rattle.std.specs.Result.{OkIff, result_ok}
 use Prim.Native.Nat.{ℕ, ◌+◌, ◌-◌, ◌<◌, ◌≤◌}
 use native.Mathlib.Omega.{arith}
 use lib.Dec.{leb, ltb}
 use lib.ListN.{length, take, drop}
-use lib.Seq.{sets, length-sets, length-take-le}
+use lib.Seq.{sets, length-take-le}
 use borrow.Author.Tests.{le-leb, lt-leb, lt-ltb, le-ltb}
 use Rattle.theory.specs.Record.{Bytes, word_bytes, kind_of, step_kind}
 use Rattle.rows.proofs.RowLaws.{sets_append}
@@ -19,20 +16,9 @@ use Rattle.text.specs.Writing.{Clean, Lone, kept, placed, words_bytes, step_reco
 use Rattle.text.proofs.Records.{clean_more, kept_step}
 use Rattle.text.proofs.Encoding.{record_kind, record_lone}
 use Rattle.writer.specs.declared.places.Spot.{Spot}
-use Rattle.words.proofs.ReadLaws.{reads_none, reads_some}
-use Rattle.writer.specs.Places.{so_far, Covered, Ready, Steps}
+use Rattle.writer.specs.Places.{so_far, Covered, Ready}
 use Rattle.writer.proofs.CoverLaws.{covered_step}
-use Rattle.writer.proofs.PlaceLaws.{put_front, put_past}
-
--- a number that has two bytes
-pub two_bytes : {E P : Type 0} {k : ℕ} (r : Result ℕ E) {q : Option ℕ} {n : ℕ} → OkIff r P k → q ≡ result_ok r → q ≡ some n → P × (n ≡ k)
-two_bytes (Ok x) {q} {n} h e f = let d : x ≡ n = cc in (h.0, sym d ∙ h.1)
-two_bytes (Err x) h e f = absurd cc
-
--- one that has more
-pub more_bytes : {E : Type 0} {k b : ℕ} (r : Result ℕ E) {q : Option ℕ} → OkIff r (k < b) k → q ≡ result_ok r → q ≡ none → b ≤ k
-more_bytes (Ok x) h e f = absurd cc
-more_bytes (Err x) h e f = omega (arith, h)
+use Rattle.writer.proofs.PlaceLaws.{so_put, put_long, past_put, still_ready}
 
 -- four numbers in a row
 pub step_stored : (out : Bytes) (d rule k : ℕ)
@@ -49,7 +35,7 @@ step_row out d rule k {a} {b} {c} {new} e f g h =
     h ∙ ap (λ (x : Bytes). sets x (d + 6) (word_bytes k)) (g ∙ ap (λ (x : Bytes). sets x (d + 4) (word_bytes rule)) (f ∙ ap (λ (x : Bytes). sets x (d + 2) (word_bytes 100)) e))
     ∙ step_stored out d rule k
 
-step_long : (rule k : ℕ) → length (step_record rule k) ≡ 8
+pub step_long : (rule k : ℕ) → length (step_record rule k) ≡ 8
 unfolding step_record
 step_long rule k = refl
 
@@ -61,56 +47,71 @@ step_kinded : (rule k : ℕ) → kind_of (step_record rule k) ≡ step_kind
 unfolding step_record
 step_kinded rule k = record_kind step_kind (words_bytes (rule ∷ k ∷ [])) (omega arith)
 
-pub step_over : {out work : Bytes} {s : Spot} (rule k : ℕ) → number_end ≤ k → Steps out out work s (put_step (length out) rule (placed k (so_far out s))) none
+pub step_over : (room : ℕ) (rule k : ℕ) (job : Bytes) → number_end ≤ k → none ≡ put_step room rule (placed k job)
 unfolding put_step
-step_over {out} {work} {s} rule k h = reads_none (rw (le-ltb k number_end h))
+step_over room rule k job h = rw (le-ltb k number_end h)
 
 module _ {out work : Bytes} {s : Spot} (g : Ready out work s) (rule k : ℕ) where
-  job_long : length (so_far out s) ≡ s.done
-  job_long = length-take-le s.done out g.within
+  job_size : length (so_far out s) ≡ s.done
+  job_size = length-take-le s.done out g.within
 
-  pub step_full : length out - s.done < 8 → Steps out out work s (put_step (length out) rule (placed k (so_far out s))) none
+  pub step_full : length out - s.done < 8 → none ≡ put_step (length out) rule (placed k (so_far out s))
   unfolding put_step
   step_full h =
-      let l = job_long in
+      let l = job_size in
       let m = step_long rule k in
       let w = g.within in
       let b : leb (length (so_far out s) + length (step_record rule k)) (length out) ≡ false = lt-leb (length (so_far out s) + length (step_record rule k)) (length out) (omega arith) in
-      reads_none (ap (λ (x : Bool). cond (ltb k number_end) (cond x (some (so_far out s ++ step_record rule k)) none) none) b ∙ never (ltb k number_end))
+      sym (ap (λ (x : Bool). cond (ltb k number_end) (cond x (some (so_far out s ++ step_record rule k)) none) none) b ∙ never (ltb k number_end))
     where
       never : (b : Bool) → cond {A = Option Bytes} b none none ≡ none
       never true = refl
       never false = refl
 
-  pub step_put : k < number_end → 8 ≤ length out - s.done → {new : Bytes} → new ≡ sets out s.done (step_record rule k)
-      → Steps out new work s (put_step (length out) rule (placed k (so_far out s))) (some (record { done = s.done + 8; terms = s.terms; rows = s.rows; covered = s.covered }))
-  unfolding put_step
-  step_put lo h {new} e =
-      let r = step_record rule k in
-      let job = so_far out s in
-      let l = job_long in
-      let m = step_long rule k in
-      let w = g.within in
-      let few = g.few in
-      let cnt = g.counted in
-      let f : s.done + length r ≤ length out = omega arith in
-      let t : Spot = record { done = s.done + 8; terms = s.terms; rows = s.rows; covered = s.covered } in
-      let q : s.done + length r ≡ s.done + 8 = omega arith in
-      let far : so_far new t ≡ job ++ r = ap₂ take (sym q) e ∙ put_front out s.done r f in
-      let ln : length new ≡ length out = ap length e ∙ length-sets out s.done r in
-      let kc : length (kept (so_far new t)) ≡ length (kept job) = ap (λ (x : Bytes). length (kept x)) far ∙ ap length (kept_step job r g.clean (step_lone rule k) (step_kinded rule k)) in
-      let b : leb (length job + length r) (length out) ≡ true = le-leb (length job + length r) (length out) (omega arith) in
-      reads_some
-      (ap₂ (λ (x y : Bool). cond x (cond y (some (job ++ r)) none) none) (lt-ltb k number_end lo) b ∙ ap some (sym far))
-      (record {
-        ready = record {
+  pub step_fits : 8 ≤ length out - s.done → s.done + length (step_record rule k) ≤ length out
+  step_fits h = let m = step_long rule k in let w = g.within in omega arith
+
+  -- the step is put at the end
+  module _ (h : 8 ≤ length out - s.done) {new : Bytes} (e : new ≡ sets out s.done (step_record rule k)) where
+    abbrev next : Spot
+    next = record { done = s.done + 8; terms = s.terms; rows = s.rows; covered = s.covered }
+
+    done_is : s.done + 8 ≡ s.done + length (step_record rule k)
+    done_is = let m = step_long rule k in omega arith
+
+    far : so_far new next ≡ so_far out s ++ step_record rule k
+    far = ap (λ (m : ℕ). take m new) done_is ∙ so_put g (step_record rule k) (step_fits h) e
+
+    pub step_ready : Ready new work next
+    step_ready =
+        let r = step_record rule k in
+        let job = so_far out s in
+        let few = g.few in
+        let cnt = g.counted in
+        let ln : length new ≡ length out = put_long g r (step_fits h) e in
+        let kc : length (kept (so_far new next)) ≡ length (kept job) = ap (λ (x : Bytes). length (kept x)) far ∙ ap length (kept_step job r g.clean (step_lone rule k) (step_kinded rule k)) in
+        record {
           within = omega arith;
           counted = omega arith;
           clean = subst Clean (sym far) (clean_more job r g.clean (step_lone rule k));
           few = omega arith;
           rows = subst (λ (x : Bytes). Covered x work s.rows s.covered) (sym far)
               (covered_step g.rows r g.clean (step_lone rule k) (step_kinded rule k));
-        };
-        grown = omega arith;
-        past = ap₂ drop (sym q) e ∙ put_past out s.done r f ∙ ap (λ (j : ℕ). drop j out) q;
-      })
+        }
+
+    pub step_past : drop (s.done + 8) new ≡ drop (s.done + 8) out
+    step_past = past_put g (step_record rule k) (step_fits h) e done_is
+
+    pub step_size : length new ≡ length out
+    step_size = put_long g (step_record rule k) (step_fits h) e
+
+    pub step_put : k < number_end → some (so_far new next) ≡ put_step (length out) rule (placed k (so_far out s))
+    unfolding put_step
+    step_put lo =
+        let r = step_record rule k in
+        let job = so_far out s in
+        let l = job_size in
+        let m = step_long rule k in
+        let w = g.within in
+        let b : leb (length job + length r) (length out) ≡ true = le-leb (length job + length r) (length out) (omega arith) in
+        sym (ap₂ (λ (x y : Bool). cond x (cond y (some (job ++ r)) none) none) (lt-ltb k number_end lo) b ∙ ap some (sym far))

@@ -1,16 +1,14 @@
--- Where the job stands in the memory for it, and what putting a term changes.
-use Rattle.std.specs.Prelude.{◌≡◌, List, ◌++◌, ℕ, ◌≤◌, ◌<◌, length, take, drop, Option}
+-- Where the job stands in the memory for it.
+use Rattle.std.specs.Prelude.{◌≡◌, List, ◌++◌, ℕ, ◌≤◌, ◌<◌, length, take, drop}
 use Rattle.theory.specs.Limit.{number_bytes}
 use Rattle.theory.specs.Record.{Bytes, kind_of, step_kind}
 use Rattle.theory.specs.Kind.{Op}
-use Rattle.text.specs.Writing.{Lone, Clean, kept, Placed, placed, term_record}
+use Rattle.text.specs.Writing.{Lone, Clean, kept, term_record}
 use Rattle.rows.specs.Layout.{link_bytes}
 use Rattle.rows.specs.Rows.{kept_as}
 use Rattle.table.specs.Buckets.{TableAs}
-use Rattle.words.specs.Tables.{Reads}
 use Rattle.words.specs.Words.{piece}
 use Rattle.writer.specs.declared.places.Spot.{Spot}
-use Rattle.writer.specs.declared.places.Put as put
 
 -- the job so far
 abbrev pub so_far : Bytes → Spot → Bytes
@@ -48,20 +46,6 @@ pub record Longer (out work : Bytes) (s : Spot) (end : ℕ) : Type 0 where
 pub record Grows (out work : Bytes) (end : ℕ) (s : Spot) : Type 0 where
   pub done_is : s.done ≡ end
   pub ready : Ready out work s
-
--- from one place to the next: the job has grown, and nothing past it has changed
-pub record Moved (old new work : Bytes) (from s : Spot) : Type 0 where
-  pub ready : Ready new work s
-  pub grown : from.done ≤ s.done
-  pub past : drop s.done new ≡ drop s.done old
-
--- a term was put, or did not fit
-abbrev pub Puts : Bytes → Bytes → Bytes → Spot → Option Placed → Option put.Put → Type 0
-Puts old new work from expected r = Reads (λ p. placed p.number (so_far new p.spot)) (λ p. Moved old new work from p.spot) expected r
-
--- a step was put, or did not fit
-abbrev pub Steps : Bytes → Bytes → Bytes → Spot → Option Bytes → Option Spot → Type 0
-Steps old new work from expected r = Reads (λ s. so_far new s) (λ s. Moved old new work from s) expected r
 
 -- ---- a record, built in an array
 -- the most bytes of a term's record: its length, its kind, the numbers in the kind, its arguments

@@ -1,8 +1,8 @@
-// The record of a term, built in an array.
-ghost use Rattle.std.specs.Prelude.{◌≡◌, ◌≤◌, length};
+// The record of a term, built in an array, and that of a step.
+ghost use Rattle.std.specs.Prelude.{◌≡◌, ◌+◌, ◌≤◌, length};
 ghost use Rattle.std.proofs.lemmas.List.Edits.{sets};
 ghost use Rattle.theory.specs.Limit.{max_arguments};
-ghost use Rattle.text.specs.Writing.{front_bytes};
+ghost use Rattle.text.specs.Writing.{front_bytes, step_record};
 ghost use Rattle.names.specs.Kinds.{op_of, Known};
 ghost use Rattle.writer.specs.Places.{Encoded, key_bytes};
 
@@ -16,6 +16,12 @@ pub const KEY_BYTES: usize = Term::BODY_AT
     + Term::NUMBER_BYTES
     + Term::VALUE_BYTES
     + Term::NUMBER_BYTES * Term::MAX_ARGUMENTS;
+
+// A step's body is the rule's number and the literals, here one ..
+const LITERAL_AT: usize = Term::BODY_AT + Term::NUMBER_BYTES;
+
+// .. so that it has so many bytes.
+pub const STEP_BYTES: usize = LITERAL_AT + Term::NUMBER_BYTES;
 
 // The bytes of the numbers in a kind.
 fn front_size(kind: Kind) -> usize
@@ -71,4 +77,15 @@ pub fn encode(kind: Kind, numbers: &[u16], key: &mut [u8]) -> usize
         at += Term::NUMBER_BYTES;
     }
     size
+}
+
+// Stores the record of a step with one literal.
+pub fn store_step(out: &mut [u8], at: usize, rule: u32, literal: u16)
+    requires { at + 8 ≤ length out.old }
+    ensures { out.new ≡ sets out.old at (step_record rule literal) }
+{
+    put_number_of::<{ Term::NUMBER_BYTES }>(out, at, STEP_BYTES - Term::NUMBER_BYTES);
+    put_number_of::<{ Term::NUMBER_BYTES }>(out, at + Term::KIND_AT, Term::STEP_KIND as usize);
+    put_number_of::<{ Term::NUMBER_BYTES }>(out, at + Term::BODY_AT, rule as usize);
+    put_number_of::<{ Term::NUMBER_BYTES }>(out, at + LITERAL_AT, usize::from(literal));
 }

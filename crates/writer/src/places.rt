@@ -1,25 +1,22 @@
-// Where the job stands in the memory for it, and terms put there.
-ghost use Rattle.std.specs.Prelude.{◌≡◌, ◌≤◌, ◌<◌, length};
+// What a job is written into, and the terms and steps put there.
+ghost use Rattle.std.specs.Prelude.{◌≡◌, ◌+◌, ◌≤◌, ◌<◌, length};
+ghost use Rattle.std.proofs.lemmas.List.Edits.{sets};
 ghost use Rattle.theory.specs.Limit.{first_terms, number_bytes, max_terms, max_arguments};
 ghost use Rattle.theory.specs.Record.{kind_of, step_kind};
-ghost use Rattle.text.specs.Writing.{Lone, kept, place_from, keep, put_term, put_step, placed, placed_all};
+ghost use Rattle.theory.proofs.Facts.{kept_facts};
+ghost use Rattle.text.specs.Writing.{Lone, kept, place_from, keep, put_term, put_step};
+ghost use Rattle.text.specs.Writing.{placed, placed_all};
+ghost use Rattle.text.proofs.Facts.{Clean-prop};
 ghost use Rattle.names.specs.Kinds.{op_of, Known};
-ghost use Rattle.writer.specs.Places.{so_far, Ready, Longer, Grows, Puts, Steps};
+ghost use Rattle.writer.specs.Places.{Ready, Longer, Grows};
 
-use super::encode::{KEY_BYTES, encode};
+use super::encode::{KEY_BYTES, STEP_BYTES, encode, store_step};
 use names::kinds::Kind;
 use rows::FIRST_PLACE;
-use rows::bytes::put_number_of;
 use rows::layout::OFFSET_BYTES;
 use table::{Added, add_record, find_record};
 use terms::Term;
 use words::tokens::same;
-
-// A step's body is the rule's number and the literals, here one ..
-const LITERAL_AT: usize = Term::BODY_AT + Term::NUMBER_BYTES;
-
-// .. so that it has so many bytes.
-const STEP_BYTES: usize = LITERAL_AT + Term::NUMBER_BYTES;
 
 // The longest part of a job that rows can cover, in bytes: the offset in a row has three.
 const MAX_COVERED: usize = 1 << (8 * OFFSET_BYTES);
@@ -35,11 +32,14 @@ pub struct Spot {
     pub covered: usize,
 }
 
-// A term that was put: its number, and where the job stands then.
-#[derive(Clone, Copy)]
-pub struct Put {
-    pub number: usize,
+// What a job is written into: a memory for its bytes, a work memory for its rows, and where the
+// job stands in them.
+#[derive(Drop)]
+pub struct Writer<'a> {
+    pub out: &'a mut [u8],
+    pub work: &'a mut [u8],
     pub spot: Spot,
+    pub ghost ready: { Ready out.now work.now spot } by { Prim.hlevel (Clean-prop, kept_facts) },
 }
 
 // The number of the term whose record equals `wanted`, the first of the job having the number
@@ -62,24 +62,6 @@ fn walk_records(job: &[u8], first: usize, wanted: &[u8]) -> Option<usize>
         place += 1;
     }
     None
-}
-
-// The number of the term whose record equals `wanted`: by the table over the rows, then by a walk
-// over the records after those that have one.
-fn find_term(wanted: &[u8], out: &[u8], work: &[u8], spot: Spot) -> Option<usize>
-    requires { Ready out.now work.now spot }
-    ensures { result ≡ place_from first_terms wanted.now (kept (so_far out.now spot)) }
-{
-    let covered = spot.covered;
-    if let Some(place) = find_record::<{ Term::NUMBER_BYTES }, { Term::NUMBER_BYTES }>(
-        &out[..covered],
-        work,
-        spot.rows,
-        wanted,
-    ) {
-        return Some(place as usize);
-    }
-    walk_records(&out[covered..spot.done], spot.rows + FIRST_PLACE, wanted)
 }
 
 // Where the job stands with the term whose record is put at its end, up to `end`. It gets a row
@@ -121,78 +103,97 @@ fn cover(out: &[u8], work: &mut [u8], spot: Spot, end: usize) -> Spot
     }
 }
 
-// Puts a term's record at the end, unless an equal one is there; none where it does not fit.
-fn keep(bytes: &[u8], out: &mut [u8], work: &mut [u8], spot: Spot) -> Option<Put>
+// Puts a term's record at the end of the job, and returns where the job stands then.
+fn append(bytes: &[u8], out: &mut [u8], work: &mut [u8], spot: Spot) -> Spot
     requires ready { Ready out.old work.old spot }
+    requires fits { spot.done + length bytes.now ≤ length out.old }
     requires lone { Lone bytes.now }
     requires low { kind_of bytes.now < step_kind }
-    ensures { Puts out.old out.new work.new spot
-        (keep (length out.old) bytes.now (so_far out.old spot)) result }
+    ensures put { out.new ≡ sets out.old spot.done bytes.now }
+    ensures grows { Grows out.new work.new (spot.done + length bytes.now) result }
 {
-    if let Some(number) = find_term(bytes, out, work, spot) {
-        return Some(Put { number, spot });
-    }
     let done = spot.done;
-    if out.len() - done < bytes.len() {
-        return None;
-    }
     let end = done + bytes.len();
     out[done..end].copy_from_slice(bytes);
-    Some(Put {
-        number: spot.terms + FIRST_PLACE,
-        spot: cover(out, work, spot, end),
-    })
+    cover(out, work, spot, end)
 }
 
-// Puts a term of that kind with these arguments, unless an equal one is there; none where it does
-// not fit.
-pub fn put_term(
-    kind: Kind,
-    numbers: &[u16],
-    out: &mut [u8],
-    work: &mut [u8],
-    spot: Spot,
-) -> Option<Put>
-    requires ready { Ready out.old work.old spot }
-    requires known { Known kind }
-    requires few { length numbers.now ≤ max_arguments }
-    ensures { Puts out.old out.new work.new spot
-        (put_term (length out.old) (op_of kind)
-        (placed_all numbers.now (so_far out.old spot))) result }
-{
-    let number = kind.number as usize;
-    if number < FIRST_PLACE {
-        return Some(Put { number, spot });
-    }
-    let mut key = [0u8; KEY_BYTES];
-    let size = encode(kind, numbers, &mut key);
-    keep(&key[..size], out, work, spot)
-}
+impl<'a> Writer<'a> {
+    ghost use Rattle.writer.specs.Written.{job_of, room, Moved, told_put, told_job};
 
-// Puts a step with one literal, and returns where the job stands then; none where it does not fit,
-// or where the literal's number has more than two bytes.
-pub fn put_step(
-    rule: u32,
-    literal: usize,
-    out: &mut [u8],
-    work: &mut [u8],
-    spot: Spot,
-) -> Option<Spot>
-    requires { Ready out.old work.old spot }
-    ensures { Steps out.old out.new work.new spot
-        (put_step (length out.old) rule (placed literal (so_far out.old spot))) result }
-{
-    let number = u16::try_from(literal).ok()?;
-    let done = spot.done;
-    if out.len() - done < STEP_BYTES {
-        return None;
+    // The number of the term whose record equals `wanted`: by the table over the rows, then by a
+    // walk over the records after those that have one.
+    fn find_term(&self, wanted: &[u8]) -> Option<usize>
+        ensures { result ≡ place_from first_terms wanted.now (kept (job_of self.now)) }
+    {
+        let spot = self.spot;
+        if let Some(place) = find_record::<{ Term::NUMBER_BYTES }, { Term::NUMBER_BYTES }>(
+            &self.out[..spot.covered],
+            self.work,
+            spot.rows,
+            wanted,
+        ) {
+            return Some(place as usize);
+        }
+        walk_records(
+            &self.out[spot.covered..spot.done],
+            spot.rows + FIRST_PLACE,
+            wanted,
+        )
     }
-    put_number_of::<{ Term::NUMBER_BYTES }>(out, done, STEP_BYTES - Term::NUMBER_BYTES);
-    put_number_of::<{ Term::NUMBER_BYTES }>(out, done + Term::KIND_AT, Term::STEP_KIND as usize);
-    put_number_of::<{ Term::NUMBER_BYTES }>(out, done + Term::BODY_AT, rule as usize);
-    put_number_of::<{ Term::NUMBER_BYTES }>(out, done + LITERAL_AT, usize::from(number));
-    Some(Spot {
-        done: done + STEP_BYTES,
-        ..spot
-    })
+
+    // Puts a term's record at the end, unless an equal one is there, and returns the term's number;
+    // none where it does not fit.
+    fn keep(&mut self, bytes: &[u8]) -> Option<usize>
+        requires lone { Lone bytes.now }
+        requires low { kind_of bytes.now < step_kind }
+        ensures moved { Moved self.old self.new }
+        ensures puts { told_put self.new result
+            ≡ keep (room self.old) bytes.now (job_of self.old) }
+    {
+        if let Some(number) = self.find_term(bytes) {
+            return Some(number);
+        }
+        let spot = self.spot;
+        if self.out.len() - spot.done < bytes.len() {
+            return None;
+        }
+        self.spot = append(bytes, self.out, self.work, spot);
+        Some(spot.terms + FIRST_PLACE)
+    }
+
+    // Puts a term of that kind with these arguments, unless an equal one is there, and returns its
+    // number; none where it does not fit.
+    pub fn put_term(&mut self, kind: Kind, numbers: &[u16]) -> Option<usize>
+        requires known { Known kind }
+        requires few { length numbers.now ≤ max_arguments }
+        ensures moved { Moved self.old self.new }
+        ensures puts { told_put self.new result
+            ≡ put_term (room self.old) (op_of kind) (placed_all numbers.now (job_of self.old)) }
+    {
+        let number = kind.number as usize;
+        if number < FIRST_PLACE {
+            return Some(number);
+        }
+        let mut key = [0u8; KEY_BYTES];
+        let size = encode(kind, numbers, &mut key);
+        self.keep(&key[..size])
+    }
+
+    // Puts a step with one literal; none where it does not fit, or where the literal's number has
+    // more than two bytes.
+    pub fn put_step(&mut self, rule: u32, literal: usize) -> Option<()>
+        ensures moved { Moved self.old self.new }
+        ensures puts { told_job self.new result
+            ≡ put_step (room self.old) rule (placed literal (job_of self.old)) }
+    {
+        let number = u16::try_from(literal).ok()?;
+        let done = self.spot.done;
+        if self.out.len() - done < STEP_BYTES {
+            return None;
+        }
+        store_step(self.out, done, rule, number);
+        self.spot.done += STEP_BYTES;
+        Some(())
+    }
 }

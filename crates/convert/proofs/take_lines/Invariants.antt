@@ -4,7 +4,7 @@ use Rattle.convert.proofs.TextLaws.{Running}
 use Rattle.convert.proofs.take_lines.Given as goal
 
 abbrev pub invariant-loop-at : goal.invariant-loop-at
-invariant-loop-at l = Running l.text l.initial.out l.out l.initial.work l.work l.at l.place l.s
+invariant-loop-at l = Running l.text l.initial.writer l.writer l.at l.place l.s
 
 abbrev pub decreases-loop-at : goal.decreases-loop-at
 decreases-loop-at l = length l.text - l.at

@@ -1,26 +1,22 @@
--- One case for each way out.
-use Prim.Native.Nat.{◌*◌, ◌≤◌}
-use native.Mathlib.Nat.{mul-le-mul_left}
+-- Where the loop has ended, what is written is the whole text.
+use mathlib.Core.Path.{◌≡◌, sym, ap, ◌∙◌}
+use mathlib.Core.Logic.{inl, inr}
 use native.Mathlib.Omega.{arith}
-use borrow.Author.Rules.{rules}
-use Rattle.report.proofs.Lines.{report_none, report_short, report_whole}
+use lib.ListN.{length}
+use Rattle.report.specs.Text.{report_text, written}
+use Rattle.report.proofs.Lines.{lines_end, report_whole}
 use Rattle.report.proofs.report.Goals as goal
 
-pub overflow_mul-n : goal.overflow_mul-n
-overflow_mul-n c = let most : c.args.count * c.args.bytes ≤ c.args.count * 4 = mul-le-mul_left c.args.count c.requires.few_bytes in
-    search rules
+the_end : (c : goal.In-None) → let a = c.args in let text = report_text a.stop a.terms a.repeats a.count a.bytes a.answers.now (length a.out.now) in
+    (c.loop-k.out ≡ written text a.out.now) × (c.loop-k.size ≡ length text)
+the_end c =
+    let a = c.args in
+    let e = report_whole a.stop a.terms a.repeats a.count a.bytes a.answers.now (length a.out.now) (omega arith) (omega arith) in
+    let l = lines_end c.loop-k.invariant (elim c.in-None.ensures.steps [ inl s ↦ inl s.1.1.0 | inr s ↦ inr s.1.1.0 ]) in
+    (l.0 ∙ ap (λ t. written t a.out.now) (sym e), l.1 ∙ ap length (sym e))
 
-pub returns-then-answers-n : goal.returns-then-answers-n
-returns-then-answers-n c = let a = c.args in
-    let r = report_none a.stop a.terms a.repeats a.count a.bytes a.answers.now a.out.now (omega arith) in
-    record { memory = r.0; size = r.1 }
+pub returns-clause-memory : goal.returns-clause-memory
+returns-clause-memory c = (the_end c).0
 
-pub returns-then-out-n : goal.returns-then-out-n
-returns-then-out-n c = let a = c.args in
-    let r = report_short a.stop a.terms a.repeats a.count a.bytes a.answers.now a.out.now (omega arith) (omega arith) in
-    record { memory = r.0; size = r.1 }
-
-pub returns : goal.returns
-returns c = let a = c.args in
-    let r = report_whole a.stop a.terms a.repeats a.count a.bytes a.answers.now a.out.now (omega arith) (omega arith) c.put_head-lines.ensures.wrote c.put_lines.ensures in
-    record { memory = r.0; size = r.1 }
+pub returns-clause-size : goal.returns-clause-size
+returns-clause-size c = (the_end c).1

@@ -9,5 +9,5 @@ decreases-read_arguments l = l.nesting + l.nesting + 1
 abbrev pub decreases-read_term : goal.decreases-read_term
 decreases-read_term l = l.nesting + l.nesting
 
-abbrev pub invariant-read_arguments-loop-count : goal.invariant-read_arguments-loop-count
-invariant-read_arguments-loop-count l = Going l.line l.initial.out l.out l.initial.work l.work l.initial.spot (declared_in l.declarations) l.nesting l.numbers l.count l.rest l.spot
+abbrev pub invariant-read_arguments-loop : goal.invariant-read_arguments-loop
+invariant-read_arguments-loop l = Going l.line l.initial.writer l.writer (declared_in l.declarations) l.nesting l.numbers.items l.counter l.rest

@@ -1,5 +1,0 @@
--- The function calls itself on the tenth part of n, which is less.
-use Rattle.report.proofs.+put_number.Given as goal
-
-abbrev pub decreases-put_number : goal.decreases-put_number
-decreases-put_number l = l.n
