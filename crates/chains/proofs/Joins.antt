@@ -277,9 +277,6 @@ module _ (p : Past) (premises : Args) where
   module _ {l r : ℕ} (h : Joining p premises l r) (s : Option (ℕ × ℕ)) (i : ℕ)
       (below : IfSome s (λ q. (q.0 < first_terms + p.terms.rows) × (q.1 < first_terms + p.terms.rows)))
       (e : option_map (sides_of p) s ≡ sides_told p premises i) where
-    pub shows_none : s ≡ none → false ≡ is_equality (kept_term p.terms l) (kept_term p.terms r) (sides_told p premises i)
-    shows_none f = ap (is_equality (kept_term p.terms l) (kept_term p.terms r)) (ap (option_map (sides_of p)) (sym f) ∙ e)
-
     module _ {a b : ℕ} (f : s ≡ some (a, b)) where
       sides_are : some (kept_term p.terms a, kept_term p.terms b) ≡ sides_told p premises i
       sides_are = ap (option_map (sides_of p)) (sym f) ∙ e

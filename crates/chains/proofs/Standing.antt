@@ -143,10 +143,6 @@ module _ (job work memory : Bytes) (n answered : ℕ) where
       map_at (λ (m : Mark). standing (origins job work n) m.0 m.1) (column (mark_at job memory) answered) k
       ∙ ap (either none (λ (m : Mark). some (standing (origins job work n) m.0 m.1))) (column_at (mark_at job memory) (0, none) answered k h)
 
-  -- no number 0
-  pub premise_none : {number : ℕ} → number ≡ 0 → none ≡ premise_place E number
-  premise_none {number} e = rw e
-
   module _ {number : ℕ} (some_number : number ≡ 0 → ⊥) where
     next : number ≡ suc (number - 1)
     next = omega arith

@@ -5,21 +5,23 @@
 mod joining;
 pub mod premises;
 
-ghost use Rattle.std.specs.Prelude.{◌≡◌, ◌+◌, ◌<◌, cond, option_map, Some as some};
+ghost use Rattle.std.specs.Prelude.{◌≡◌, ◌+◌, ◌<◌, cond, Some as some};
 ghost use Rattle.theory.specs.Limit.{first_terms};
 ghost use Rattle.theory.specs.Optional.{is_some};
 ghost use Rattle.theory.specs.Verdict.{wrong_form, premise_broken};
 ghost use Rattle.theory.specs.RuleTable.{ChainRule as Rule, chain_rule_at};
 ghost use Rattle.theory.specs.Chain.{joined};
 ghost use Rattle.terms.specs.Decoded.{Inside};
+ghost use Rattle.terms.specs.declared.stop.Stop.TheVariants as S;
 ghost use Rattle.store.specs.KeptTerms.{kept_term};
 ghost use Rattle.operand_rules.specs.Rules.{verdict_of};
-ghost use Rattle.chains.specs.Rules.{rule_of};
+ghost use Rattle.chains.specs.Rules.{rule_of, Decodes};
 ghost use Rattle.chains.specs.Told.{premises_told, joins_told, Joining};
 
 use crate::joining::{cong, symm, trans};
 use crate::premises::Past;
 use operand_rules::Verdict;
+use terms::stop::Stop;
 use terms::{Args, Term};
 
 // How premises may join.
@@ -30,19 +32,30 @@ pub enum ChainRule {
     Cong,
 }
 
-impl ChainRule {
-    ghost use Rattle.chains.specs.Rules.{rule_of};
+// A number that no rule of chains has.
+#[derive(Clone, Copy, Debug, PartialEq, Eq)]
+pub struct UnknownRule(pub u32);
 
-    // The rule with that number, if there is one.
-    pub fn numbered(number: u32) -> Option<ChainRule>
-        ensures { option_map rule_of result ≡ chain_rule_at number }
-    {
+impl TryFrom<u32> for ChainRule {
+    type Error = UnknownRule;
+
+    ghost try_from_gives = { Decodes };
+
+    fn try_from(number: u32) -> Result<Self, UnknownRule> {
         match number {
-            31 => Some(ChainRule::Symm),
-            32 => Some(ChainRule::Trans),
-            33 => Some(ChainRule::Cong),
-            _ => None,
+            31 => Ok(ChainRule::Symm),
+            32 => Ok(ChainRule::Trans),
+            33 => Ok(ChainRule::Cong),
+            _ => Err(UnknownRule(number)),
         }
+    }
+}
+
+impl From<UnknownRule> for Stop {
+    ghost from_gives = { λ _ stop. stop ≡ S.NoRule };
+
+    fn from(_unknown: UnknownRule) -> Self {
+        Stop::NoRule
     }
 }
 
@@ -96,8 +109,8 @@ pub fn chain_verdict(past: &Past, number: u32, premises: Args, literal: u32) -> 
         → verdict_of result ≡ joined by (premises_told past.now premises)
         (kept_term past.now.terms literal) }
 {
-    match ChainRule::numbered(number) {
-        Some(rule) => verdict_by(past, rule, premises, literal),
-        None => Verdict::WrongForm,
+    match ChainRule::try_from(number) {
+        Ok(rule) => verdict_by(past, rule, premises, literal),
+        Err(_) => Verdict::WrongForm,
     }
 }

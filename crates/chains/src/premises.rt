@@ -20,18 +20,17 @@ fn claimed(job: &[u8], at: usize) -> Option<u32>
     requires { whole (drop at job.now) ≡ true }
     ensures { result ≡ claimed_at job.now at }
 {
-    let Ok(item) = Term::read(job, at) else {
-        return None;
-    };
-    match item {
-        Item::Step(_, literals) => {
+    match Term::read(job, at) {
+        Ok(Item::Step(_, literals)) => {
             if literals.count == 0 {
                 return None;
             }
             Some(Term::argument(job, literals, 0))
         }
-        Item::Chain(_, _, literal) => Some(literal),
-        Item::Term(_) | Item::Back(_) => None,
+        Ok(Item::Chain(_, _, literal)) => Some(literal),
+        Ok(Item::Term(_)) => None,
+        Ok(Item::Back(_)) => None,
+        Err(_) => None,
     }
 }
 

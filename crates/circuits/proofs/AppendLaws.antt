@@ -5,7 +5,7 @@ use mathlib.Core.Logic.{◌⊎◌, inl, inr}
 use Prim.Native.Nat.{ℕ, zero, suc, ◌+◌, ◌-◌, ◌<◌, ◌≤◌}
 use native.Mathlib.Numerals.{add-one}
 use native.Mathlib.Omega.{arith}
-use lib.ListN.{length, drop, get_or, replicate, length-append, drop_of_length-le}
+use lib.ListN.{length, drop, get_or, replicate, length-append}
 use lib.Seq.{append_snoc, drop-cons}
 use Rattle.theory.specs.Circuit.{zip_with, last}
 use Rattle.theory.specs.Move.{bits}
@@ -47,14 +47,7 @@ zip_shorter f [] ys = omega arith
 zip_shorter f (x ∷ xs) [] = omega arith
 zip_shorter f (x ∷ xs) (y ∷ ys) = omega (arith, zip_shorter f xs ys)
 
--- ---- a gate at each bit of a list, the first i of which are done
-module _ (f : ℕ → ℕ) (xs : List ℕ) (i : ℕ) where
-  pub map_next : {v : ℕ} → v ≡ f (get_or xs i 0) → i < length xs → map f (drop i xs) ≡ v ∷ map f (drop (i + 1) xs)
-  map_next e h = rw (add-one, e) (ap (map f) (drop-cons xs i 0 h))
-
-  pub map_none : length xs ≤ i → map f (drop i xs) ≡ []
-  map_none h = ap (map f) (drop_of_length-le xs h)
-
+-- ---- the bits of a list from bit i on
 pub drop_next : (xs : List ℕ) (i : ℕ) → i < length xs → length (drop i xs) ≡ suc (length (drop (i + 1) xs))
 drop_next xs i h = rw add-one (ap length (drop-cons xs i 0 h))
 

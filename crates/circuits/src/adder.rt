@@ -1,6 +1,7 @@
 // Addition, and what is built of it.
 ghost use Rattle.std.specs.Prelude.{◌≡◌, ◌≤◌, length};
-ghost use Rattle.theory.specs.Circuit.{sum_bit, next_carry, ripple_carry_adder, last_carry, carry_out, negate};
+ghost use Rattle.theory.specs.Circuit.{sum_bit, next_carry, ripple_carry_adder};
+ghost use Rattle.theory.specs.Circuit.{last_carry, carry_out, negate};
 ghost use Rattle.store.specs.Lookup.{gates};
 
 use crate::bits::{Bits, nots, same_bits};

@@ -1,15 +1,14 @@
 -- What a term asks is what theory's sorts and depths ask of its kind.
 use mathlib.Core.Path.{◌≡◌, refl, sym, ap, ap₂, ◌∙◌}
-use mathlib.Core.Bool.{Bool, true, false, ◌&&◌, cond}
+use mathlib.Core.Bool.{Bool, true, ◌&&◌}
 use mathlib.Core.List.{List, map, map-map}
-use Prim.Native.Nat.{ℕ, suc, ◌+◌, ◌-◌, ◌*◌}
+use Prim.Native.Nat.{ℕ, suc, ◌+◌, ◌-◌}
 use native.Mathlib.Numerals.{add-one}
 use lib.Dec.{leb, ltb}
 use lib.ListN.{length, length-map}
-use Rattle.theory.specs.Limit.{max_width}
 use Rattle.theory.specs.Kind.{Op, arity, takes}
 use Rattle.theory.specs.Term.{fold, from_list}
-use Rattle.theory.specs.Sort.{Sort, bool, bv, guard, all_are, alike, same_sort, fitting, result_sort, sort_op, sort_of, sorts_of, first, is_bv_sort, sort_width, is_width}
+use Rattle.theory.specs.Sort.{Sort, bool, bv, guard, all_are, alike, fitting, result_sort, sort_op, sort_of, sorts_of, first, is_bv_sort, sort_width}
 use Rattle.theory.specs.Depth.{depth, depth_op}
 use Rattle.theory.specs.Plain.{Plain}
 use Rattle.theory.proofs.Blast.{folds_from_list}
@@ -18,7 +17,7 @@ use Rattle.terms.specs.declared.Term.{Term as Decoded}
 use Rattle.terms.specs.declared.Term.TheVariants as D
 use Rattle.terms.specs.Decoded.{op_of}
 use Rattle.intern.specs.declared.kinds.Asks.{Asks}
-use Rattle.intern.specs.declared.kinds.Asks.TheVariants.{Bools, Same, Bit, Bits, Alike, Extract, Extend, Copies}
+use Rattle.intern.specs.declared.kinds.Asks.TheVariants.{Bools, Bits, Alike}
 use Rattle.store.specs.Sorts.{sorts_at, deepest_at}
 use Rattle.intern.specs.Kinds.{asks_of, asked_sort, asked_depth}
 
@@ -104,26 +103,11 @@ module _ (ss : List Sort) {a : Asks} where
   pub asked : {b : Asks} → a ≡ b → {s : Sort} → s ≡ asked_sort b ss → s ≡ asked_sort a ss
   asked e f = f ∙ ap (λ (x : Asks). asked_sort x ss) (sym e)
 
-  pub asked_bit : {i : ℕ} → a ≡ Bit i → {t : Sort} → t ≡ first ss → {s : Sort} → s ≡ guard (is_bv_sort t && ltb i (sort_width t)) bool → s ≡ asked_sort a ss
-  asked_bit {i} e g f = asked e (f ∙ ap (λ (t : Sort). guard (is_bv_sort t && ltb i (sort_width t)) bool) g)
-
   pub asked_bits : a ≡ Bits → {b : Bool} → b ≡ all_are bool ss → {m : ℕ} → m ≡ length ss → {s : Sort} → s ≡ guard b (bv m) → s ≡ asked_sort a ss
   asked_bits e g h f = asked e (f ∙ ap₂ (λ (b : Bool) (m : ℕ). guard b (bv m)) g h)
 
   pub asked_alike : a ≡ Alike → {b : Bool} → b ≡ alike ss → {t : Sort} → t ≡ first ss → {s : Sort} → s ≡ guard b t → s ≡ asked_sort a ss
   asked_alike e g h f = asked e (f ∙ ap₂ guard g h)
-
-  pub asked_extract : {i j : ℕ} → a ≡ Extract i j → {t : Sort} → t ≡ first ss
-      → {s : Sort} → s ≡ guard (is_bv_sort t && (leb j i && ltb i (sort_width t))) (bv (i - j + 1)) → s ≡ asked_sort a ss
-  asked_extract {i} {j} e g f = asked e (f ∙ ap (λ (t : Sort). guard (is_bv_sort t && (leb j i && ltb i (sort_width t))) (bv (i - j + 1))) g)
-
-  pub asked_extend : {k : ℕ} → a ≡ Extend k → {t : Sort} → t ≡ first ss
-      → {s : Sort} → s ≡ guard (is_bv_sort t && leb (sort_width t + k) max_width) (bv (sort_width t + k)) → s ≡ asked_sort a ss
-  asked_extend {k} e g f = asked e (f ∙ ap (λ (t : Sort). guard (is_bv_sort t && leb (sort_width t + k) max_width) (bv (sort_width t + k))) g)
-
-  pub asked_copies : {k : ℕ} → a ≡ Copies k → {t : Sort} → t ≡ first ss
-      → {s : Sort} → s ≡ guard (is_bv_sort t && is_width (k * sort_width t)) (bv (k * sort_width t)) → s ≡ asked_sort a ss
-  asked_copies {k} e g f = asked e (f ∙ ap (λ (t : Sort). guard (is_bv_sort t && is_width (k * sort_width t)) (bv (k * sort_width t))) g)
 
 module _ (s : Sort) (m : ℕ) {a : Asks} where
   pub depth_of : {b : Asks} → a ≡ b → {x : ℕ} → x ≡ asked_depth b s m → x ≡ asked_depth a s m
@@ -131,12 +115,6 @@ module _ (s : Sort) (m : ℕ) {a : Asks} where
 
   pub depth_gate : a ≡ Bools → {x : ℕ} → x ≡ m → x + 1 ≡ asked_depth a s m
   depth_gate e {x} f = depth_of e (add-one x ∙ ap suc f)
-
-  pub depth_same : a ≡ Same → {t : Sort} → t ≡ s → t ≡ bool → {x : ℕ} → x ≡ m → x + 1 ≡ asked_depth a s m
-  depth_same e g h {x} f = depth_of e (add-one x ∙ ap suc f ∙ ap (λ (b : Bool). cond b (suc m) 0) (sym (ap (λ (t : Sort). same_sort t bool) (sym g ∙ h))))
-
-  pub depth_other : a ≡ Same → {t : Sort} → t ≡ s → same_sort t bool ≡ false → 0 ≡ asked_depth a s m
-  depth_other e g h = depth_of e (ap (λ (b : Bool). cond b (suc m) 0) (sym (ap (λ (t : Sort). same_sort t bool) (sym g) ∙ h)))
 
 -- ---- the sort and the depth of a tree, from those of its arguments
 sorts_are : (list : Plain) (ks : List ℕ) → sorts_of (from_list (map (tree_at list) ks)) ≡ sorts_at list ks

@@ -1,6 +1,6 @@
 -- Terms that ask for Bools: one look at each argument says whether it is one, and how deep it is.
 use mathlib.Core.Path.{◌≡◌, refl, sym, ap, subst, ◌∙◌}
-use mathlib.Core.Bool.{Bool, true, false, ◌&&◌, cond}
+use mathlib.Core.Bool.{Bool, true, false, cond}
 use mathlib.Core.List.{List}
 use Prim.Native.Nat.{ℕ, suc, ◌+◌, ◌<◌, ◌≤◌, max}
 use native.Mathlib.Nat.{add-zero}
@@ -10,7 +10,7 @@ use lib.ListN.{length, get_or, length-map}
 use Rattle.theory.proofs.Basics.{some_inj}
 use Rattle.theory.specs.Limit.{first_terms}
 use Rattle.theory.specs.Kind.{arity, takes}
-use Rattle.theory.specs.Sort.{Sort, bool, guard, good, same_sort, all_are, first, sort_of}
+use Rattle.theory.specs.Sort.{Sort, bool, guard, same_sort, all_are, first, sort_of}
 use Rattle.theory.specs.Depth.{depth}
 use Rattle.theory.specs.Record.{Bytes}
 use Rattle.theory.specs.Plain.{Plain}
@@ -27,9 +27,9 @@ use Rattle.store.specs.Store.{Store, listed}
 use Rattle.store.specs.Sorts.{sort_read, sorts_at, deepest_at}
 use Rattle.intern.specs.declared.kinds.SortAndDepth.{SortAndDepth}
 use Rattle.intern.specs.declared.kinds.Asks.{Asks}
-use Rattle.intern.specs.declared.kinds.Asks.TheVariants.{Bools, Same, Bits}
+use Rattle.intern.specs.declared.kinds.Asks.TheVariants.{Bools, Bits}
 use Rattle.intern.specs.Kinds.{asks_of, asked_sort, asked_depth, deepest_bool, of_bools, sort_in, SameAsked, SortDepthOf}
-use Rattle.intern.proofs.Arguing.{AllAre, are_start, are_turn, are_not, are_end, Deepening, deep_start, deep_turn, deep_end}
+use Rattle.intern.proofs.Arguing.{AllAre, are_turn, are_not, are_end, Deepening, deep_turn, deep_end}
 use Rattle.intern.proofs.Asking.{asked, asked_bits, depth_of, depth_gate, sort_is, depth_is}
 
 -- ---- no depth is missing
@@ -56,9 +56,6 @@ pub record DeepeningBools (list : Plain) (ks : List ℕ) (most i : ℕ) : Type 0
   pub deep : Deepening list ks most i
 
 module _ {list : Plain} {ks : List ℕ} where
-  pub bools_start : DeepeningBools list ks 0 0
-  bools_start = record { are = are_start; deep = deep_start }
-
   -- argument i, by its depth where it is a Bool
   module _ {most i : ℕ} (p : DeepeningBools list ks most i) (h : i < length ks) {x : ℕ} (e : x ≡ get_or ks i 0) {q : Option ℕ} (f : q ≡ bool_depth (tree_at list x)) where
     sort_at : sort_of (tree_at list x) ≡ sort_of (tree_at list (get_or ks i 0))
@@ -81,19 +78,9 @@ module _ {list : Plain} {ks : List ℕ} where
   bools_end p h = ap some (deep_end p.deep h) ∙ ap (λ (b : Bool). cond b (some (deepest_at list ks)) none) (are_end p.are h)
 
 -- ---- what comes to the same
-pub asks_itself : {a : Asks} {ss : List Sort} → SameAsked a a ss
-asks_itself = record { sorts = refl; depths = λ d. refl }
-
 -- once it is known what is asked
 pub asks_as : {a b x : Asks} {ss : List Sort} → x ≡ a → SameAsked x b ss → SameAsked a b ss
 asks_as {a} {b} {x} {ss} e s = subst (λ (y : Asks). SameAsked y b ss) e s
-
--- an equality whose first side is a Bool
-pub asks_bools : {a : Asks} {ss : List Sort} → a ≡ Same → bool ≡ first ss → SameAsked a Bools ss
-asks_bools {a} {ss} e f = subst (λ (x : Asks). SameAsked x Bools ss) (sym e) (record {
-  sorts = ap (λ (s : Sort). guard (good s && all_are s ss) bool) f;
-  depths = λ d. ap (λ (s : Sort). cond (same_sort s bool) (suc d) 0) f;
-})
 
 -- the depth of what has one
 abbrev pub depth_in : Option SortAndDepth → ℕ

@@ -9,7 +9,7 @@ use native.Mathlib.Omega.{arith}
 use native.Mathlib.Decide.{ℕ_discrete, dec_le}
 use lib.Dec.{T, leb, ltb, eqb, leb→le}
 use lib.Ieee.Fits.{and_r}
-use lib.ListN.{length, take, drop, get_or, length-take, length-append, length-drop, get_or-append}
+use lib.ListN.{length, take, drop, get_or, length-take, length-append, get_or-append}
 use Rattle.std.specs.Prelude.{slice_get as get_elem?}
 use lib.Seq.{take-take, get_or-append_seam, get_or-take, drop-append-le, drop-drop}
 use borrow.Author.Tests.{eqb-true, eqb-false, le-leb, lt-leb}
@@ -45,6 +45,7 @@ use Rattle.table.proofs.Face.{measures_at, place_stands, place_absent}
 use Rattle.rows.proofs.RowLaws.{and_first, length_column, length_kept, link_whole, number_same, rows_small}
 use Rattle.terms.specs.declared.Term.{Term as Decoded}
 use Rattle.terms.specs.Decoded.{op_of, operands_of, arguments_of}
+use Rattle.terms.specs.Numbered.{code_in}
 use Rattle.store.specs.Measure.{measure, measure_in}
 use Rattle.store.proofs.Measuring.{measure_is, measure_small}
 use Rattle.store.specs.Store.{Store, stored, listed, records}
@@ -59,7 +60,7 @@ use Rattle.store.specs.declared.gates.Lookup.{Lookup}
 use Rattle.store.specs.declared.gates.Kept.{Kept}
 use Rattle.store.specs.Lookup.{Finds}
 use Rattle.terms.specs.declared.stop.Stop.TheVariants as S
-use Rattle.intern.specs.Interning.{Answer, Offered, Taken, code_of, rows_after, offsets_after, bytes_after, with_term, answer_for, list_after as list_after_of}
+use Rattle.intern.specs.Interning.{Answer, Offered, Taken, rows_after, offsets_after, bytes_after, with_term, answer_for, list_after as list_after_of}
 use Rattle.store.proofs.Lookup.{says_count}
 use Rattle.intern.proofs.Asking.{tree_depth}
 use Rattle.intern.proofs.Bools.{deepest_small}
@@ -78,10 +79,6 @@ whole_sound job at b w =
     let z : word (take (extent bs) bs) ≡ word bs = ap little_endian (take-take 2 (extent bs) bs (omega arith)) in
     record { bytes = take_bytes (extent bs) bs (drop_bytes at job b); size = l ∙ ap (λ (n : ℕ). 2 + n) (sym z); long = omega arith }
 
--- its length and its kind lie in the job
-pub kind_inside : (job : Bytes) (at : ℕ) → whole (drop at job) ≡ true → at + 4 ≤ length job
-kind_inside job at w = let p = whole_parts (drop at job) w in let x = p.low in let y = p.fit in let d = length-drop at job in omega arith
-
 kind_at : (job : Bytes) (at : ℕ) → whole (drop at job) ≡ true → number_at job (at + number_bytes) number_bytes ≡ kind_of (record_at job at)
 kind_at job at w =
     let p = whole_parts (drop at job) w in
@@ -89,9 +86,6 @@ kind_at job at w =
     let y = p.fit in
     sym (number_same 2 (record_at job at) (drop at job) 2 (λ j b. get_or-take (extent (drop at job)) (drop at job) (2 + j) 0 (omega arith))
     ∙ ap (λ (bs : Bytes). little_endian (take 2 bs)) (drop-drop 2 at job))
-
-pub whole_inside : (job : Bytes) (at : ℕ) → whole (drop at job) ≡ true → at + extent (drop at job) ≤ length job
-whole_inside job at w = let p = whole_parts (drop at job) w in let x = p.low in let y = p.fit in let d = length-drop at job in omega arith
 
 -- ---- is the record there?
 record There (list : Plain) (r : Bytes) : Type 0 where
@@ -268,7 +262,7 @@ module _ (nb limit : ℕ) (x : Bytes) (rows : List Bytes) (len : ℕ) where
       go false c f d = absurd (cc)
 
 -- ---- a term that is offered
-code_law : (sorted there roomy : Bool) (n : ℕ) → code_of (answer_for sorted there roomy n) ≡ first_fault ((sorted, 7) ∷ (there || roomy, 8) ∷ [])
+code_law : (sorted there roomy : Bool) (n : ℕ) → code_in (answer_for sorted there roomy n) ≡ first_fault ((sorted, 7) ∷ (there || roomy, 8) ∷ [])
 unfolding answer_for
 code_law true true roomy n = refl
 code_law true false true n = refl
@@ -397,7 +391,7 @@ module _ (limits : Limits) {job work : Bytes} {n at : ℕ} {t : Decoded} (o : Of
       → after ≡ bytes_after answer work (with_term job work n at (tree_of (listed job work n) (op_of t) (arguments_of job t)))
       → Store job after (rows_after answer n) → listed job after (rows_after answer n) ≡ list_after_of answer (listed job work n) (feed (number_length job) (listed job work n) (record_at job at))
       → offsets (link_size job) after (rows_after answer n) ≡ offsets_after answer at (offsets (link_size job) work n) → Taken limits job work after n at t answer
-  taken {answer} e m s l f = record { answer_is = e; code_is = ap code_of e ∙ code_law _ _ _ n; memory_is = m; store = s; listed_is = l; offsets_are = f }
+  taken {answer} e m s l f = record { answer_is = e; code_is = ap code_in e ∙ code_law _ _ _ n; memory_is = m; store = s; listed_is = l; offsets_are = f }
 
   -- it has no sort, or is too wide
   pub taken_unsorted : {s : Sort} → s ≡ sort_of (tree_of (listed job work n) (op_of t) (arguments_of job t)) → fits limits s ≡ false → Taken limits job work work n at t (Err S.Unsorted)

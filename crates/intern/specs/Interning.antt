@@ -12,7 +12,7 @@ use Rattle.terms.specs.declared.Term.{Term}
 use Rattle.terms.specs.declared.Item.TheVariants as I
 use Rattle.terms.specs.Framing.{record_at}
 use Rattle.terms.specs.Decoded.{op_of, operands_of, arguments_of, item_of}
-use Rattle.terms.specs.Numbered.{stop_code}
+use Rattle.terms.specs.Numbered.{code_in}
 use Rattle.terms.specs.declared.stop.Stop.{Stop}
 use Rattle.terms.specs.declared.stop.Stop.TheVariants.{Unsorted, Spent}
 use Rattle.rows.specs.Layout.{link_size}
@@ -50,11 +50,6 @@ limits_of l = stated l.width l.terms
 -- what `intern` returns
 abbrev pub Answer : Type 0
 Answer = Result Interned Stop
-
--- document 01's code of it
-abbrev pub code_of : Answer → ℕ
-code_of (Ok a) = 0
-code_of (Err s) = stop_code s
 
 -- the rows after it
 abbrev pub rows_after : Answer → ℕ → ℕ
@@ -100,7 +95,7 @@ pub record Taken (limits : Limits) (job work after : Bytes) (n at : ℕ) (t : Te
       ≡ answer_for (well_sorted (capped (number_length job) limits) (term_of (listed job work n) (op_of t) (arguments_of job t)))
       (has (listed job work n) (record_at job at))
       (room (number_length job) (capped (number_length job) limits) (length work) (listed job work n)) n
-  pub code_is : code_of answer
+  pub code_is : code_in answer
       ≡ first_fault ((well_sorted (capped (number_length job) limits) (term_of (listed job work n) (op_of t) (arguments_of job t)), 7)
       ∷ (
         has (listed job work n) (record_at job at)

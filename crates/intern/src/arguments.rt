@@ -1,8 +1,9 @@
-// The arguments of a term, one after the other: their sorts, widths and depths.
+// The arguments of a term: the place, the sort and the depth of each, and what comes of them all.
 ghost use Rattle.std.specs.Prelude.{◌≡◌, true, ◌&&◌, ◌+◌, ◌<◌, get_or, length};
 ghost use Rattle.std.proofs.Math.Bool.{Bool-set};
 ghost use Rattle.theory.specs.Limit.{first_terms};
-ghost use Rattle.theory.specs.Sort.{bv, guard, all_are, good, first, alike, all_bv, sum_widths, is_width, sort_of};
+ghost use Rattle.theory.specs.Sort.{sort_of, bv, guard, good, first, is_width};
+ghost use Rattle.theory.specs.Sort.{all_are, alike, all_bv, sum_widths};
 ghost use Rattle.theory.specs.Depth.{depth};
 ghost use Rattle.theory.specs.Codes.{all_below};
 ghost use Rattle.rows.specs.Layout.{Bounded, place_end};
@@ -59,7 +60,8 @@ pub struct Arguments<'a> {
 }
 
 impl<'a> Arguments<'a> {
-    ghost use Rattle.intern.specs.Given.{places, given_terms, argument_term, argument_sorts, deepest_argument};
+    ghost use Rattle.intern.specs.Given.{places, given_terms, argument_term};
+    ghost use Rattle.intern.specs.Given.{argument_sorts, deepest_argument};
 
     // How many there are.
     pub fn count(&self) -> usize
@@ -142,7 +144,8 @@ impl<'a> Arguments<'a> {
     // The sort of all arguments joined: bit-vectors whose widths sum to a width.
     pub fn joined(&self) -> Option<Sort>
         ensures { let ss = argument_sorts self.now in
-            sort_or_bad result ≡ guard (all_bv ss && is_width (sum_widths ss)) (bv (sum_widths ss)) }
+            sort_or_bad result
+            ≡ guard (all_bv ss && is_width (sum_widths ss)) (bv (sum_widths ss)) }
     {
         let mut sum: u32 = 0;
         for i in 0..self.count() {

@@ -1,4 +1,6 @@
 // What tests make of sorts: None where one fails.
+#![tactic(auto, using(std::proofs::lemmas::Bool::Decides::nat_tests), unfolding(theory::specs::Sort::guard))]
+
 ghost use Rattle.std.specs.Prelude.{◌≡◌, ◌&&◌, ◌+◌, ◌-◌, ◌*◌, ◌^◌, leb, ltb};
 ghost use Rattle.theory.specs.Limit.{max_width};
 ghost use Rattle.theory.specs.Sort.{bool, bv, guard, is_width, is_bv_sort, sort_width};
@@ -15,7 +17,6 @@ pub fn fits_within(s: Sort, limit: u32) -> bool
 }
 
 // A bit-vector of that width, if it is a width.
-#[tactic(auto, using(std::proofs::lemmas::Bool::Decides::nat_tests), unfolding(theory::specs::Sort::guard))]
 pub fn of_width(n: u32) -> Option<Sort>
     ensures { sort_or_bad result ≡ guard (is_width n) (bv n) }
 {
@@ -29,7 +30,6 @@ pub fn of_width(n: u32) -> Option<Sort>
 }
 
 // A constant of that width and value, if it is a width and has the value.
-#[tactic(auto, using(std::proofs::lemmas::Bool::Decides::nat_tests), unfolding(theory::specs::Sort::guard))]
 pub fn of_value(n: u32, x: u64) -> Option<Sort>
     ensures { sort_or_bad result ≡ guard (is_width n && ltb x (2 ^ n)) (bv n) }
 {
@@ -51,18 +51,18 @@ pub fn of_value(n: u32, x: u64) -> Option<Sort>
 }
 
 // Bit i of a term of this sort.
-#[tactic(auto, using(std::proofs::lemmas::Bool::Decides::nat_tests), unfolding(theory::specs::Sort::guard))]
 pub fn of_bit(s: Sort, i: u32) -> Option<Sort>
-    ensures { sort_or_bad result ≡ guard (is_bv_sort (sort_read s) && ltb i (sort_width (sort_read s))) bool }
+    ensures { sort_or_bad result
+        ≡ guard (is_bv_sort (sort_read s) && ltb i (sort_width (sort_read s))) bool }
 {
     (i < width_of(s)).then_some(Sort::Bool)
 }
 
 // The bits j to i of a term of this sort.
-#[tactic(auto, using(std::proofs::lemmas::Bool::Decides::nat_tests), unfolding(theory::specs::Sort::guard))]
 pub fn of_extract(s: Sort, i: u32, j: u32) -> Option<Sort>
     ensures { sort_or_bad result
-        ≡ guard (is_bv_sort (sort_read s) && (leb j i && ltb i (sort_width (sort_read s)))) (bv (i - j + 1)) }
+        ≡ guard (is_bv_sort (sort_read s) && (leb j i && ltb i (sort_width (sort_read s))))
+        (bv (i - j + 1)) }
 {
     if i < j {
         return None;
@@ -74,7 +74,6 @@ pub fn of_extract(s: Sort, i: u32, j: u32) -> Option<Sort>
 }
 
 // A term of this sort with k more bits.
-#[tactic(auto, using(std::proofs::lemmas::Bool::Decides::nat_tests), unfolding(theory::specs::Sort::guard))]
 pub fn of_extend(s: Sort, k: u32) -> Option<Sort>
     ensures { sort_or_bad result
         ≡ guard (is_bv_sort (sort_read s) && leb (sort_width (sort_read s) + k) max_width)
@@ -93,7 +92,6 @@ pub fn of_extend(s: Sort, k: u32) -> Option<Sort>
 }
 
 // k copies of a term of this sort.
-#[tactic(auto, using(std::proofs::lemmas::Bool::Decides::nat_tests), unfolding(theory::specs::Sort::guard))]
 pub fn of_copies(s: Sort, k: u32) -> Option<Sort>
     ensures { sort_or_bad result
         ≡ guard (is_bv_sort (sort_read s) && is_width (k * sort_width (sort_read s)))

@@ -5,7 +5,8 @@ ghost use Rattle.theory.specs.Places.{tree_of};
 ghost use Rattle.terms.specs.Decoded.{op_of, arguments_of};
 ghost use Rattle.store.specs.Kept.{kept_terms};
 ghost use Rattle.store.specs.Sorts.{sort_or_bad};
-ghost use Rattle.intern.specs.Kinds.{asks_of, asked_sort, asked_depth, deepest_bool, of_bools, Fitting, SameAsked, SortDepthOf};
+ghost use Rattle.intern.specs.Kinds.{asks_of, asked_sort, asked_depth, deepest_bool, of_bools};
+ghost use Rattle.intern.specs.Kinds.{Fitting, SameAsked, SortDepthOf};
 ghost use Rattle.intern.specs.Given.{places, given_terms, argument_sorts, deepest_argument};
 
 use super::arguments::Arguments;
@@ -112,7 +113,8 @@ pub fn asked_sort(args: &Arguments, asks: Asks) -> Option<Sort>
 // The depth of a term that asks this of these arguments: gates are one deeper than the deepest, a
 // BvBbTerm as deep, any other has 0.
 pub fn asked_depth(args: &Arguments, asks: Asks) -> usize
-    ensures { result ≡ asked_depth asks (first (argument_sorts args.now)) (deepest_argument args.now) }
+    ensures { result
+        ≡ asked_depth asks (first (argument_sorts args.now)) (deepest_argument args.now) }
 {
     match asks {
         Asks::Bools => args.deepest() + 1,
@@ -132,6 +134,8 @@ pub fn asked_depth(args: &Arguments, asks: Asks) -> usize
 }
 
 // The sort of a term that asks for Bools, and its depth, so much more than its deepest argument's.
+// Copied into its callers, which take its result apart at once.
+#[inline(always)]
 fn of_bools(args: &Arguments, sort: Sort, more: usize) -> Option<SortAndDepth>
     requires { more ≤ 1 }
     ensures { result ≡ of_bools (deepest_bool (given_terms args.now) (places args.now)) sort more }
@@ -143,7 +147,8 @@ fn of_bools(args: &Arguments, sort: Sort, more: usize) -> Option<SortAndDepth>
     })
 }
 
-// What comes to the same for these arguments: an equality whose first side is a Bool asks for Bools.
+// What comes to the same for these arguments: an equality whose first side is a Bool asks for
+// Bools.
 fn asked_of(args: &Arguments, asks: Asks) -> Asks
     ensures { SameAsked asks result (argument_sorts args.now) }
 {

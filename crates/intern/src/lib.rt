@@ -55,8 +55,8 @@ pub fn back(job: &[u8], work: &mut [u8], n: usize, count: usize)
 }
 
 // Keeps the term that the record at `at` says, unless it is kept already. It stops with Unsorted
-// where the term has no sort or is too wide, and with Spent where there is no room for it. The limit
-// of terms is for new ones alone, so the table tests it.
+// where the term has no sort or is too wide, and with Spent where there is no room for it. The
+// limit of terms is for new ones alone, so the table tests it.
 pub fn intern(
     job: &[u8],
     work: &mut [u8],

@@ -1,5 +1,5 @@
 -- What a check knows of its argument list: each argument, the common width, and the expected term.
-use mathlib.Core.Path.{◌≡◌, sym, ap, subst, ◌∙◌}
+use mathlib.Core.Path.{◌≡◌, sym, subst, ◌∙◌}
 use mathlib.Core.List.{List, [], ◌∷◌, map, foldl}
 use Prim.Native.Nat.{ℕ, suc, ◌<◌, ◌≤◌}
 use native.Mathlib.Omega.{arith}
@@ -8,7 +8,7 @@ use Rattle.theory.specs.Term.{Term}
 use Rattle.theory.specs.Bits.{bb, get_term_bits}
 use Rattle.terms.specs.declared.Args.{Args}
 use Rattle.store.specs.declared.gates.Kept.{Kept}
-use Rattle.store.specs.Kept.{kept_terms, kept_term, kept_number, kept_width}
+use Rattle.store.specs.Kept.{kept_terms, kept_term, kept_number}
 use Rattle.store.proofs.Keeping.{store_of}
 use Rattle.store.proofs.Claims.{own_number}
 use Rattle.operand_rules.specs.Rules.{Operand}
@@ -25,14 +25,6 @@ module _ {k : Kept} {w : ℕ} {a : Args} (given : Alike k a w) where
   first_of = given.each 0 given.some
 
 module _ {k : Kept} {claim : ℕ} {a : Args} (given : Many k a claim) {x : ℕ} (e : x ≡ argument k a 0) where
-  -- x is the first argument
-  pub first_operand : Operand k x (kept_width k x)
-  first_operand = subst (λ (y : ℕ). Operand k y (kept_width k y)) (sym e) (first_of given.alike)
-
-  -- its width is that of all
-  pub alike_at : {w : ℕ} → w ≡ kept_width k x → Alike k a w
-  alike_at d = subst (λ (w : ℕ). Alike k a w) (sym (d ∙ ap (kept_width k) e)) given.alike
-
   -- it is the number of the first argument's term
   pub first_number : x ≡ kept_number k (kept_term k (argument k a 0))
   first_number =

@@ -1,4 +1,5 @@
--- Lists that a loop appends to, and folds of terms from the left.
+-- Lists that a loop appends to, and folds of terms from the left. These laws of folds are ghost members of list_rules'
+-- operations, and stand here since no source cites proofs of its own crate.
 use mathlib.Core.Path.{◌≡◌, refl, sym, ap, ap₂, ◌∙◌}
 use mathlib.Core.List.{List, [], ◌∷◌, ◌++◌, foldl}
 use Prim.Native.Nat.{ℕ, suc, ◌+◌, ◌<◌, ◌≤◌}

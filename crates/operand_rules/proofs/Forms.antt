@@ -36,7 +36,7 @@ use Rattle.store.specs.Terms.{TermAt}
 use Rattle.store.specs.declared.gates.Kept.{Kept}
 use Rattle.store.specs.Kept.{IsTermAt, kept_term}
 use Rattle.store.proofs.Keeping.{store_of}
-use Rattle.operand_rules.specs.Rules.{One, OneFits, Two, Same}
+use Rattle.operand_rules.specs.Rules.{OneFits, Two, Same}
 use Rattle.operand_rules.proofs.Tests.{same_eqb}
 use Rattle.theory.proofs.Basics.{true_T}
 use Rattle.theory.proofs.Sound.{same_sort_eq}
@@ -138,13 +138,6 @@ module _ {job work : Bytes} {n p : ℕ} {t : Decoded} (s : TermAt job work n p t
 
   -- where its kind asks that they are alike
   module _ (store : Store job work n) (there : p < first_terms + n) (o : Op) (asks : (ss : List Sort) → fitting o ss ≡ alike ss) where
-    one_alike : (a : Term) → T (good (sort_of (node o (cons a nil)))) → T (is_bv_sort (sort_of a))
-    unfolding fold
-    one_alike a g =
-        let ss = sort_of a ∷ [] in
-        let h = and_r (takes (arity o) (length ss)) _ (good_guard (takes (arity o) (length ss) && fitting o ss) (result_sort o ss) g) in
-        and_l (is_bv_sort (sort_of a)) _ (subst T (asks ss) h)
-
     two_alike : (a b : Term) → T (good (sort_of (node o (cons a (cons b nil))))) → T (is_bv_sort (sort_of a)) × (sort_of a ≡ sort_of b)
     unfolding fold
     two_alike a b g =
@@ -167,6 +160,16 @@ module _ {job work : Bytes} {n p : ℕ} {t : Decoded} (s : TermAt job work n p t
   unfolding verdict
   no_equation rule e = no_case 9 e tt _
 
+  -- it is an equation of l and r
+  module _ {l r : ℕ} (e : t ≡ D.Equals l r) where
+    -- a verdict on its sides is the one on it
+    pub of_sides : (f : Term → Term → Verdict) {v : Verdict} → v ≡ f (tree job work n l) (tree job work n r) → v ≡ binary (kind Equals) (tree job work n p) f
+    of_sides f q = q ∙ sym (two_form Equals l r (ap op_of e) (ap operands_of e) f)
+
+    -- its sides stand before it
+    pub sides_below : {m : ℕ} → p < m → (l < m) × (r < m)
+    sides_below {m} h = (left_below l r m (ap operands_of e) h, right_below l r m (ap operands_of e) h)
+
   pub sides : (rule : Rule) {l r : ℕ} → t ≡ D.Equals l r → on_sides rule (tree job work n l) (tree job work n r) ≡ verdict rule (tree job work n p)
   unfolding verdict
   sides rule {l} {r} e = sym (two_form Equals l r (ap op_of e) (ap operands_of e) (on_sides rule))
@@ -181,14 +184,7 @@ one_fitting o a g =
 -- ---- what a rule's check may take for granted
 module _ (k : Kept) {p : ℕ} {t : Decoded} (s : IsTermAt k p t) (there : p < first_terms + k.lookup.rows) where
   module _ (o : Op) (asks : (ss : List Sort) → fitting o ss ≡ alike ss) where
-    -- what the check of an operation of one bit-vector may take for granted
-    pub one_given : (x claim : ℕ) → op_of t ≡ o → operands_of t ≡ OneArg x → claim < first_terms + k.lookup.rows → One k x claim
-    one_given x claim e d c = record {
-      only = record { there = one_below s x _ d there; sort = is_bv (sort_of (kept_term k x)) (one_alike s (store_of k) there o asks (kept_term k x) (fits s (store_of k) there o (OneArg x) e d)) };
-      claimed = c;
-    }
-
-    -- of two
+    -- of an operation of two bit-vectors of one width
     pub two_given : (x y claim : ℕ) → op_of t ≡ o → operands_of t ≡ TwoArgs x y → claim < first_terms + k.lookup.rows → Two k x y claim
     two_given x y claim e d c =
         let g = two_alike s (store_of k) there o asks (kept_term k x) (kept_term k y) (fits s (store_of k) there o (TwoArgs x y) e d) in

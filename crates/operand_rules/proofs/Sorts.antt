@@ -1,14 +1,11 @@
 -- `let Sort::Bv(w) = sort_at(..) else { .. }`, and the bits of a width.
 use mathlib.Core.Path.{◌≡◌, refl, sym, ap, ap₂, ◌∙◌}
 use mathlib.Core.Bool.{cond}
-use mathlib.Core.List.{List, [], ◌∷◌, map}
+use mathlib.Core.List.{List, ◌∷◌, map}
 use Prim.Native.Nat.{ℕ, zero, suc, ◌+◌, ◌^◌, ◌<◌, ◌≤◌}
 use native.Mathlib.Nat.{add-zero, zero-add}
 use native.Mathlib.Omega.{arith}
 use borrow.Author.Tests.{lt-ltb, le-leb}
-use types.Run.{miss}
-use borrow.Enum.Refused.{Among, opened}
-use denote.Enum.Declared.{tag_of}
 use Rattle.theory.specs.Limit.{first_terms}
 use Rattle.theory.specs.Kind.{Const}
 use Rattle.theory.specs.Term.{Term, node, nil, fold}
@@ -28,17 +25,12 @@ use Rattle.store.specs.Kept.{kept_terms, kept_term, kept_number}
 use Rattle.store.proofs.Keeping.{store_of}
 use Rattle.store.specs.Sorts.{sort_read}
 use Rattle.store.specs.declared.sorts.Sort.{Sort}
-use Rattle.store.specs.declared.sorts.Sort.TheVariants.{Bool as IsBool, Bv}
+use Rattle.store.specs.declared.sorts.Sort.TheVariants.{Bv}
 use Rattle.store.specs.contracts.sorts.Sort as E
 use Rattle.store.proofs.Lookup.{bit_hom, constant_hom}
 use Rattle.operand_rules.specs.Rules.{Operand, width_bits}
 use Rattle.operand_rules.proofs.Numbers.{few}
 use Rattle.theory.proofs.Indexed.{bits_same}
-
--- the else: no bit-vector
-pub not_bits : (u : Term) (v : Verdict) (r : Sort) → ((w : ℕ) → r ≡ Bv w → ⊥) → sort_read r ≡ sort_of u → not_bit_vector ≡ of_bits u v
-not_bits u v IsBool k e = ap (λ (s : Th.Sort). cond (is_bv_sort s) v not_bit_vector) e
-not_bits u v (Bv w) k e = absurd (k w refl)
 
 -- a width fits into as many bits
 const_sort : (w : ℕ) → 1 ≤ w → w ≤ 64 → sort_of (node (Const w w) nil) ≡ bv w

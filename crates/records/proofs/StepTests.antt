@@ -8,8 +8,6 @@ use native.Mathlib.Decide.{dec_le}
 use lib.Dec.{leb}
 use lib.ListN.{length, drop}
 use Rattle.std.specs.Prelude.{slice_get as get_elem?}
-use Rattle.std.specs.Prelude.{Option, None as none, Some as some, option_map, ok_or, Result, Ok, Err}
-use Rattle.terms.specs.declared.stop.Stop.{Stop}
 use borrow.Author.Tests.{eq-eqb, ne_eqb, le-leb, lt-leb, lt-ltb, le-ltb}
 use Rattle.theory.specs.Limit.{answer_bytes}
 use Rattle.theory.specs.Optional.{is_some}
@@ -41,19 +39,7 @@ pub rule_low : (n : ℕ) → n < 1 → false ≡ is_some (rule_at n)
 rule_low zero h = refl
 rule_low (suc n) h = absurd (omega arith)
 
--- ---- a chain's rule, where its number has one, and else the stop
-pub or_none : {A : Type 0} (p : Option A) {q : Result A Stop} (d : Stop) {e : Stop} → q ≡ ok_or p d → q ≡ Err e → (e ≡ d) × (p ≡ none)
-or_none none d v w = (cc, refl)
-or_none (some x) d v w = absurd (let z : ◌≡◌ {A = ℕ} 0 1 = cc in omega arith)
-
-pub or_some : {A : Type 0} (p : Option A) {q : Result A Stop} (d : Stop) {x : A} → q ≡ ok_or p d → q ≡ Ok x → p ≡ some x
-or_some none d v w = absurd (let z : ◌≡◌ {A = ℕ} 0 1 = cc in omega arith)
-or_some (some y) d v w = cc
-
-pub no_chain : {A B : Type 0} (f : A → B) {p : Option B} {q : Option A} → option_map f q ≡ p → q ≡ none → is_some p ≡ false
-no_chain f e n = ap is_some (sym e ∙ ap (option_map f) n)
-
--- its literal
+-- ---- the literal of a chain
 pub one_kept : (n k : ℕ) → k < n → all_below n (k ∷ []) ≡ true
 one_kept n k h = rw (lt-ltb k n h)
 
@@ -81,18 +67,8 @@ no_room b space answered {size} e h =
     let k : space - (8 + b) * answered < 8 + b = subst (λ (z : ℕ). space - z * answered < z) e h in
     rw (lt-leb (answer_bytes b * suc answered) space (omega arith))
 
--- there is
-pub some_room : (b space answered : ℕ) {size : ℕ} → size ≡ 8 + b → size ≤ space - size * answered → ◌≡◌ {A = ℕ} 0 (cond (leb (answer_bytes b * suc answered) space) 0 19)
-some_room b space answered {size} e h =
-    let k : 8 + b ≤ space - (8 + b) * answered = subst (λ (z : ℕ). z ≤ space - z * answered) e h in
-    rw (le-leb (answer_bytes b * suc answered) space (omega arith))
-
 -- ---- a record that says no term, step, chain or back: the job's first may ask for long numbers
 module _ (place : ℕ) (r : Bytes) where
-  -- it is not the first
-  pub opening_later : (place ≡ 0 → ⊥) → 4 ≡ first_fault (opening_tests place r)
-  opening_later h = rw (ne_eqb place 0 h)
-
   -- it asks for something else
   pub opening_other : place ≡ 0 → (kind_of r ≡ long_kind → ⊥) → 4 ≡ first_fault (opening_tests place r)
   opening_other e h = rw (eq-eqb place 0 e, ne_eqb (kind_of r) long_kind h)

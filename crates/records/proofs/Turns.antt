@@ -1,14 +1,14 @@
 -- What became of a record, by what it was read as.
-use mathlib.Core.Path.{◌≡◌, refl, sym, ap, ap₂, subst, ◌∙◌}
+use mathlib.Core.Path.{◌≡◌, refl, sym, ap, subst, ◌∙◌}
 use mathlib.Core.Bool.{Bool, true, false, cond}
 use mathlib.Core.List.{List, [], ◌∷◌, ◌++◌, map}
-use Rattle.std.specs.Prelude.{Option, None as none, Some as some, option_map, Result, Ok, Err, IsErrAnd}
-use Prim.Native.Nat.{ℕ, zero, suc, ◌+◌, ◌-◌, ◌*◌, ◌<◌, ◌≤◌}
+use Rattle.std.specs.Prelude.{Option, None as none, Some as some, Result, Ok, Err, IsErrAnd}
+use Prim.Native.Nat.{ℕ, suc, ◌+◌, ◌-◌, ◌*◌, ◌<◌, ◌≤◌}
 use native.Mathlib.Omega.{arith}
 use lib.Dec.{leb}
 use lib.ListN.{length, take, drop}
 use borrow.Author.Tests.{le-leb, lt-leb}
-use Rattle.theory.specs.Limit.{Limits, capped, first_terms, answer_bytes}
+use Rattle.theory.specs.Limit.{Limits, first_terms, answer_bytes}
 use Rattle.theory.specs.Term as T
 use Rattle.theory.specs.Optional.{is_some, collect}
 use Rattle.theory.specs.Verdict.{held, wrong_form, accepted}
@@ -18,8 +18,8 @@ use Rattle.theory.specs.Chain.{sides, joins, chain_verdict, premises_at, joined}
 use Rattle.theory.specs.RuleTable.{Rule, rule_at, ChainRule, chain_rule_at}
 use Rattle.theory.specs.Record.{Bytes, whole, read, number_length}
 use Rattle.theory.specs.Record as R
-use Rattle.theory.specs.Plain.{Plain, term_of, has, feed, feed_item, repeat_item, repeat_of}
-use Rattle.theory.specs.Codes.{first_fault, all_below, well_sorted, room, step_tests, opening_tests, tests, fault}
+use Rattle.theory.specs.Plain.{Plain, has, feed, feed_item, repeat_item, repeat_of}
+use Rattle.theory.specs.Codes.{first_fault, all_below, step_tests, opening_tests, tests, fault}
 use Rattle.theory.specs.Answer.{Answer}
 use Rattle.theory.specs.Job.{right_depth, judged, answer_to, item_answers, answers_to}
 use Rattle.theory.proofs.Places.{tree_at, tree_of}
@@ -32,7 +32,7 @@ use Rattle.terms.specs.declared.Item.TheVariants as I
 use Rattle.terms.specs.declared.Fault.{Fault}
 use Rattle.terms.specs.declared.stop.Stop.{Stop}
 use Rattle.terms.specs.declared.stop.Stop.TheVariants as S
-use Rattle.terms.specs.Numbered.{stop_code}
+use Rattle.terms.specs.Numbered.{stop_code, code_in}
 use Rattle.terms.specs.declared.Term.{Term}
 use Rattle.terms.specs.Framing.{record_at}
 use Rattle.terms.specs.Decoded.{Inside, PlacedIn, read_of, item_of, fault_of, op_of, arguments_of, words_in}
@@ -53,14 +53,12 @@ use Rattle.steps.proofs.Judging.{judged_is}
 use Rattle.rows.specs.Layout.{link_size, place_end}
 use Rattle.rows.proofs.RowLaws.{rows_small}
 use Rattle.chains.specs.Premises.{earlier_in, origins}
-use Rattle.records.specs.Turning.{code_in, turn, Reading, answers_at, origins_at, memory_item, memory_at, Turned}
+use Rattle.records.specs.Turning.{turn, Reading, answers_at, origins_at, memory_item, memory_at, Turned}
 use Rattle.steps.proofs.Writing.{none_written}
 use Rattle.std.proofs.lemmas.Result.{err_from_is_err_and}
 use Rattle.records.proofs.StepTests.{fault_6, fault_9, fault_room, one_kept, one_gone}
 use Rattle.theory.proofs.Basics.{T_true, some_inj}
 use Rattle.store.specs.Kept.{Reads}
-use Rattle.chains.specs.declared.ChainRule.{ChainRule as Joining}
-use Rattle.chains.specs.Rules.{rule_of}
 
 -- the error that `?` returns is the one that was met
 pub same_err : {A : Type 0} (r : Result A Stop) {e : Stop} → IsErrAnd r (λ (y : Stop). y ≡ e) → r ≡ Err e
@@ -337,15 +335,6 @@ module _ (limits : Limits) (place : ℕ) {job work : Bytes} {rows at rule : ℕ}
     pub step_right : StepPassed (number_length job) (length answers) (listed job work rows) answered rule (words_in job literals)
     step_right = step_passed place (number_length job) limits (length work) (length answers) (listed job work rows) answered (record_at job at) rule (words_in job literals) (sym (f ∙ same_code))
 
-    -- so they may be answered
-    pub step_literals : (k : Kept) → Finds k.lookup job work rows → Literals k literals
-    step_literals k h =
-        let p = step_right in record {
-          inside = subst (λ (j : Bytes). Inside j literals) (sym h.job_is) g.placed;
-          below = ap (λ (j : Bytes). all_below (first_terms + k.lookup.rows) (words_in j literals)) h.job_is ∙ ap (λ (r : ℕ). all_below (first_terms + r) (words_in job literals)) h.rows_are
-              ∙ ap (λ (n : ℕ). all_below n (words_in job literals)) (sym g.store.count) ∙ T_true _ p.below;
-        }
-
     -- its answer is written
     pub step_turned : {reply : Reply} {after : Bytes}
         → ((by : Rule) → rule_at rule ≡ some by → given rule reply ≡ answer_to rule by (map (tree_at (listed job work rows)) (words_in job literals)))
@@ -372,10 +361,6 @@ verdict_told t h answers answered premises literal by = rw (h.job_is, h.work_is,
 -- the terms of a store that was taken up
 pub terms_hold : (k : Kept) (t : Terms) {job work : Bytes} {rows : ℕ} → Finds k.lookup job work rows → Reads k t → Holds t job work rows
 terms_hold k t f h = record { job_is = h.job_is ∙ f.job_is; work_is = h.work_is ∙ f.work_is; rows_are = h.rows_are ∙ f.rows_are }
-
--- a rule that was found by its number
-pub rule_found : (n : ℕ) (q : Option Joining) {j : Joining} → option_map rule_of q ≡ chain_rule_at n → q ≡ some j → chain_rule_at n ≡ some (rule_of j)
-rule_found n q e f = sym e ∙ ap (option_map rule_of) f
 
 module _ (limits : Limits) (place : ℕ) {job work : Bytes} {rows at rule literal : ℕ} {premises : Args} (g : Reading job work rows at (I.Chain rule premises literal)) (answers : Bytes) (answered : ℕ) where
   -- its tests, where the rows say how many terms are kept

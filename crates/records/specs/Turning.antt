@@ -20,11 +20,6 @@ use Rattle.records.specs.declared.Turn.{Turn}
 use Rattle.steps.specs.Answering.{with_notes}
 use Rattle.chains.specs.Premises.{earlier_in, origins}
 
--- the code that a result stops the job with, 0 where it stops none
-abbrev pub code_in : {A : Type 0} → Result A Stop → ℕ
-code_in (Ok x) = 0
-code_in (Err s) = stop_code s
-
 -- a turn by its parts
 abbrev pub turn : ℕ → ℕ → ℕ → Turn
 turn answers rows repeats = record { answers = answers; rows = rows; repeats = repeats }

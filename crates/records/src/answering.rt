@@ -6,9 +6,10 @@ ghost use Rattle.theory.specs.Optional.{is_some};
 ghost use Rattle.theory.specs.RuleTable.{rule_at};
 ghost use Rattle.theory.specs.Record.{number_length};
 ghost use Rattle.terms.specs.declared.Item.TheVariants as I;
+ghost use Rattle.terms.specs.Numbered.{code_in};
 ghost use Rattle.steps.specs.Answering.{given, with_notes};
 ghost use Rattle.chains.specs.Premises.{Noted};
-ghost use Rattle.records.specs.Turning.{code_in, turn, Reading, Turned};
+ghost use Rattle.records.specs.Turning.{turn, Reading, Turned};
 
 use crate::Turn;
 use chains::premises::Past;
@@ -116,7 +117,7 @@ pub(crate) fn chain_record(
     if (rows + FIRST_PLACE) as u32 <= literal {
         return Err(Stop::NoTerm);
     }
-    let joins = ChainRule::numbered(rule).ok_or(Stop::NoRule)?;
+    let joins = ChainRule::try_from(rule)?;
     let kept = Kept::new(job, work, rows);
     let past = Past {
         terms: kept.terms(),

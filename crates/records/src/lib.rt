@@ -9,9 +9,10 @@ ghost use Rattle.std.specs.Prelude.{◌≡◌, true, drop};
 ghost use Rattle.theory.specs.Record.{whole};
 ghost use Rattle.theory.specs.Codes.{first_fault, opening_tests};
 ghost use Rattle.terms.specs.Framing.{record_at};
+ghost use Rattle.terms.specs.Numbered.{code_in};
 ghost use Rattle.intern.specs.Interning.{limits_of};
 ghost use Rattle.chains.specs.Premises.{Noted};
-ghost use Rattle.records.specs.Turning.{code_in, Turned};
+ghost use Rattle.records.specs.Turning.{Turned};
 
 use crate::answering::{chain_record, step_record};
 use crate::keeping::{back_record, term_record};

@@ -2,15 +2,15 @@
 use mathlib.Core.Path.{◌≡◌, refl, sym, ap, ap₂, subst, ◌∙◌}
 use mathlib.Core.Bool.{Bool, true, false, ◌&&◌, cond}
 use mathlib.Core.Logic.{◌⊎◌, inl, inr, ⊎_elim}
-use mathlib.Core.List.{[], ◌∷◌, ◌++◌, append-nil, append_assoc}
+use mathlib.Core.List.{[], ◌∷◌, ◌++◌, append_assoc}
 use Prim.Native.Nat.{ℕ, zero, suc, ◌+◌, ◌*◌, ◌-◌, ◌/◌, ◌%◌, ◌^◌, ◌≤◌, ◌<◌}
 use native.Mathlib.Nat.{not-suc-le-zero, add-zero, mul-le-mul_right, pow-le-pow_right}
 use native.Mathlib.Decide.{dec_lt, dec_le, ℕ_discrete}
 use native.Mathlib.Numerals.{add-one}
 use native.Mathlib.Omega.{arith}
 use lib.Dec.{eqb}
-use lib.ListN.{length-set, length-append, length-take, length-drop, get_or-append, drop_of_length-le, drop, get_or, length, replicate, set, take}
-use lib.Seq.{sets, drop-cons, get_or-take, get_or-drop, get_or_at, get_or-set_same, get_or-set_other, ext_get_or, length-sets, sets-eq, take_all, take_at, take-nil, drop_at, drop-drop, take-append-le}
+use lib.ListN.{length-append, length-take, length-drop, get_or-append, drop_of_length-le, drop, get_or, length, set, take}
+use lib.Seq.{sets, drop-cons, get_or-take, get_or-drop, get_or_at, get_or-set_other, ext_get_or, length-sets, sets-eq, take_all, take_at, take-nil, drop_at, drop-drop, take-append-le}
 use borrow.Author.Tests.{eq-eqb, eqb-true, ne_eqb}
 use borrow.Author.Count.{below_more}
 use Rattle.theory.specs.Record.{Bytes, extent, little_endian, bytes_of, number_length}
@@ -185,42 +185,11 @@ pub record AgreeFrom (job x : Bytes) (at m : ℕ) : Type 0 where
   pub low : m ≤ length x
   pub bytes : (k : ℕ) → m ≤ k → k < length x → get_or job (at + k) 0 ≡ get_or x k 0
 
-pub agree_start : (job x : Bytes) (at : ℕ) → AgreeFrom job x at (length x)
-agree_start job x at = record { low = omega arith; bytes = λ k a b. absurd (omega arith) }
-
-pub agree_turn : {job x : Bytes} {at m : ℕ} → AgreeFrom job x at m → get_or job (at + (m - 1)) 0 ≡ get_or x (m - 1) 0 → AgreeFrom job x at (m - 1)
-agree_turn {job} {x} {at} {m} h e = record { low = omega (arith, h.low); bytes = λ k a b. go k a b (dec_le m k) }
-  where
-    go : (k : ℕ) → m - 1 ≤ k → k < length x → Dec (m ≤ k) → get_or job (at + k) 0 ≡ get_or x k 0
-    go k a b (yes l) = h.bytes k l b
-    go k a b (no l) =
-        let q : k ≡ m - 1 = omega arith in
-        rw q e
-
--- ---- memory that is wiped
-
-pub filled : (l : Bytes) (i v : ℕ) → i ≤ length l → length l ≤ i → replicate i v ++ drop i l ≡ replicate (length l) v
-filled l i v a b =
-    let e : i ≡ length l = omega arith in
-    ap (λ (t : Bytes). replicate i v ++ t) (drop_of_length-le l b) ∙ append-nil (replicate i v)
-    ∙ ap (λ (m : ℕ). replicate m v) e
-
 -- ---- a run of stores
 
 pub sets_before : (l : Bytes) (i : ℕ) (vs : Bytes) (j d : ℕ) → j < i → get_or (sets l i vs) j d ≡ get_or l j d
 sets_before l i [] j d h = refl
 sets_before l i (a ∷ vs) j d h = sets_before (set l i a) (suc i) vs j d (omega arith) ∙ get_or-set_other l i j a d (omega arith)
-
-pub sets_in : (l : Bytes) (i : ℕ) (vs : Bytes) (j d : ℕ) → j < length vs → i + length vs ≤ length l → get_or (sets l i vs) (i + j) d ≡ get_or vs j d
-sets_in l i [] j d h b = absurd (not-suc-le-zero h)
-sets_in l i (a ∷ vs) zero d h b =
-    ap (λ (k : ℕ). get_or (sets (set l i a) (suc i) vs) k d) (add-zero i)
-    ∙ sets_before (set l i a) (suc i) vs i d (omega arith)
-    ∙ get_or-set_same l i a d (omega arith)
-sets_in l i (a ∷ vs) (suc j) d h b =
-    let e : i + suc j ≡ suc i + j = omega arith in
-    ap (λ (k : ℕ). get_or (sets (set l i a) (suc i) vs) k d) e
-    ∙ sets_in (set l i a) (suc i) vs j d (omega arith) (rw length-set (omega arith))
 
 pub sets_after : (l : Bytes) (i : ℕ) (vs : Bytes) (j d : ℕ) → i + length vs ≤ j → get_or (sets l i vs) j d ≡ get_or l j d
 sets_after l i [] j d h = refl

@@ -14,7 +14,8 @@ pub mod layout;
 ghost use Rattle.std.specs.Prelude.{◌≡◌, ◌+◌, ◌*◌, ◌^◌, ◌≤◌, length};
 ghost use Rattle.theory.specs.Limit.{max_job};
 ghost use Rattle.terms.specs.Bodies.{Length};
-ghost use Rattle.rows.specs.Layout.{Bounded, link_bytes, link_size, row_size, offset_at, measure_at, link_at};
+ghost use Rattle.rows.specs.Layout.{Bounded, link_bytes, link_size, row_size};
+ghost use Rattle.rows.specs.Layout.{offset_at, measure_at, link_at};
 ghost use Rattle.rows.specs.Rows.{stored_row};
 
 use crate::bytes::{number_of, put_number_of};

@@ -1,4 +1,4 @@
--- A rule's verdict by the rule's number.
+-- A number that the match on the rules takes by none of its arms is no rule's.
 use mathlib.Core.Path.{◌≡◌, refl, sym, ap, subst, ◌∙◌}
 use mathlib.Core.Bool.{true, false, true≢false}
 use mathlib.Core.List.{List, [], ◌∷◌}
@@ -11,7 +11,6 @@ use Rattle.theory.specs.Optional.{is_some}
 use Rattle.theory.specs.Verdict.{Verdict}
 use Rattle.theory.specs.RuleTable.{Rule, rules, rule_at}
 use Rattle.theory.specs.Rule.{verdict}
-use Rattle.theory.proofs.Basics.{some_inj}
 
 -- n is not a, not a + 1, and so on, as many as the list is long
 abbrev pub Past : {A : Type 0} → ℕ → ℕ → List A → Type 0
@@ -28,10 +27,6 @@ no_rule zero p = refl
 no_rule (suc k) p = past_none rules 1 k (subst (λ (n : ℕ). Past n 1 rules) (let e : suc k ≡ 1 + k = omega arith in e) p)
 
 module _ (literal : Term) {v : Verdict} {n : ℕ} where
-  -- rule k's verdict
-  pub by_number : (k : ℕ) (r : Rule) → n ≡ k → rule_at k ≡ some r → v ≡ verdict r literal → (by : Rule) → rule_at n ≡ some by → v ≡ verdict by literal
-  by_number k r e h g by f = g ∙ ap (λ (q : Rule). verdict q literal) (some_inj r by (sym (ap rule_at e ∙ h) ∙ f))
-
   -- no other number is a rule's
   pub by_none : Past n 1 rules → is_some (rule_at n) ≡ true → (by : Rule) → rule_at n ≡ some by → v ≡ verdict by literal
   by_none p s = absurd (let z : false ≡ true = sym (ap is_some (no_rule n p)) ∙ s in true≢false (sym z))

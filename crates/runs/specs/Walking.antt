@@ -64,6 +64,11 @@ pub data Next (limits : Limits) (job work answers : Bytes) (s : State) (work' an
       → Turned limits s.records job work answers s.rows s.answers s.at work' answers' (Err c)
       → q ≡ Err c → Next limits job work answers s work' answers' q
 
+-- the result of a record: where the job stands after one that passed, or what stopped it
+abbrev pub stood : {X : Type 0} → State → Result X Stop → Result State Stop
+stood s (Ok _) = Ok s
+stood s (Err c) = Err c
+
 -- so many bytes of work memory are used of a job: all, or four for each byte of the job, which is more than its records can fill
 pub record Enough (job work used : ℕ) : Type 0 where
   pub within : used ≤ work

@@ -1,8 +1,8 @@
 // The records of a job, one after the other, up to its end or to the record that stops it.
-ghost use Rattle.std.specs.Prelude.{◌≡◌, None, ◌≤◌, length};
+ghost use Rattle.std.specs.Prelude.{◌≡◌, None, Err, ◌≤◌, length};
 ghost use Rattle.theory.specs.Limit.{max_job};
 ghost use Rattle.intern.specs.Interning.{limits_of};
-ghost use Rattle.runs.specs.Walking.{Standing, Next, Walked};
+ghost use Rattle.runs.specs.Walking.{Standing, Next, stood, Walked};
 
 use intern::Limits;
 use records::take_record;
@@ -39,17 +39,19 @@ impl State {
     }
 }
 
-// Takes the record where the job stands: `Cut` where no whole record is there.
+// Takes the record where the job stands: `Cut` where no whole record is there. A record that stops
+// the job leaves it where it stands.
 fn next(
     job: &[u8],
     work: &mut [u8],
     answers: &mut [u8],
     limits: Limits,
-    s: State,
-) -> Result<State, Stop>
-    requires { Standing job.now work.old answers.old s }
-    ensures { Next (limits_of limits) job.now work.old answers.old s
-        work.new answers.new result }
+    s: &mut State,
+) -> Result<(), Stop>
+    requires { Standing job.now work.old answers.old s.old }
+    ensures next { Next (limits_of limits) job.now work.old answers.old s.old
+        work.new answers.new (stood s.new result) }
+    ensures stays { (stop : Stop) → result ≡ Err stop → s.new ≡ s.old }
 {
     let Some(size) = Term::frame(job, s.at) else {
         return Err(Stop::Cut);
@@ -57,14 +59,12 @@ fn next(
     let t = take_record(
         job, work, answers, limits, s.rows, s.answers, s.records, s.at,
     )?;
-    Ok(State {
-        at: s.at + size,
-        records: s.records + 1,
-        answers: t.answers,
-        rows: t.rows,
-        repeats: s.repeats + t.repeats,
-        ..s
-    })
+    s.at += size;
+    s.records += 1;
+    s.answers = t.answers;
+    s.rows = t.rows;
+    s.repeats += t.repeats;
+    Ok(())
 }
 
 // Takes all records of a job, under limits that the caller states. How long a record is, it says
@@ -77,14 +77,9 @@ pub fn walk(job: &[u8], work: &mut [u8], answers: &mut [u8], limits: Limits) -> 
     intern::start(job, work);
     let mut s = State::start();
     while s.at < job.len() {
-        match next(job, work, answers, limits, s) {
-            Ok(t) => s = t,
-            Err(stop) => {
-                return State {
-                    stop: Some(stop),
-                    ..s
-                };
-            }
+        if let Err(stop) = next(job, work, answers, limits, &mut s) {
+            s.stop = Some(stop);
+            return s;
         }
     }
     s

@@ -4,7 +4,7 @@ use mathlib.Core.Bool.{Bool, true, false, ◌&&◌}
 use mathlib.Core.List.{List, [], ◌∷◌, ◌++◌, map}
 use Prim.Native.Nat.{ℕ, zero, suc, ◌-◌, ◌≤◌}
 use native.Mathlib.Omega.{arith}
-use lib.ListN.{length, take, drop, get_or}
+use lib.ListN.{length, drop, get_or}
 use lib.Seq.{length-take-le, drop-cons}
 use Rattle.std.specs.List.{list_all}
 use Rattle.theory.specs.Gates.{Gates}
@@ -15,15 +15,6 @@ use Rattle.circuits.proofs.AddLaws.{adder_shorter}
 all_listed : (g : Gates ℕ) (p : ℕ → Bool) (xs : List ℕ) → all_false g p xs ≡ list_all p xs
 all_listed g p [] = refl
 all_listed g p (x ∷ xs) = ap (λ (t : Bool). p x && t) (all_listed g p xs)
-
-pub some_true : (p : ℕ → Bool) (xs : List ℕ) {t : Bool} → t ≡ list_all p xs → t ≡ false → 1 ≤ length xs
-some_true p [] e f = let z : ◌≡◌ {A = Bool} true false = sym e ∙ f in absurd (cc)
-some_true p (x ∷ xs) e f = omega arith
-
--- ---- the bits but the top one, as a slice has them
-pub below_top : (xs : List ℕ) → take (length xs - 1) xs ≡ drop_top xs
-below_top [] = refl
-below_top (x ∷ xs) = let z : suc (length xs) - 1 ≡ length xs = omega arith in ap (λ (n : ℕ). take n (x ∷ xs)) z
 
 -- ---- a step
 -- the next remainder has as many bits, or one

@@ -2,37 +2,50 @@
 use mathlib.Core.Path.{◌≡◌, refl, sym, ap, ◌∙◌}
 use mathlib.Core.Bool.{Bool, cond, false, true}
 use mathlib.Core.List.{List, [], ◌∷◌, ◌++◌}
-use Prim.Native.Nat.{ℕ, zero, suc, ◌+◌, ◌-◌, ◌^◌, ◌<◌, ◌≤◌, min}
+use Prim.Native.Nat.{ℕ, zero, suc, ◌+◌, ◌-◌, ◌^◌, ◌<◌, ◌≤◌}
 use native.Mathlib.Numerals.{add-one}
 use native.Mathlib.Omega.{arith}
-use lib.ListN.{length, take, drop, get_or, replicate, drop_of_length-le}
+use lib.ListN.{length, take, drop, get_or, replicate, length-append, drop_of_length-le}
 use lib.Seq.{length-take-le, take-suc, drop-cons}
 use lib.Dec.{leb}
 use Rattle.theory.specs.Gates.{Gates}
-use Rattle.theory.specs.Circuit.{clog2_from, clog2, last, shl_bits, shl_stage, shl_stages, shr_bits, shr_stage, shr_stages, choose, bounded, shl, lshr, ashr, zip_with}
+use Rattle.theory.specs.Circuit.{clog2_from, clog2, last, shl_bits, shl_stage, shl_stages, shr_bits, shr_stage, shr_stages, bounded, shl, lshr, ashr}
 use Rattle.shift_circuits.specs.Stages.{staged}
 use Rattle.circuits.proofs.AppendLaws.{Appending, append_turn, append_end, drop_next}
 
--- ---- a stage to the left: of the bits beside p as many are read as p has
-moved_bits : (g : Gates ℕ) (y : ℕ) (ps qs : List ℕ) → choose g y (take (length ps) qs) ps ≡ shl_bits g y ps qs
-unfolding zip_with shl_bits
-moved_bits g y [] qs = refl
-moved_bits g y (p ∷ ps) [] = refl
-moved_bits g y (p ∷ ps) (q ∷ qs) = ap (λ (t : List ℕ). g.ite_gate y q p ∷ t) (moved_bits g y ps qs)
+-- ---- a stage to the left, t being 2 ^ s: beside bit i stands what the bit i - t is, or false
+below_end : (t a i : ℕ) (ps : List ℕ) → i < t → a ≡ get_or (replicate t a ++ ps) i 0
+below_end zero a i ps h = absurd (omega arith)
+below_end (suc t) a zero ps h = refl
+below_end (suc t) a (suc i) ps h = below_end t a i ps (omega arith)
 
--- the first n of m numbers a and of others
-taken : (n m a k : ℕ) (ps : List ℕ) → k ≡ min n m → take n (replicate m a ++ ps) ≡ replicate k a ++ take (n - k) ps
-taken zero m a k ps e = let z : k ≡ 0 = omega (arith, e) in rw z refl
-taken (suc n) zero a k ps e = let z : k ≡ 0 = omega (arith, e) in let o : suc n - 0 ≡ suc n = omega arith in rw (z, o) refl
-taken (suc n) (suc m) a zero ps e = absurd (omega (arith, e))
-taken (suc n) (suc m) a (suc k) ps e =
-    let z : suc n - suc k ≡ n - k = omega arith in
-    rw z (ap (λ (t : List ℕ). a ∷ t) (taken n m a k ps (omega (arith, e))))
+above_end : (t a i : ℕ) (ps : List ℕ) → t ≤ i → get_or ps (i - t) 0 ≡ get_or (replicate t a ++ ps) i 0
+above_end zero a i ps h = let z : i - 0 ≡ i = omega arith in rw z refl
+above_end (suc t) a zero ps h = absurd (omega arith)
+above_end (suc t) a (suc i) ps h = let z : suc i - suc t ≡ i - t = omega arith in rw z (above_end t a i ps (omega arith))
 
-pub left_stage : (g : Gates ℕ) (s y : ℕ) (ps : List ℕ) {k : ℕ} {moved r : List ℕ} → r ≡ choose g y moved ps → moved ≡ replicate k g.false_gate ++ take (length ps - k) ps
-    → k ≡ min (length ps) (2 ^ s) → r ≡ shl_stage g s y ps
-left_stage g s y ps {k} e m h =
-    e ∙ ap (λ (t : List ℕ). choose g y t ps) (m ∙ sym (taken (length ps) (2 ^ s) g.false_gate k ps h)) ∙ moved_bits g y ps (replicate (2 ^ s) g.false_gate ++ ps)
+pub record ShlStage (g : Gates ℕ) (s t y : ℕ) (ps out : List ℕ) (i : ℕ) : Type 0 where
+  pub places : t ≡ 2 ^ s
+  pub filled : Appending out (shl_bits g y (drop i ps) (drop i (replicate (2 ^ s) g.false_gate ++ ps))) (shl_stage g s y ps) (length (drop i ps))
+
+module _ {g : Gates ℕ} {s t y : ℕ} {ps : List ℕ} where
+  module _ {out out' : List ℕ} {i v from : ℕ} (inv : ShlStage g s t y ps out i) (o : out' ≡ out ++ v ∷ []) (h : i < length ps) (e : v ≡ g.ite_gate y from (get_or ps i 0)) where
+    left_turn : from ≡ get_or (replicate (2 ^ s) g.false_gate ++ ps) i 0 → ShlStage g s t y ps out' (i + 1)
+    unfolding shl_bits
+    left_turn f =
+        let qs = replicate (2 ^ s) g.false_gate ++ ps in
+        let l : i < length qs = omega (arith, h, length-append (replicate (2 ^ s) g.false_gate) ps) in
+        record { places = inv.places; filled = append_turn inv.filled o (rw (drop-cons ps i 0 h, drop-cons qs i 0 l, add-one, e, f) refl) (drop_next ps i h) }
+
+    pub left_out : from ≡ g.false_gate → i < t → ShlStage g s t y ps out' (i + 1)
+    left_out f b = left_turn (f ∙ below_end (2 ^ s) g.false_gate i ps (omega (arith, inv.places, b)))
+
+    pub left_in : from ≡ get_or ps (i - t) 0 → t ≤ i → ShlStage g s t y ps out' (i + 1)
+    left_in f b = left_turn (f ∙ ap (λ (n : ℕ). get_or ps (i - n) 0) inv.places ∙ above_end (2 ^ s) g.false_gate i ps (omega (arith, inv.places, b)))
+
+  pub left_end : {out : List ℕ} {i : ℕ} → ShlStage g s t y ps out i → length ps ≤ i → out ≡ shl_stage g s y ps
+  unfolding shl_bits
+  left_end {i} inv h = append_end inv.filled (ap (λ (l : List ℕ). shl_bits g y l (drop i (replicate (2 ^ s) g.false_gate ++ ps))) (drop_of_length-le ps h))
 
 -- ---- a stage to the right, t being 2 ^ s, and `stays` not y
 pub record ShrStage (g : Gates ℕ) (fill s t y stays : ℕ) (ps out : List ℕ) (i : ℕ) : Type 0 where
@@ -42,12 +55,6 @@ pub record ShrStage (g : Gates ℕ) (fill s t y stays : ℕ) (ps out : List ℕ)
   pub filled : Appending out (shr_bits g fill y (drop i ps) (drop (i + t) ps)) (shr_stage g fill s y ps) (length (drop i ps))
 
 module _ {g : Gates ℕ} {fill s t y stays : ℕ} {ps : List ℕ} where
-  pub right_start : t ≡ 2 ^ s → t ≤ 9223372036854775808 → stays ≡ g.not_gate y → length ps ≤ 64 → ShrStage g fill s t y stays ps [] 0
-  right_start e h f k = record { places = e; small = h; flips = f; filled = record { says = ap (λ (n : ℕ). shr_bits g fill y ps (drop n ps)) z; room = omega arith } }
-    where
-      z : 0 + t ≡ 2 ^ s
-      z = omega (arith, e)
-
   module _ {out out' : List ℕ} {i v : ℕ} (inv : ShrStage g fill s t y stays ps out i) (o : out' ≡ out ++ v ∷ []) (h : i < length ps) where
     turn : shr_bits g fill y (drop i ps) (drop (i + t) ps) ≡ v ∷ shr_bits g fill y (drop (i + 1) ps) (drop (i + 1 + t) ps) → ShrStage g fill s t y stays ps out' (i + 1)
     turn e = record { places = inv.places; small = inv.small; flips = inv.flips; filled = append_turn inv.filled o e (drop_next ps i h) }

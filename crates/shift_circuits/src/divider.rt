@@ -1,8 +1,9 @@
 // Division, bit by bit; `standard` is false for the circuit as Rust has it, and true for the
 // standard's division.
-ghost use Rattle.std.specs.Prelude.{◌≡◌, ◌∷◌, [], ◌++◌, ◌≤◌, length, drop, get_or};
+ghost use Rattle.std.specs.Prelude.{◌≡◌, List, [], ◌∷◌, ◌++◌, ◌≤◌, ℕ, length, map, drop, get_or};
 ghost use Rattle.std.specs.List.{list_all};
-ghost use Rattle.theory.specs.Circuit.{drop_top, next_remainder, no_carry, reduced, divide_step, bitblast_udiv_urem_rec, is_zero, udiv, urem};
+ghost use Rattle.theory.specs.Circuit.{drop_top, next_remainder, no_carry, reduced, divide_step};
+ghost use Rattle.theory.specs.Circuit.{bitblast_udiv_urem_rec, is_zero, udiv, urem};
 ghost use Rattle.store.specs.Numbers.{false_number, is_false_number};
 ghost use Rattle.store.specs.Lookup.{gates};
 
@@ -53,26 +54,27 @@ fn next_remainder(lookup: &Lookup, low: u32, r: &Bits) -> Bits
 }
 
 // bitblast_udiv_urem_rec: whether x is below y, which Rust takes from the carry into the top bit of
-// x - y, and the standard from the one out of it: there is none.
-fn no_carry(lookup: &Lookup, x: &Bits, y: &Bits, standard: bool) -> u32
-    requires beside { length x.now.items ≤ length y.now.items }
-    ensures { result ≡ no_carry (gates lookup.now) standard x.now.items y.now.items }
+// x - y, and the standard from the one out of it: there is none. Here and below, `not_y` are y's
+// bits inverted.
+fn no_carry(lookup: &Lookup, x: &Bits, not_y: &Bits, standard: bool) -> u32
+    requires beside { length x.now.items ≤ length not_y.now.items }
+    ensures { (y : List ℕ) → not_y.now.items ≡ map (gates lookup.now).not_gate y
+        → result ≡ no_carry (gates lookup.now) standard x.now.items y }
 {
-    let not_y = nots(lookup, y);
-    let sum = ripple_carry_adder(lookup, x, &not_y, TRUE);
+    let sum = ripple_carry_adder(lookup, x, not_y, TRUE);
     let carry = if standard { sum.out } else { sum.carry };
     lookup.not1(carry)
 }
 
 // bitblast_udiv_urem_rec: the remainder r where it is not below y. Rust does not subtract y: it
 // makes every bit `true`.
-fn reduced(lookup: &Lookup, r: &Bits, y: &Bits, standard: bool) -> Bits
-    requires beside { length r.now.items ≤ length y.now.items }
-    ensures { result.items ≡ reduced (gates lookup.now) standard r.now.items y.now.items }
+fn reduced(lookup: &Lookup, r: &Bits, not_y: &Bits, standard: bool) -> Bits
+    requires beside { length r.now.items ≤ length not_y.now.items }
+    ensures { (y : List ℕ) → not_y.now.items ≡ map (gates lookup.now).not_gate y
+        → result.items ≡ reduced (gates lookup.now) standard r.now.items y }
 {
     if standard {
-        let not_y = nots(lookup, y);
-        let sum = ripple_carry_adder(lookup, r, &not_y, TRUE);
+        let sum = ripple_carry_adder(lookup, r, not_y, TRUE);
         return sum.bits;
     }
     same_bits(TRUE, r.len())
@@ -85,7 +87,8 @@ pub struct Division {
     pub rem: Bits,
 }
 
-// bitblast_udiv_urem_rec, one step: from the quotient and the remainder of x shifted right.
+// bitblast_udiv_urem_rec, one step: from the quotient and the remainder of x shifted right. Where
+// Rust builds the inverted bits of y for each difference, they are looked up once.
 fn divide_step(lookup: &Lookup, x: &Bits, y: &Bits, half: &Division, standard: bool) -> Division
     requires some { 1 ≤ length x.now.items }
     requires beside { length x.now.items ≤ length y.now.items }
@@ -96,12 +99,13 @@ fn divide_step(lookup: &Lookup, x: &Bits, y: &Bits, half: &Division, standard: b
     ensures smaller { length result.rem.items ≤ length x.now.items }
 {
     let r1 = next_remainder(lookup, x[0], &half.rem);
-    let sign = no_carry(lookup, &r1, y, standard);
+    let not_y = nots(lookup, y);
+    let sign = no_carry(lookup, &r1, &not_y, standard);
     let low = lookup.ite3(sign, FALSE, TRUE);
     let q1 = shift_left(&half.quot, low);
-    let less = reduced(lookup, &r1, y, standard);
+    let less = reduced(lookup, &r1, &not_y, standard);
     let r2 = ites(lookup, sign, &r1, &less);
-    let below = no_carry(lookup, x, y, standard);
+    let below = no_carry(lookup, x, &not_y, standard);
     let falses = same_bits(FALSE, q1.len());
     let quot = ites(lookup, below, &falses, &q1);
     let rem = ites(lookup, below, x, &r2);

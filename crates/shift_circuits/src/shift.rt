@@ -29,10 +29,14 @@ impl Direction for Left {
     // bitblast_shift_op, stage s to the left: where y is true, bit i is bit i - 2^s of p, and
     // `false` where there is none.
     fn stage(&self, lookup: &Lookup, s: u32, y: u32, p: &Bits) -> Bits {
-        let count = p.len().min(1usize << s);
-        let mut moved = same_bits(FALSE, count);
-        append(&mut moved, &p[..p.len() - count]);
-        ites(lookup, y, &moved, p)
+        let thresh = 1usize << s;
+        let bits = p.as_slice();
+        let mut out = Bits::new();
+        for i in 0..bits.len() {
+            let from = if i < thresh { FALSE } else { bits[i - thresh] };
+            out.push(lookup.ite3(y, from, bits[i]));
+        }
+        out
     }
 }
 

@@ -44,7 +44,7 @@ impl Operation for Quotient {
         divider::udiv(&kept.lookup, x, y, self.standard)
     }
 
-    fn is_held(self, kept: &Kept, x: &Bits) -> bool {
+    fn is_held(self, x: &Bits) -> bool {
         self.standard
     }
 }
@@ -75,7 +75,7 @@ impl Operation for Remainder {
         divider::urem(&kept.lookup, x, y, self.standard)
     }
 
-    fn is_held(self, kept: &Kept, x: &Bits) -> bool {
+    fn is_held(self, x: &Bits) -> bool {
         self.standard
     }
 }

@@ -5,6 +5,7 @@ ghost use Rattle.theory.specs.Term.{Term as Tree};
 ghost use Rattle.theory.specs.Sort.{Sort, alike, fitting};
 ghost use Rattle.theory.specs.Limit.{first_terms};
 ghost use Rattle.theory.specs.Bits.{get_term_bits};
+ghost use Rattle.store.specs.declared.gates.Kept.{Kept};
 ghost use Rattle.store.specs.Kept.{kept_number, kept_term};
 ghost use Rattle.operand_rules.specs.Rules.{verdict_of};
 ghost use Rattle.operand_rules.specs.Operations.{OperandsOf, by_binary};
@@ -42,8 +43,9 @@ pub(crate) trait Operation: Copy {
             (circuit self (length x.now.items) xs ys) };
 
     // Whether the claim is held, by the first operand's bits.
-    fn is_held(self, kept: &Kept, x: &Bits) -> bool
-        ensures { (t : Tree) → x.now.items ≡ map (kept_number kept.now) (get_term_bits t)
+    fn is_held(self, x: &Bits) -> bool
+        ensures { (kept : Kept) (t : Tree)
+            → x.now.items ≡ map (kept_number kept) (get_term_bits t)
             → result ≡ holds self t };
 
     // its operands are bit-vectors of one width
@@ -72,7 +74,7 @@ impl<O: Operation> Binary for ByCircuit<O> {
         let xs = get_term_bits(kept, x, w);
         let ys = get_term_bits(kept, y, w);
         let bits = self.operation.bits(kept, &xs, &ys);
-        let accepted = if self.operation.is_held(kept, &xs) {
+        let accepted = if self.operation.is_held(&xs) {
             Verdict::Held
         } else {
             Verdict::FormOnly

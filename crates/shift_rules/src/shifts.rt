@@ -51,7 +51,7 @@ impl Operation for Left {
         shift::shl(&kept.lookup, &size, x, y)
     }
 
-    fn is_held(self, kept: &Kept, x: &Bits) -> bool {
+    fn is_held(self, x: &Bits) -> bool {
         true
     }
 }
@@ -80,7 +80,7 @@ impl Operation for Right {
         shift::lshr(&kept.lookup, &size, x, y)
     }
 
-    fn is_held(self, kept: &Kept, x: &Bits) -> bool {
+    fn is_held(self, x: &Bits) -> bool {
         true
     }
 }
@@ -112,7 +112,7 @@ impl Operation for SignedRight {
     }
 
     // Only a BvBbTerm has the bit `false`.
-    fn is_held(self, kept: &Kept, x: &Bits) -> bool {
+    fn is_held(self, x: &Bits) -> bool {
         self.standard || x.last().copied().unwrap_or(TRUE) == FALSE
     }
 }

@@ -3,7 +3,7 @@ use mathlib.Core.Path.{◌≡◌, sym, ap, subst, ◌∙◌}
 use mathlib.Core.Bool.{Bool, ◌&&◌, cond}
 use mathlib.Core.List.{List, ◌∷◌, map}
 use Rattle.std.specs.Prelude.{None as none, Some as some}
-use Prim.Native.Nat.{ℕ, ◌+◌, ◌*◌, ◌<◌, ◌≤◌}
+use Prim.Native.Nat.{ℕ, ◌+◌, ◌<◌, ◌≤◌}
 use native.Mathlib.Omega.{arith}
 use lib.Dec.{T, eqb, eqb→eq, eqb_refl, leb, leb→le, ltb, ltb→lt}
 use lib.Ieee.Fits.{and_l, and_r}
@@ -115,7 +115,3 @@ part_fits s i j h = let q = and_r (is_bv_sort s) _ h in (leb→le j i (and_l (le
 -- of zero_extend and sign_extend
 pub wider_fits : (s : Sort) (m : ℕ) → T (is_bv_sort s && leb (sort_width s + m) max_width) → sort_width s + m ≤ max_width
 wider_fits s m h = leb→le (sort_width s + m) max_width (and_r (is_bv_sort s) _ h)
-
--- of repeat
-pub copies_fit : (s : Sort) (m : ℕ) → T (is_bv_sort s && (leb 1 (m * sort_width s) && leb (m * sort_width s) max_width)) → m * sort_width s ≤ max_width
-copies_fit s m h = let n = m * sort_width s in leb→le n max_width (and_r (leb 1 n) _ (and_r (is_bv_sort s) _ h))

@@ -7,7 +7,7 @@ use Prim.Native.Nat.{ℕ, zero, suc, ◌+◌, ◌-◌, ◌*◌, ◌^◌, ◌<◌
 use native.Mathlib.Omega.{arith}
 use borrow.Enum.Refused.{Among}
 use denote.Enum.Declared.{tag_of}
-use lib.Dec.{T, eqb, ltb, ltb→lt}
+use lib.Dec.{T, ltb, ltb→lt}
 use lib.Ieee.Fits.{and_l, and_r}
 use lib.ListN.{length, drop, get_or}
 use lib.Pow.{pow_mono}
@@ -20,7 +20,7 @@ use Rattle.theory.specs.Value.{bit, to_number}
 use Rattle.theory.specs.Optional.{cons_some, collect}
 use Rattle.theory.specs.Record.{Bytes}
 use Rattle.theory.specs.Codes.{all_below}
-use Rattle.theory.specs.Verdict.{Verdict, held, not_constant, bit_not_literal, other_value}
+use Rattle.theory.specs.Verdict.{Verdict, not_constant, bit_not_literal}
 use Rattle.theory.specs.Rule.{args_of, index_of, constant_kind, constant, literal_bit, literal_bits, value_bits}
 use Rattle.theory.proofs.Distinct.{tree_0, tree_1}
 use Rattle.theory.proofs.Sound.{to_number_lt}
@@ -33,7 +33,6 @@ use Rattle.store.specs.declared.gates.Kept.{Kept}
 use Rattle.store.specs.Kept.{KeptArguments, kept_terms, kept_term, words_of}
 use Rattle.store.specs.Terms.{TermAt}
 use Rattle.operand_rules.proofs.Forms.{tree, others, index_is}
-use Rattle.operand_rules.proofs.Tests.{on_same, on_other}
 use Rattle.slice_rules.specs.Given.{literal_number}
 use Rattle.slice_rules.proofs.Copying.{one_back}
 use Rattle.slice_rules.proofs.Fitting.{same_place, args_are, args_not}
@@ -132,17 +131,3 @@ module _ {ks : List ℕ} where
       sum_lost value l =
           let p = inv.passed in
           sym (ap (value_bits value) (lost ks (i - 1) (omega arith) (ap literal_number (sym e) ∙ no_literal x l)))
-
-    -- none is left: the value is the sum, or another
-    module _ (h : i ≤ 0) (value : ℕ) where
-      whole : value_bits value (collect (map literal_number ks)) ≡ cond (eqb value sum) held other_value
-      whole =
-          let z : i ≡ 0 = omega arith in
-          ap (value_bits value) (sym (ap (λ (j : ℕ). collect (map literal_number (drop j ks))) z) ∙ inv.literal_are)
-          ∙ ap (λ (k : ℕ). cond (eqb value k) held other_value) (sym inv.value)
-
-      pub sum_same : value ≡ sum → held ≡ value_bits value (collect (map literal_number ks))
-      sum_same e = on_same held other_value e ∙ sym whole
-
-      pub sum_other : (value ≡ sum → ⊥) → other_value ≡ value_bits value (collect (map literal_number ks))
-      sum_other f = on_other held other_value f ∙ sym whole

@@ -16,14 +16,3 @@ pub moved_numbers : {A : Type 0} (h : A → ℕ) (d : A) (ts : List A) {xs : Lis
     → bits m (λ j. bit_of z xs (f j)) ≡ map h (bits m (λ j. bit_of d ts (f j)))
 moved_numbers h d ts {xs} {z} e g m f =
     bits_same m (λ j. get_or xs (f j) z) (λ j. h (get_or ts (f j) d)) (λ j. rw (e, ← g) (get_or_map h d ts (f j))) ∙ sym (map_bits h m (λ j. bit_of d ts (f j)))
-
--- past the end
-pub bit_past : (xs : List ℕ) (i d : ℕ) → length xs ≤ i → d ≡ bit_of d xs i
-bit_past [] i d h = refl
-bit_past (x ∷ xs) zero d h = absurd (omega arith)
-bit_past (x ∷ xs) (suc i) d h = bit_past xs i d (omega arith)
-
-pub bit_within : (xs : List ℕ) (i d : ℕ) → i < length xs → get_or xs i 0 ≡ bit_of d xs i
-bit_within [] i d h = absurd (omega arith)
-bit_within (x ∷ xs) zero d h = refl
-bit_within (x ∷ xs) (suc i) d h = bit_within xs i d (omega arith)

@@ -127,9 +127,6 @@ pub record Slicing (k : Kept) (a c : ℕ) (ks : List ℕ) (done i : ℕ) : Type 
   pub rest : slices_in k a c (kept_width k c) ks ≡ slices_in k a c done (drop i ks)
 
 module _ {k : Kept} {a c : ℕ} {ks : List ℕ} where
-  pub slices_start : {done : ℕ} → done ≡ kept_width k c → Slicing k a c ks done 0
-  slices_start e = record { passed = omega arith; rest = ap (λ (d : ℕ). slices_in k a c d ks) (sym e) }
-
   module _ {done i : ℕ} (inv : Slicing k a c ks done i) where
     module _ (h : i < length ks) {x : ℕ} (e : x ≡ get_or ks i 0) (r : Result ℕ R.Verdict) (f : Answers r (slice_verdict done (kept_term k a) (kept_term k c) (kept_term k x))) where
       -- the next slice

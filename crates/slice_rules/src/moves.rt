@@ -27,10 +27,7 @@ use terms::Term;
 fn bit_at(x: &Bits, i: usize) -> u32
     ensures { result ≡ bit_of false_number x.now.items i }
 {
-    match x.as_slice().get(i) {
-        Some(&bit) => bit,
-        None => FALSE,
-    }
+    x.as_slice().get(i).copied().unwrap_or(FALSE)
 }
 
 // How bits are moved: of `size` bits, bit j is bit (j + shift) modulo `cycle` of the operand's.

@@ -188,10 +188,6 @@ module _ {b n k : ℕ} {old memory : Bytes} (room : answer_bytes b * n ≤ lengt
         sealed_is = sealed_more b old memory first second k (omega arith) s.sealed_is e f;
       }
 
-pub sealing_end : {b n k : ℕ} {old memory : Bytes} → Sealing b n old memory k → n ≤ k → memory ≡ sealed b n old
-sealing_end {b} {n} {k} {old} s t =
-    let w = s.within in s.sealed_is ∙ ap (λ (j : ℕ). sealed b j old) (let e : k ≡ n = omega arith in e)
-
 -- answers as they stood while the job ran, each with the place of its step's record
 abbrev pub Note : Type 0
 Note = ℕ × Answer

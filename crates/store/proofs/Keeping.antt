@@ -21,10 +21,9 @@ use Rattle.theory.proofs.Bytes.{Sound, says_term}
 use Rattle.theory.specs.Places.{entry_at, tree_at, tree_of}
 use Rattle.theory.proofs.Distinct.{Entered, tree_0, tree_1}
 use Rattle.theory.proofs.Distinct as T
-use Rattle.terms.specs.Bodies.{Length}
 use Rattle.terms.specs.Framing.{record_at}
 use Rattle.terms.proofs.Numbers.{length_of}
-use Rattle.rows.specs.Layout.{link_bytes, link_size, offset_at, row_size}
+use Rattle.rows.specs.Layout.{link_size, offset_at, row_size}
 use Rattle.rows.proofs.RowLaws.{row_room}
 use Rattle.table.proofs.Face.{kept_at}
 use Rattle.terms.specs.declared.Term.{Term as Decoded}
@@ -41,7 +40,6 @@ use Rattle.store.specs.declared.shelf.Terms.{Terms}
 use Rattle.store.specs.KeptTerms.{Holds, kept_term}
 use Rattle.store.specs.Lookup.{Finds}
 use Rattle.store.specs.Kept as K
-use Rattle.store.specs.Terms.{TermAt}
 use Rattle.store.specs.Shelf.{Shelf, TermOn, item_args, args_at}
 use Rattle.store.proofs.Lookup.{says_count}
 use Rattle.theory.proofs.Basics.{T_true, some_inj, get_elem_of, get_elem_lt}
@@ -84,10 +82,6 @@ module _ {job work : Bytes} {n : ℕ} (s : Shelf job work n) where
   -- a row lies in the work memory
   pub row_lies : {k : ℕ} → k < n → k * row_size (link_size job) + row_size (link_size job) ≤ length work
   row_lies h = row_room s.rows h
-
-  -- the same by the bytes of a link, once it is known that they are the job's
-  pub row_lies_as : {b l k : ℕ} → b ≡ number_length job → l ≡ link_bytes b → k < n → (k * row_size l + row_size l ≤ length work) × Length l
-  row_lies_as {b} {l} {k} e f h = rw (f, e) (row_lies h, s.rows.link_length)
 
   pub row_bytes : (k : ℕ) → k < n → (entry_at (listed job work n) (first_terms + k)).bytes ≡ record_at job (offset_at (link_size job) work k)
   row_bytes k h =
@@ -191,11 +185,6 @@ module _ {t : Terms} {job work : Bytes} {n : ℕ} (h : Holds t job work n) where
   pub same_kept : (p : ℕ) → kept_term t p ≡ tree_at (listed job work n) p
   same_kept p = rw (h.job_is, h.work_is, h.rows_are) refl
 
-  pub same_at : {p : ℕ} {d : Decoded} → TermAt t.job.now t.work.now t.rows p d → TermAt job work n p d
-  same_at {p} {d} x =
-      subst (λ (j : Bytes). TermAt j work n p d) h.job_is
-      (subst (λ (w : Bytes). TermAt t.job.now w n p d) h.work_is (subst (λ (k : ℕ). TermAt t.job.now t.work.now k p d) h.rows_are x))
-
   pub same_on : {p : ℕ} {d : Decoded} → TermOn t.job.now t.work.now t.rows p d → TermOn job work n p d
   same_on {p} {d} x =
       subst (λ (j : Bytes). TermOn j work n p d) h.job_is
@@ -214,8 +203,3 @@ module _ (k : Kept) {job work : Bytes} {n : ℕ} (h : Finds k.lookup job work n)
   pub found_arguments : (a : Args) → K.kept_arguments k a ≡ map (tree_at (listed job work n)) (words_in job a)
   found_arguments a =
       ap (λ (j : Bytes). map (K.kept_term k) (words_in j a)) h.job_is ∙ ap (λ (l : Plain). map (tree_at l) (words_in job a)) found_terms
-
-  pub found_at : {p : ℕ} {d : Decoded} → K.IsTermAt k p d → TermAt job work n p d
-  found_at {p} {d} x =
-      subst (λ (j : Bytes). TermAt j work n p d) h.job_is
-      (subst (λ (w : Bytes). TermAt k.lookup.job.now w n p d) h.work_is (subst (λ (r : ℕ). TermAt k.lookup.job.now k.lookup.work.now r p d) h.rows_are x))

@@ -8,7 +8,7 @@ use native.Mathlib.Omega.{arith}
 use lib.Dec.{T, eqb, eqb→eq, leb, leb→le}
 use lib.Ieee.Fits.{and_l}
 use lib.ListN.{length, length-drop}
-use borrow.Author.Tests.{eq-eqb, ne_eqb}
+use borrow.Author.Tests.{ne_eqb}
 use Rattle.theory.specs.Kind.{Op, Not, And, Or, Xor, Equals, Ite, BvBbTerm, kind}
 use Rattle.theory.specs.Term.{Term, Terms, node, fold, folds, from_list}
 use Rattle.theory.specs.Sort.{Sort, bool, bv, guard, good, first, same_sort, sort_of, sort_width, sorts_of}

@@ -58,11 +58,6 @@ module _ {job work : Bytes} {n : ℕ} (s : Shelf job work n) where
   low_depth (suc zero) h = ap depth (sym (tree_1 (listed job work n) s.well))
   low_depth (suc (suc p)) h = absurd (omega arith)
 
-  pub low_root : (p : ℕ) → p < first_terms → p ≡ root_kind (tree_at (listed job work n) p)
-  low_root zero h = ap root_kind (sym (tree_0 (listed job work n) s.well))
-  low_root (suc zero) h = ap root_kind (sym (tree_1 (listed job work n) s.well))
-  low_root (suc (suc p)) h = absurd (omega arith)
-
   pub low_bool : (p : ℕ) → p < first_terms → some 0 ≡ bool_depth (tree_at (listed job work n) p)
   unfolding bool_depth
   low_bool p h = rw (← low_sort p h) (ap some (low_depth p h))
@@ -163,15 +158,6 @@ module _ {job work : Bytes} {n : ℕ} (s : Shelf job work n) where
 
     pub row_bool : {w : ℕ} → w ≡ sort_width (sort_of (tree_at (listed job work n) (first_terms + (p - first_terms)))) → w ≡ 0 → bool ≡ sort_of (tree_at (listed job work n) p)
     row_bool e z = row_by.0 (sym (at_place e) ∙ z)
-
-    pub row_bv : {w : ℕ} → w ≡ sort_width (sort_of (tree_at (listed job work n) (first_terms + (p - first_terms)))) → (w ≡ 0 → ⊥) → bv w ≡ sort_of (tree_at (listed job work n) p)
-    row_bv e f = ap bv (at_place e) ∙ row_by.1 (λ z. f (at_place e ∙ z))
-
-    pub row_deep : {d : ℕ} → d ≡ depth (tree_at (listed job work n) (first_terms + (p - first_terms))) → d ≡ depth (tree_at (listed job work n) p)
-    row_deep e = e ∙ ap (λ (i : ℕ). depth (tree_at (listed job work n) i)) row_place
-
-    pub row_bool_deep : {d : Option ℕ} → d ≡ bool_depth (tree_at (listed job work n) (first_terms + (p - first_terms))) → d ≡ bool_depth (tree_at (listed job work n) p)
-    row_bool_deep e = e ∙ ap (λ (i : ℕ). bool_depth (tree_at (listed job work n) i)) row_place
 
     pub row_kind : {d : ℕ} → d ≡ root_kind (tree_at (listed job work n) (first_terms + (p - first_terms))) → d ≡ root_kind (tree_at (listed job work n) p)
     row_kind e = e ∙ ap (λ (i : ℕ). root_kind (tree_at (listed job work n) i)) row_place

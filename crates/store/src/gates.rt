@@ -147,8 +147,8 @@ impl<'a> Kept<'a> {
         self.terms().term_on(place)
     }
 
-    // The sort of the term at a place: `true` and `false` are Bools, and a row has its term's width,
-    // 0 for a Bool.
+    // The sort of the term at a place: `true` and `false` are Bools, and a row has its term's
+    // width, 0 for a Bool.
     pub fn sort_at(&self, place: u32) -> Sort
         requires { place < first_terms + self.now.lookup.rows }
         ensures { sort_read result ≡ sort_of (kept_term self.now place) }

@@ -79,7 +79,8 @@ impl<'a> Terms<'a> {
         Row { at, kind, measure }
     }
 
-    // The width of row k's term, 0 for a Bool, where the numbers of terms have N bytes, and links L.
+    // The width of row k's term, 0 for a Bool, where the numbers of terms have N bytes, and links
+    // L.
     fn row_width_as<const N: usize, const L: usize>(&self, k: usize) -> usize
         requires kept { k < self.now.rows }
         requires own { N ≡ number_length self.now.job.now }

@@ -3,7 +3,7 @@ ghost use Rattle.std.specs.Prelude.{◌≡◌};
 ghost use Rattle.theory.specs.Sort.{sort_width};
 ghost use Rattle.store.specs.Sorts.{sort_read};
 
-// The sort of a term: Bool, or a bit-vector of a width. What has no sort is an Option.
+// The sort of a term: Bool, or a bit-vector of a width. Where a term may have none it is an Option.
 #[derive(Clone, Copy, Debug, PartialEq, Eq)]
 pub enum Sort {
     Bool,

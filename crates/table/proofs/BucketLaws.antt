@@ -11,7 +11,7 @@ use lib.Dec.{eqb, ltb}
 use lib.ListN.{drop, get_or, length}
 use lib.Seq.{drop-drop}
 use borrow.Author.Tests.{eq-eqb, le-ltb, lt-ltb, ne_eqb}
-use Rattle.theory.specs.Record.{Bytes, extent}
+use Rattle.theory.specs.Record.{Bytes}
 use Rattle.terms.specs.Framing.{record_at}
 use Rattle.rows.specs.Layout.{link_at, missing, number_at, offset_at}
 use Rattle.rows.specs.Rows.{kept_as, place_from, place_of, row_record}
@@ -148,10 +148,6 @@ bucket_same work after c x e = go (ℕ_discrete c 0)
     go (yes z) = bucket_none after c x z ∙ sym (bucket_none work c x z)
     go (no z) = bucket_at work after c x (e (omega (arith, z)))
 
--- a cell of c ones of l bytes each lies where they do
-pub cell_inside : (l start : ℕ) {c j len : ℕ} → (0 < c → start + c * l ≤ len) → j < c → start + j * l + l ≤ len
-cell_inside l start inside h = let p = inside (omega arith) in omega (arith, row_before l h)
-
 -- the newest row, with a head and without
 pub first_within : (l : ℕ) (work : Bytes) (n start c j : ℕ) → j < c → first_in l work n start c j ≡ head_at l work start j
 unfolding first_in
@@ -243,9 +239,6 @@ module _ {l : ℕ} {job work : Bytes} {n : ℕ} {x : Bytes} where
 
       pub seek_row : held - 1 < n
       seek_row = row_below
-
-      pub seek_inside : {at : ℕ} → at ≡ offset_at l work (held - 1) → at + extent (drop at job) ≤ length job
-      seek_inside e = rw e (s.table.rows.inside (held - 1) row_below)
 
       pub seek_found : {at : ℕ} → at ≡ offset_at l work (held - 1) → x ≡ record_at job at → held - 1 + 2 ≡ place_of x (kept_as l job work n)
       seek_found {at} e q =

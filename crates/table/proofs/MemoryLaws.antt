@@ -201,9 +201,6 @@ pub record Unmoved (l : ℕ) (work after : Bytes) (n : ℕ) : Type 0 where
   pub offset : (k : ℕ) → k < n → offset_at l after k ≡ offset_at l work k
   pub measure : (k : ℕ) → k < n → measure_at l after k ≡ measure_at l work k
 
-pub unmoved_start : (l : ℕ) (work : Bytes) (n : ℕ) → Unmoved l work work n
-unmoved_start l work n = record { offset = λ k h. refl; measure = λ k h. refl }
-
 rows_less : (l : ℕ) (job work : Bytes) (n : ℕ) → Rows l job work (n + 1) → Rows l job work n
 rows_less l job work n rows = record { link_length = rows.link_length; short = rows.short; few = omega (arith, rows.few); room = omega (arith, rows.room); inside = λ k h. rows.inside k (omega arith) }
 
@@ -243,9 +240,6 @@ module _ (l : ℕ) (job work : Bytes) (k start c : ℕ) (table : TableOf l job w
 -- ---- the numbers that the code reads to drop the last row
 
 module _ (l : ℕ) (job work : Bytes) (k start c at : ℕ) (table : TableOf l job work (k + 1) start c) (place : at ≡ offset_at l work k) where
-  pub drop_inside : at + extent (drop at job) ≤ length job
-  drop_inside = rw place (table.rows.inside k (omega arith))
-
   pub drop_is : (len j link : ℕ) → len ≡ number_at job at 2 → j ≡ bucket_of work c (take (at + len + 2 - at) (drop at job)) → link ≡ link_at l work k
       → stored_head l work start c j link ≡ dropped_row l job work k start c
   unfolding dropped_row row_bucket
@@ -273,14 +267,6 @@ rows_least b len = let e = rows_is b len in omega arith
 
 rows_above : (b n len : ℕ) → n < len / term_bytes b → n < max_terms b → n < most_rows b len
 rows_above b n len f m = let e = rows_is b len in omega arith
-
-quotient_least : (b n len : ℕ) → n * row_size (link_bytes b) ≤ heads_start b len → n ≤ len / term_bytes b
-unfolding heads_start
-quotient_least b n len h = go (dec_lt (most_rows b len) n)
-  where
-    go : Dec (most_rows b len < n) → n ≤ len / term_bytes b
-    go (yes l) = absurd (let r = row_before (row_size (link_bytes b)) l in omega arith)
-    go (no l) = let r = rows_least b len in omega arith
 
 pub start_within : (b len : ℕ) → heads_start b len ≤ len
 unfolding heads_start
@@ -316,10 +302,6 @@ start_room b n len h few = row_before (row_size (link_bytes b)) (rows_above b n 
 pub row_memory : (b n len : ℕ) {l : ℕ} → l ≡ link_bytes b → n * term_bytes b + term_bytes b ≤ len → n < max_terms b → n * row_size l + row_size l ≤ len
 row_memory b n len e h few = rw e (le_trans (start_room b n len h few) (start_within b len))
 
--- what the kept terms cost is in the memory
-pub table_room : (b : ℕ) {job work : Bytes} {n : ℕ} → TableAs b job work n → n * term_bytes b ≤ length work
-table_room b {job} {work} {n} table = le_trans (row_least (term_bytes b) (quotient_least b n (length work) table.below)) (quotient_room (length work) (term_bytes b))
-
 -- there is always a head allowed, and no more than of any table
 pub heads_some : (l : ℕ) → 0 < most_heads_of l
 unfolding most_heads_of
@@ -350,6 +332,13 @@ count_none l len start h =
     let e : len - start - 4 ≡ 0 = omega arith in
     let q : (len - start - 4) / l ≡ 0 = rw e (zero-div l) in
     sym q ∙ count_few l len start (let m = heads_some l in omega arith)
+
+pub count_is : (l len start : ℕ) → min ((len - start - 4) / l) (most_heads_of l) ≡ head_count l len start
+count_is l len start = go (dec_lt ((len - start - 4) / l) (most_heads_of l))
+  where
+    go : Dec ((len - start - 4) / l < most_heads_of l) → min ((len - start - 4) / l) (most_heads_of l) ≡ head_count l len start
+    go (yes h) = let e = count_few l len start h in omega arith
+    go (no h) = let e = count_most l len start (omega arith) in omega arith
 
 pub count_least : (l len start : ℕ) → (head_count l len start ≤ (len - start - 4) / l) × (head_count l len start ≤ most_heads)
 count_least l len start = go (dec_lt ((len - start - 4) / l) (most_heads_of l)) (heads_least l)
@@ -432,10 +421,6 @@ length_cleared work =
 pub cleared_short : (work : Bytes) → length work < 4 → cleared work ≡ work
 unfolding cleared
 cleared_short work h = let z : length work - 4 ≡ 0 = omega arith in rw z
-
-pub cleared_to : (work : Bytes) (i : ℕ) → i ≡ length work - 4 → replicate i 0 ++ drop i work ≡ cleared work
-unfolding cleared
-cleared_to work i e = rw e
 
 cleared_zero : (work : Bytes) (at : ℕ) → at + 4 < length work → get_or (cleared work) at 0 ≡ 0
 unfolding cleared

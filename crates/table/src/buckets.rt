@@ -5,7 +5,9 @@ ghost use Rattle.std.specs.Prelude.{◌≡◌, ◌+◌, ◌*◌, ◌-◌, ◌/�
 ghost use Rattle.theory.specs.Limit.{term_bytes};
 ghost use Rattle.rows.specs.Layout.{Bounded, link_bytes};
 ghost use Rattle.terms.specs.Bodies.{Length};
-ghost use Rattle.table.specs.Buckets.{most_heads, most_heads_of, seed_bytes, fold, hash_end, most_rows, heads_start, head_count, hash_of, bucket_of, first_in, first_of, stored_head};
+ghost use Rattle.table.specs.Buckets.{most_rows, heads_start, most_heads, most_heads_of};
+ghost use Rattle.table.specs.Buckets.{head_count, seed_bytes, fold, hash_end, hash_of};
+ghost use Rattle.table.specs.Buckets.{bucket_of, first_in, first_of, stored_head};
 
 use rows::bytes::{number_of, put_number_of};
 use rows::layout::{FIXED_BYTES, OFFSET_BYTES};
@@ -42,13 +44,12 @@ fn terms_in<const B: usize>(len: usize) -> usize
 }
 
 // How many rows it can ever hold.
+#[tactic(auto, unfolding(crate::specs::Buckets::most_rows))]
 fn most_rows<const B: usize>(len: usize) -> usize
     requires { Length B }
     ensures { result ≡ most_rows B len }
 {
-    let most = Term::max_terms(B);
-    let fit = terms_in::<B>(len);
-    if fit < most { fit } else { most }
+    terms_in::<B>(len).min(Term::max_terms(B))
 }
 
 // Where the heads start in a work memory of `len` bytes: after as many rows as it can ever hold.
@@ -83,9 +84,8 @@ fn head_count<const L: usize>(len: usize, start: usize) -> usize
     if left < SEED_BYTES {
         return 0;
     }
-    let most = most_heads::<L>();
     let heads = (left - SEED_BYTES) / L;
-    if heads < most { heads } else { most }
+    heads.min(most_heads::<L>())
 }
 
 // The same modulo 2 ^ 31 - 1, and not much above it: two shifts in place of a division.

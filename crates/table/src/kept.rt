@@ -6,7 +6,8 @@ ghost use Rattle.rows.specs.Layout.{link_bytes, row_size};
 ghost use Rattle.rows.specs.Rows.{kept, place_of};
 ghost use Rattle.terms.specs.Bodies.{Length};
 ghost use Rattle.table.specs.Lent.{records_as};
-ghost use Rattle.table.specs.Buckets.{TableAs, Table, TableOf, added_row, dropped_row, unless_missing};
+ghost use Rattle.table.specs.Buckets.{TableAs, Table, TableOf};
+ghost use Rattle.table.specs.Buckets.{added_row, dropped_row, unless_missing};
 ghost use Rattle.table.specs.Promise.{TermLimit, room_for, Grown, Cut};
 
 use super::buckets::{Heads, first_of};
@@ -59,7 +60,9 @@ fn has_room<const B: usize>(n: usize, limit: usize, len: usize) -> bool
 
 // Adds the record that stands at `at` in the job to n kept ones, with its measure, unless one of
 // them equals it; none where there is no room. There may be `limit` terms; above the rack's limit
-// it is the rack's. Terms' numbers have B bytes, and links L.
+// it is the rack's. Terms' numbers have B bytes, and links L. Copied into its callers: its
+// arguments and its result then stay in registers (docs/PERFORMANCE.md).
+#[inline(always)]
 pub fn add_record<const B: usize, const L: usize>(
     job: &[u8],
     work: &mut [u8],

@@ -1,12 +1,11 @@
 // Records that a caller names by parts of known sizes, an index or a value: built in an array, and
 // looked up.
-ghost use Rattle.std.specs.Prelude.{◌≡◌, ◌≤◌, take};
+ghost use Rattle.std.specs.Prelude.{◌≡◌};
 ghost use Rattle.terms.specs.Bodies.{Length};
 ghost use Rattle.rows.specs.Layout.{link_bytes};
-ghost use Rattle.rows.specs.Rows.{place_of};
 ghost use Rattle.table.specs.Lent.{records_as, indexed_place, constant_place};
 ghost use Rattle.table.specs.Buckets.{TableAs, Table, unless_missing};
-ghost use Rattle.table.specs.Keys.{key_bytes, last_number, place_indexed, place_constant};
+ghost use Rattle.table.specs.Keys.{last_number, place_indexed, place_constant};
 
 use super::buckets::{BODY_AT, KIND_AT};
 use super::kept::find_record;
@@ -34,23 +33,6 @@ pub fn last_number<const B: usize>() -> usize
     }
 }
 
-// The place of the record that is the first `len` bytes of the array, among n kept ones.
-#[inline]
-fn find_key<const B: usize, const L: usize>(
-    job: &[u8],
-    work: &[u8],
-    n: usize,
-    key: [u8; KEY_BYTES],
-    len: usize,
-) -> Option<u32>
-    requires kept { TableAs B job.now work.now n }
-    requires linked { L ≡ link_bytes B }
-    requires short { len ≤ key_bytes }
-    ensures { result ≡ unless_missing (place_of (take len key) (records_as job work n B)) }
-{
-    find_record::<B, L>(job, work, n, &key[..len])
-}
-
 // The place of the record of a kind with an index and one argument.
 fn find_indexed_as<const B: usize, const L: usize>(
     job: &[u8],
@@ -75,7 +57,7 @@ fn find_indexed_as<const B: usize, const L: usize>(
     put_number_of::<{ Term::NUMBER_BYTES }>(&mut key, KIND_AT, kind as usize);
     put_number_of::<{ Term::NUMBER_BYTES }>(&mut key, BODY_AT, index as usize);
     put_number_of::<B>(&mut key, at, x);
-    find_key::<B, L>(job, work, n, key, end)
+    find_record::<B, L>(job, work, n, &key[..end])
 }
 
 // The same in the job's own number length, or MISSING. A call for each of the two: each is then
@@ -115,7 +97,7 @@ fn find_constant_as<const B: usize, const L: usize>(
     put_number_of::<{ Term::NUMBER_BYTES }>(&mut key, KIND_AT, kind as usize);
     put_number_of::<{ Term::NUMBER_BYTES }>(&mut key, BODY_AT, width as usize);
     put_number_of::<{ Term::VALUE_BYTES }>(&mut key, at, value as usize);
-    find_key::<B, L>(job, work, n, key, end)
+    find_record::<B, L>(job, work, n, &key[..end])
 }
 
 // The same in the job's own number length, or MISSING. A call for each of the two: each is then

@@ -97,9 +97,8 @@ fn find_long<const S: usize>(job: &[u8], work: &[u8], n: usize, kind: u32, args:
     requires bounded { S ≤ list_bytes }
     ensures { result ≡ place_list long_bytes kind args.now (records_as job work n long_bytes) }
 {
-    find_built::<{ Term::LONG_BYTES }, LONG_LINK_BYTES, S>(job, work, n, kind, args).unwrap_or(
-        MISSING,
-    )
+    let place = find_built::<{ Term::LONG_BYTES }, LONG_LINK_BYTES, S>(job, work, n, kind, args);
+    place.unwrap_or(MISSING)
 }
 
 // The place of the record of a kind with one argument.

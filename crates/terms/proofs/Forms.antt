@@ -138,9 +138,6 @@ passed low (suc n) {k} before h r =
     let p = passed low n before h r.0 in
     (p.0, rw add-suc (past p.1 r.1))
 
-pub none_from_40 : {k : ℕ} → 40 ≤ k → Rest 60 4 k (Rest 40 19 k (Unit {0})) → shape_of k ≡ none
-none_from_40 {k} h r = none_over (passed 40 19 (Unit {0}) h r.0.0.0.0).1 r.0.0.0.1 r.0.0.1 r.0.1 r.1
-
 pub none_below_40 : {k : ℕ} → k < 40 → Rest 30 2 k (Rest 20 6 k (Rest 10 3 k (Unit {0}))) → shape_of k ≡ none
 none_below_40 {k} h r =
     go r.0.0.0.0.0.0.0.0 (dec_lt k 20)

@@ -1,12 +1,10 @@
 -- Argument lists: the numbers in them, and the test that all are below a count.
-use mathlib.Core.Path.{◌≡◌, refl, sym, ap, subst, ◌∙◌}
-use mathlib.Core.Bool.{Bool, true, false, ◌&&◌}
-use mathlib.Core.List.{List, [], ◌∷◌}
+use mathlib.Core.Path.{◌≡◌, refl, sym, subst, ◌∙◌}
+use mathlib.Core.Bool.{true, false}
+use mathlib.Core.List.{List, ◌∷◌}
 use Prim.Native.Nat.{ℕ, zero, suc, ◌+◌, ◌*◌, ◌<◌, ◌≤◌}
 use native.Mathlib.Numerals.{add-one}
-use native.Mathlib.Nat.{mul-le-mul_left}
 use native.Mathlib.Omega.{arith}
-use lib.Dec.{ltb}
 use lib.ListN.{length, take, drop, get_or, drop_of_length-le}
 use lib.Seq.{drop-drop, drop-cons}
 use borrow.Author.Tests.{lt-ltb, le-ltb}
@@ -17,7 +15,7 @@ use Rattle.terms.specs.declared.Args.{Args}
 use Rattle.terms.specs.declared.Term.{Term}
 use Rattle.terms.specs.declared.Operands.{Operands}
 use Rattle.terms.specs.declared.Operands.TheVariants.{List as Listed}
-use Rattle.terms.specs.Decoded.{Inside, OperandsPlaced, words_in, operands_of, numbers_of, arguments_of}
+use Rattle.terms.specs.Decoded.{Inside, OperandsPlaced, words_in, operands_of}
 
 -- ---- argument i is the number at its place
 words_at : (b k : ℕ) (bs : Bytes) (i : ℕ) → i < k → get_or (words b k bs) i 0 ≡ little_endian (take b (drop (b * i) bs))
@@ -30,13 +28,6 @@ words_at b (suc k) bs (suc i) h =
 pub argument_is : (job : Bytes) (a : Args) (i : ℕ) → i < a.count → {x : ℕ} → x ≡ little_endian (take a.bytes (drop (a.at + a.bytes * i) job)) → x ≡ get_or (words_in job a) i 0
 argument_is job a i h e = e ∙ sym (words_at a.bytes a.count (drop a.at job) i h ∙ rw drop-drop)
 
--- it lies in the job
-pub argument_inside : {job : Bytes} {a : Args} (i : ℕ) → Inside job a → i < a.count → a.at + a.bytes * i + a.bytes ≤ length job
-argument_inside {job} {a} i p h =
-    let e = p.end in
-    let m : a.bytes * suc i ≤ a.bytes * a.count = mul-le-mul_left a.bytes (omega arith) in
-    omega arith
-
 pub words_in_length : (job : Bytes) (a : Args) → length (words_in job a) ≡ a.count
 words_in_length job a = words_length a.bytes a.count (drop a.at job)
 
@@ -46,14 +37,6 @@ below_on {n} {x} xs h = rw (lt-ltb x n h)
 
 pub below_off : {n x : ℕ} (xs : List ℕ) → n ≤ x → all_below n (x ∷ xs) ≡ false
 below_off {n} {x} xs h = rw (le-ltb x n h)
-
--- the last one
-pub below_last : (n x : ℕ) → all_below n (x ∷ []) ≡ ltb x n
-below_last n x = go (ltb x n)
-  where
-    go : (b : Bool) → b && true ≡ b
-    go true = refl
-    go false = refl
 
 -- ---- the loop: the test of the list is that of what is left from i on
 pub record Passing (n : ℕ) (xs : List ℕ) (i : ℕ) : Type 0 where
@@ -75,9 +58,5 @@ module _ {n : ℕ} {xs : List ℕ} where
   pass_end {i} p h = sym (p.rest ∙ rw (drop_of_length-le xs {i = i} h))
 
 -- ---- the arguments of a term, once it is known which
-pub by_operands : (job : Bytes) (n : ℕ) (t : Term) {o : Operands} (p : Operands) {w : Bool} → o ≡ operands_of t → o ≡ p
-    → all_below n (numbers_of job p) ≡ w → w ≡ all_below n (arguments_of job t)
-by_operands job n t p e f h = sym (ap (λ (q : Operands). all_below n (numbers_of job q)) (sym e ∙ f) ∙ h)
-
 pub list_inside : (job : Bytes) (t : Term) {o : Operands} (a : Args) → o ≡ operands_of t → o ≡ Listed a → OperandsPlaced job (operands_of t) → Inside job a
 list_inside job t a e f h = subst (OperandsPlaced job) (sym e ∙ f) h

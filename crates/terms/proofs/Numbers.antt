@@ -8,7 +8,7 @@ use native.Mathlib.Omega.{arith}
 use mir.Syntax.{w8}
 use mir.Val.{Fits}
 use lib.Dec.{T}
-use lib.ListN.{length, take, drop, get_or, length-take, length-drop, get_or-eq_default}
+use lib.ListN.{length, take, drop, get_or, length-take}
 use lib.Seq.{take-nil, get_or-take, get_or-drop, drop-drop}
 use Rattle.theory.specs.Limit.{long_bytes}
 use Rattle.theory.specs.Term.{same_numbers}
@@ -23,13 +23,6 @@ pub all_bytes : (bs : Bytes) → ((i : ℕ) → Fits w8 (get_or bs i 0)) → All
 all_bytes [] f = tt
 all_bytes (b ∷ bs) f = ((f 0).fits, all_bytes bs (λ i. f (suc i)))
 
--- ---- a byte after a place, 0 past the end
-pub byte_past : (s : Bytes) (at i : ℕ) → length s - at ≤ i → 0 ≡ get_or (drop at s) i 0
-byte_past s at i h = sym (get_or-eq_default (drop at s) 0 (rw length-drop h))
-
-pub byte_there : (s : Bytes) (at i : ℕ) {b : ℕ} → b ≡ get_or s (at + i) 0 → b ≡ get_or (drop at s) i 0
-byte_there s at i e = e ∙ sym (get_or-drop at s i 0)
-
 -- ---- the sum
 -- the lowest byte, and 256 times the number in the others
 digit : (m : ℕ) (bs : Bytes) → little_endian (take (suc m) bs) ≡ get_or bs 0 0 + 256 * little_endian (take m (drop 1 bs))
@@ -43,11 +36,6 @@ pub record Summing (bs : Bytes) (n x i : ℕ) : Type 0 where
   pub bound : x < 256 ^ (n - i)
 
 module _ {bs : Bytes} {n : ℕ} where
-  pub sum_start : Summing bs n 0 n
-  sum_start =
-      let e : n - n ≡ 0 = omega arith in
-      record { passed = omega arith; sum = rw e; bound = rw e (omega arith) }
-
   pub sum_turn : {x i b : ℕ} → Summing bs n x i → 0 < i → b ≡ get_or bs (i - 1) 0 → b < 256 → Summing bs n (256 * x + b) (i - 1)
   sum_turn {x} {i} {b} s h e l =
       let p = s.passed in
@@ -67,12 +55,6 @@ module _ {bs : Bytes} {n : ℕ} where
       let l : n - i ≤ 7 = omega arith in
       let q : 256 ^ (n - i) ≤ 256 ^ 7 = pow-le-pow_right (omega arith) l in
       omega (arith, s.bound)
-
-  pub sum_end : {x i : ℕ} → Summing bs n x i → i ≤ 0 → (x ≡ little_endian (take n bs)) × (x < 256 ^ n)
-  sum_end {x} {i} s h =
-      let z : i ≡ 0 = omega arith in
-      let e : n - i ≡ n = omega arith in
-      (s.sum ∙ rw (e, z), rw e at s.bound)
 
 -- ---- a number of few bytes, byte by byte
 byte_of : (s : Bytes) (at k : ℕ) → get_or (drop k (drop at s)) 0 0 ≡ get_or s (at + k) 0

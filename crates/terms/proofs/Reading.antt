@@ -11,7 +11,7 @@ use lib.Seq.{drop-drop, take-take}
 use borrow.Author.Tests.{le-leb, lt-leb, eq-eqb, ne_eqb, leb-true, leb-false, eqb-true}
 use Rattle.theory.specs.Limit.{number_bytes, max_arguments}
 use Rattle.theory.specs.Kind.{Arity, exactly, many, arity, takes}
-use Rattle.theory.specs.Record.{Bytes, little_endian, word, words, extent, whole, kind_of, body_of, fits, arguments, step, chain, back, misfit, premise_count, chain_front, chain_fits, Shape, plain, indexed, twice_indexed, valued, make, shapes, find_shape, shape_of, read, read_term, read_step, read_chain, read_back}
+use Rattle.theory.specs.Record.{Bytes, little_endian, word, words, extent, whole, kind_of, body_of, fits, arguments, step, chain, misfit, premise_count, chain_front, chain_fits, Shape, plain, indexed, twice_indexed, valued, make, shapes, find_shape, shape_of, read, read_term, read_step, read_chain, read_back}
 use Rattle.std.specs.Prelude.{None as Broken, Some as Ends}
 use Rattle.terms.specs.Framing.{part, record_at, frame_of}
 use Rattle.terms.specs.declared.kind.Form.{Form}
@@ -25,24 +25,6 @@ use Rattle.terms.proofs.Forms.{shape_number}
 -- ---- where a record ends
 pub length_after : (n : ℕ) (bs : Bytes) → length (drop n bs) ≡ length bs - n
 length_after n bs = length-drop n bs
-
-module _ (bs : Bytes) where
-  pub frame_short : length bs < number_bytes → Broken ≡ frame_of bs
-  unfolding frame_of
-  frame_short l = rw (lt-leb number_bytes (length bs) l)
-
-  module _ (two : number_bytes ≤ length bs) where
-    pub frame_low : word bs < number_bytes → Broken ≡ frame_of bs
-    unfolding frame_of
-    frame_low h = rw (le-leb number_bytes (length bs) two, lt-leb number_bytes (word bs) h)
-
-    pub frame_beyond : number_bytes ≤ word bs → length bs < extent bs → Broken ≡ frame_of bs
-    unfolding frame_of
-    frame_beyond h l = rw (le-leb number_bytes (length bs) two, le-leb number_bytes (word bs) h, lt-leb (extent bs) (length bs) l)
-
-    pub frame_whole : number_bytes ≤ word bs → extent bs ≤ length bs → Ends (extent bs) ≡ frame_of bs
-    unfolding frame_of
-    frame_whole h l = rw (le-leb number_bytes (length bs) two, le-leb number_bytes (word bs) h, le-leb (extent bs) (length bs) l)
 
 -- ---- what a caller learns of the place from its frame
 pub broken_learnt : (bs : Bytes) → Broken ≡ frame_of bs → whole bs ≡ false
@@ -139,9 +121,6 @@ step_test : (c : ℕ) (b : Bytes) {size : ℕ} → length b ≡ size → sized c
 step_test c b e = rw (← e, leb-zero)
 
 module _ (c : ℕ) (job : Bytes) (body size : ℕ) (h : body + size ≤ length job) where
-  pub step_misfit : sized c size step_form ≡ false → misfit ≡ read_step c (part job body size)
-  step_misfit e = rw (sym (step_test c (part job body size) (length_part job body size h)) ∙ e)
-
   -- the literals lie in the body, and are not too many
   pub step_sizes : sized c size step_form ≡ true → Sized c number_bytes size × ((size - number_bytes) / c ≤ max_arguments)
   step_sizes e =
@@ -173,9 +152,6 @@ module _ (c : ℕ) (job : Bytes) (body size : ℕ) (h : body + size ≤ length j
       sym (ap (λ (q : Bool). cond q (step (word b) (arguments c number_bytes b)) misfit) t ∙ ap₂ step w a)
 
   -- ---- a chain's body
-  -- the body has not both numbers in front
-  pub chain_short : size < chain_front → misfit ≡ read_chain c (part job body size)
-  chain_short l = rw (length_part job body size h, lt-leb chain_front size l)
 
   module _ (l : chain_front ≤ size) {n : ℕ} (f : n ≡ word (drop (body + number_bytes) job)) where
     -- the number of premises
@@ -215,15 +191,6 @@ module _ (c : ℕ) (job : Bytes) (body size : ℕ) (h : body + size ≤ length j
         ∙ ap little_endian (take-take c (size - (chain_front + number_bytes * n)) (drop (chain_front + number_bytes * n) (drop body job)) (omega arith))
         ∙ ap (λ (bs : Bytes). little_endian (take c bs)) (drop-drop (chain_front + number_bytes * n) body job) ∙ sym q in
         sym (rw (t, chain_count, w, a, z))
-
-  -- ---- a back's body
-  pub back_misfit : (size ≡ c → ⊥) → misfit ≡ read_back c (part job body size)
-  back_misfit n = rw (length_part job body size h, ne_eqb size c n)
-
-  pub back_fits : size ≡ c → {n : ℕ} → n ≡ little_endian (take c (drop body job)) → back n ≡ read_back c (part job body size)
-  back_fits s {n} f =
-      let w : little_endian (take c (part job body size)) ≡ n = ap little_endian (take-take c size (drop body job) (omega arith)) ∙ sym f in
-      rw (length_part job body size h, eq-eqb size c s, w)
 
 -- ---- a record's kind and body, by its place in the job
 -- the record lies in the job, and has a kind

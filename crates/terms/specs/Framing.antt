@@ -13,8 +13,3 @@ record_at job at = part job at (extent (drop at job))
 -- the bytes of the whole record at the start of these bytes, if one stands there
 unfoldable pub frame_of : Bytes → Option ℕ
 frame_of bs = cond (whole bs) (Some (extent bs)) None
-
--- document 01's code of what stands where a record should: 3 where it is no whole record
-abbrev pub frame_code : Option ℕ → ℕ
-frame_code None = 3
-frame_code (Some n) = 0

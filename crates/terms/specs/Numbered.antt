@@ -69,6 +69,11 @@ stop_code S.NoRule = 9
 stop_code S.NoBack = 18
 stop_code S.NoRoom = 19
 
+-- the code that a result stops the job with, 0 where it stops none
+abbrev pub code_in : {A : Type 0} → Result A Stop → ℕ
+code_in (Ok a) = 0
+code_in (Err s) = stop_code s
+
 -- document 02's code of a refusal
 abbrev pub refusal_code : Refusal → ℕ
 refusal_code F.NotAsked = 20

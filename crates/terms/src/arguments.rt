@@ -1,7 +1,8 @@
 // The kind and the arguments of a term.
 ghost use Rattle.std.specs.Prelude.{◌≡◌, ◌<◌, get_or};
 ghost use Rattle.theory.specs.Codes.{all_below};
-ghost use Rattle.terms.specs.Decoded.{Inside, OperandsPlaced, words_in, head_of, operands_of, arguments_of};
+ghost use Rattle.terms.specs.Decoded.{Inside, OperandsPlaced, words_in};
+ghost use Rattle.terms.specs.Decoded.{head_of, operands_of, arguments_of};
 
 use super::kind::Kind;
 use super::{Args, Head, Operands, Term};

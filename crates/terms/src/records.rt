@@ -1,6 +1,7 @@
 // What a record says: a term, a step, a chain or a back.
 ghost use Rattle.std.specs.Prelude.{◌≡◌, true, ◌+◌, ◌≤◌, length, drop};
-ghost use Rattle.theory.specs.Record.{whole, shape_of, read, read_term, read_step, read_chain, read_back, number_length};
+ghost use Rattle.theory.specs.Record.{whole, shape_of, number_length};
+ghost use Rattle.theory.specs.Record.{read, read_term, read_step, read_chain, read_back};
 ghost use Rattle.terms.specs.Framing.{part, record_at};
 ghost use Rattle.terms.specs.Decoded.{PlacedIn, Says, SaysTerm, read_of};
 ghost use Rattle.terms.specs.Bodies.{Body, Length, made};

@@ -3,8 +3,8 @@ ghost use Rattle.std.specs.Int.Signed.{lt_z};
 ghost use Rattle.theory.specs.Sort.{is_width};
 ghost use Rattle.theory.specs.Value.{signed};
 
-// The low n bits of x as a signed number: the top one, bit n - 1, counts −2^(n − 1), the others as usual.
-// A width that is not from 1 to 64 has the answer 0.
+// The low n bits of x as a signed number: the top one, bit n - 1, counts −2^(n − 1), the others as
+// usual. A width that is not from 1 to 64 has the answer 0.
 pub fn signed_value(n: u32, x: u64) -> i64
     ensures { result ≡ cond (is_width n) (signed n x) (pos 0) }
 {
@@ -24,7 +24,8 @@ pub fn signed_value(n: u32, x: u64) -> i64
     }
 }
 
-// What bvslt means on numbers: x is less than y, both read as signed numbers of n bits. Where n is no width, neither is less.
+// What bvslt means on numbers: x is less than y, both read as signed numbers of n bits. Where n is
+// no width, neither is less.
 pub fn signed_less(n: u32, x: u64, y: u64) -> bool
     ensures { result ≡ cond (is_width n) (lt_z (signed n x) (signed n y)) false }
 {

@@ -1,8 +1,9 @@
 ghost use Rattle.std.specs.Prelude.{◌≡◌};
 ghost use Rattle.theory.specs.Circuit.{clog2};
 
-// How many stages a shift circuit has: the width's logarithm, rounded up, which is 63 minus the width's leading zeros,
-// plus one unless its ones count is one. Width 0 has no logarithm, and no stages.
+// How many stages a shift circuit has: the width's logarithm, rounded up, which is 63 minus the
+// width's leading zeros, plus one unless its ones count is one. Width 0 has no logarithm, and no
+// stages.
 pub fn shift_stages(width: u64) -> u32
     ensures { result ≡ clog2 width }
 {

@@ -1,23 +1,14 @@
 -- `verdict_by`: the form of the claim first, then the joining, and the premises where that fails.
-use mathlib.Core.Path.{sym, ap, ◌∙◌}
-use Rattle.terms.specs.Decoded.{operands_of, words_in}
+use mathlib.Core.Path.{sym, ◌∙◌}
+use borrow.Author.Rules.{rules}
+use Rattle.terms.specs.Decoded.{words_in}
 use Rattle.store.specs.KeptTerms.{kept_terms}
-use Rattle.operand_rules.proofs.Forms.{left_below, right_below}
 use Rattle.chains.specs.Told.{earlier_told}
 use Rattle.chains.proofs.Verdicts.{no_claim, claim_joined}
 use Rattle.chains.proofs.verdict_by.Goals as goal
 
 pub returns-in_default : goal.returns-in_default
-returns-in_default c = c.refused.ensures ∙ no_claim c.term_on.ensures.term_at _ c.in_default.in_default-own.keys2 _
-
-pub joins_by-requires : goal.joins_by-requires
-joins_by-requires c =
-    let d = ap operands_of c.in-Equals.is in
-    record {
-      inside = c.requires.inside;
-      left = left_below c.term_on.ensures.term_at _ _ _ d c.requires.below;
-      right = right_below c.term_on.ensures.term_at _ _ _ d c.requires.below;
-    }
+returns-in_default c = c.refused.ensures ∙ no_claim c.term_on.ensures.term_at _ (search rules) _
 
 pub returns-then-joins_by : goal.returns-then-joins_by
 returns-then-joins_by c =

@@ -1,16 +1,10 @@
 -- `opening_fault`: the place, the kind and the length of the record.
-use mathlib.Core.Path.{◌≡◌, sym, ◌∙◌}
+use mathlib.Core.Path.{sym, ◌∙◌}
 use native.Mathlib.Omega.{arith}
 use Rattle.terms.specs.Framing.{record_at}
 use Rattle.terms.proofs.Reading.{stands, kind_there}
-use Rattle.records.proofs.StepTests.{opening_later, opening_other, opening_body, opening_none, body_length}
+use Rattle.records.proofs.StepTests.{opening_other, opening_body, opening_none, body_length}
 use Rattle.records.proofs.opening_fault.Goals as goal
-
-pub returns-then-place-ne0 : goal.returns-then-place-ne0
-returns-then-place-ne0 c = opening_later c.args.place (record_at c.args.job.now c.args.at) c.if-place-ne0.true
-
-pub overflow_add-at : goal.overflow_add-at
-overflow_add-at c = omega (arith, (stands c.args.job.now c.args.at c.requires).end)
 
 pub returns-then-number-from : goal.returns-then-number-from
 returns-then-number-from c =

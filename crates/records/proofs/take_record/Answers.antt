@@ -1,33 +1,10 @@
 -- `take_record`: each arm is the record that was read.
 use mathlib.Core.Path.{refl, sym, ap, ◌∙◌}
-use native.Mathlib.Omega.{arith}
 use Rattle.terms.specs.declared.Fault.TheVariants as F
 use Rattle.intern.specs.Interning.{limits_of}
-use Rattle.records.specs.Turning.{code_in}
-use Rattle.records.proofs.Turns.{same_err, reading, told_none, stopped, stopped_by, opened}
+use Rattle.terms.specs.Numbered.{code_in}
+use Rattle.records.proofs.Turns.{same_err, told_none, stopped, stopped_by, opened}
 use Rattle.records.proofs.take_record.Goals as goal
-
-pub term_record-requires : goal.term_record-requires
-term_record-requires c = reading c.read.result c.requires.noted.store c.requires.stands c.read.ensures.says c.read.ensures.placed
-    (let f = c.in-Ok-Term.is in let g = c.in-Ok-Term.field-0-is in let h = c.in-Ok-Term.t-is in cc)
-
-pub step_record-requires : goal.step_record-requires
-step_record-requires c = record {
-  reading = reading c.read.result c.requires.noted.store c.requires.stands c.read.ensures.says c.read.ensures.placed
-      (let f = c.in-Ok-Step.is in let g = c.in-Ok-Step.field-0-is in let h = c.in-Ok-Step.rule-is in let i = c.in-Ok-Step.literals-is in cc);
-  roomy = c.requires.noted.roomy;
-}
-
-pub chain_record-requires : goal.chain_record-requires
-chain_record-requires c = record {
-  reading = reading c.read.result c.requires.noted.store c.requires.stands c.read.ensures.says c.read.ensures.placed
-      (let f = c.in-Ok-Chain.is in let g = c.in-Ok-Chain.field-0-is in let h = c.in-Ok-Chain.rule-is in let i = c.in-Ok-Chain.premises-is in let j = c.in-Ok-Chain.literal-is in cc);
-  noted = c.requires.noted;
-}
-
-pub back_record-requires : goal.back_record-requires
-back_record-requires c = reading c.read.result c.requires.noted.store c.requires.stands c.read.ensures.says c.read.ensures.placed
-    (let f = c.in-Ok-Back.is in let g = c.in-Ok-Back.field-0-is in let h = c.in-Ok-Back.count-is in cc)
 
 pub returns-in-Ok-Term : goal.returns-in-Ok-Term
 returns-in-Ok-Term c = c.term_record.ensures c.args.place c.args.answers.now

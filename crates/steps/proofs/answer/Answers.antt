@@ -7,11 +7,5 @@ pub returns-then-literals-ne1 : goal.returns-then-literals-ne1
 returns-then-literals-ne1 c = let a = c.args in
     λ r e. others_unjudged a.rule r (kept_terms a.kept.now) a.kept.now.lookup.job.now a.literals c.if-literals-ne1.true c.code.ensures
 
-pub verdict-requires : goal.verdict-requires
-verdict-requires c = record { literal = literal_below c.requires.literals c.if-literals-ne1.false c.argument-literal.ensures; rule = c.requires.rule }
-
-pub judge-requires : goal.judge-requires
-judge-requires c = literal_below c.requires.literals c.if-literals-ne1.false c.argument-literal.ensures
-
 pub returns : goal.returns
 returns c = λ r e. one_judged c.args.rule r (kept_terms c.args.kept.now) c.args.kept.now.lookup.job.now c.args.literals c.if-literals-ne1.false c.argument-literal.ensures (c.verdict.ensures r e) c.judge.ensures

@@ -1,15 +1,13 @@
 -- `right_depth`: a literal that is no equation is not accepted, and an equation's right side is its second argument.
 use mathlib.Core.Path.{ap, ◌∙◌}
+use borrow.Author.Rules.{rules}
 use Rattle.terms.specs.Decoded.{operands_of}
 use Rattle.operand_rules.proofs.Forms.{right_below}
 use Rattle.steps.proofs.Equations.{no_depth, right_of}
 use Rattle.steps.proofs.right_depth.Goals as goal
 
 pub returns-in_default : goal.returns-in_default
-returns-in_default c = no_depth c.term_at.ensures c.in_default.in_default-own.keys2
-
-pub depth_at-requires : goal.depth_at-requires
-depth_at-requires c = right_below c.term_at.ensures _ _ _ (ap operands_of c.in-Equals.is) c.requires
+returns-in_default c = no_depth c.term_at.ensures (search rules)
 
 pub returns : goal.returns
 returns c = c.depth_at.ensures.value ∙ right_of c.term_at.ensures c.in-Equals.is

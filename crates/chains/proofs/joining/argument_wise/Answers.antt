@@ -1,6 +1,5 @@
 -- `argument_wise`: what is left from i on decides (Joins, `Comparing`).
-use mathlib.Core.Path.{refl, sym, ◌∙◌}
-use native.Mathlib.Omega.{arith}
+use mathlib.Core.Path.{sym, ◌∙◌}
 use Rattle.chains.proofs.Joins.{other_left, other_right, arguments_join, argue_fails, argue_turn, argue_end}
 use Rattle.chains.proofs.joining.argument_wise.Goals as goal
 
@@ -10,21 +9,10 @@ returns-then-count-premises c = other_left _ _ c.requires (λ e. c.if-count-prem
 pub returns-then-count-premises-2 : goal.returns-then-count-premises-2
 returns-then-count-premises-2 c = other_right _ _ c.requires (λ e. c.if-count-premises-2.true (c.count-2.ensures ∙ e))
 
-pub loop-i-init : goal.loop-i-init
-loop-i-init c = record { rest = refl }
-
-pub operand-requires : goal.operand-requires
-operand-requires c = record { placed = c.requires.left_placed; below = omega (arith, c.loop-i-test.true, c.count.ensures, c.if-count-premises.false) }
-
-pub operand-requires-in-loop-i : goal.operand-requires-in-loop-i
-operand-requires-in-loop-i c = record { placed = c.requires.right_placed; below = omega (arith, c.loop-i-test.true, c.count-2.ensures, c.if-count-premises-2.false) }
-
-pub shows-requires : goal.shows-requires
-shows-requires c = record {
-  joining = arguments_join _ _ c.requires (sym c.count.ensures ∙ c.if-count-premises.false) (sym c.count-2.ensures ∙ c.if-count-premises-2.false)
-      c.loop-i-test.true c.operand.ensures c.operand-in-loop-i.ensures;
-  there = c.loop-i-test.true;
-}
+pub shows-requires-clause-joining : goal.shows-requires-clause-joining
+shows-requires-clause-joining c =
+    arguments_join _ _ c.requires (sym c.count.ensures ∙ c.if-count-premises.false) (sym c.count-2.ensures ∙ c.if-count-premises-2.false)
+    c.loop-i-test.true c.operand.ensures c.operand-in-loop-i.ensures
 
 pub returns-then-not-shows : goal.returns-then-not-shows
 returns-then-not-shows c =

@@ -1,10 +1,6 @@
 -- `leads`: what is left of the path leads from where it has come to (Joins, `Leading`).
-use mathlib.Core.Path.{refl}
 use Rattle.chains.proofs.Joins.{lead_none, lead_off, lead_turn, lead_end}
 use Rattle.chains.proofs.joining.leads.Goals as goal
-
-pub loop-i-init : goal.loop-i-init
-loop-i-init c = record { kept = c.requires.left; rest = refl }
 
 pub returns-in_default : goal.returns-in_default
 returns-in_default c = lead_none _ _ c.requires _ _ c.sides_at.ensures.below c.sides_at.ensures.sides c.loop-i.invariant c.loop-i-test.true c.in_default.is

@@ -1,9 +1,6 @@
 -- `shows`: the premise's sides are compared by their numbers.
-use Rattle.chains.proofs.Joins.{shows_none, left_differs, right_tells}
+use Rattle.chains.proofs.Joins.{left_differs, right_tells}
 use Rattle.chains.proofs.joining.shows.Goals as goal
-
-pub returns-in_default : goal.returns-in_default
-returns-in_default c = shows_none _ _ c.requires.joining _ _ c.sides_at.ensures.below c.sides_at.ensures.sides c.in_default.is
 
 pub returns-then-a-l : goal.returns-then-a-l
 returns-then-a-l c = left_differs _ _ c.requires.joining _ _ c.sides_at.ensures.below c.sides_at.ensures.sides c.in-Some.is c.if-a-l.true

@@ -1,11 +1,11 @@
 -- `of_copies`: k times the width is a width.
 use mathlib.Core.Path.{ap}
-use mathlib.Core.Bool.{Bool, ◌&&◌}
+use mathlib.Core.Bool.{◌&&◌}
 use Prim.Native.Nat.{◌*◌}
 use native.Mathlib.Omega.{arith}
 use Rattle.theory.specs.Sort.{bv, is_bv_sort, sort_width, is_width}
 use Rattle.store.specs.Sorts.{sort_read}
-use Rattle.intern.proofs.Guarding.{fails, few_bits, no_bits, copies_many, copies_wide, copied}
+use Rattle.intern.proofs.Guarding.{fails, copies_many}
 use Rattle.intern.proofs.guards.of_copies.Goals as goal
 
 pub returns-then-k-gt-MAX_WIDTH : goal.returns-then-k-gt-MAX_WIDTH

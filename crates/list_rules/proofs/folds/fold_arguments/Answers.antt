@@ -10,9 +10,6 @@ use Rattle.list_rules.proofs.Folding.{fold_start, fold_turn, fold_end}
 use Rattle.list_rules.proofs.Lists.{operand_at}
 use Rattle.list_rules.proofs.folds.fold_arguments.Goals as goal
 
-pub get_term_bits-bits-requires : goal.get_term_bits-bits-requires
-get_term_bits-bits-requires g c = operand_at c.requires 0 c.requires.some c.argument.ensures
-
 pub loop-i-init : goal.loop-i-init
 loop-i-init g c = let a = c.args in
     let k = a.kept.now in
@@ -21,9 +18,6 @@ loop-i-init g c = let a = c.args in
       omega (arith, l),
       fold_start (words_of k a.list) (omega (arith, words_in_length k.lookup.job.now a.list, c.requires.some)) (c.get_term_bits-bits.ensures ∙ ap bits_at c.argument.ensures),
     )
-
-pub get_term_bits-next-requires : goal.get_term_bits-next-requires
-get_term_bits-next-requires g c = operand_at c.requires _ (search rules) c.argument-in-loop-i.ensures
 
 pub combine-bits-requires : goal.combine-bits-requires
 combine-bits-requires g c =

@@ -7,7 +7,7 @@ use Rattle.terms.proofs.Lists.{words_in_length}
 use Rattle.operand_rules.proofs.Numbers.{ends, bits_end}
 use Rattle.store.specs.Kept.{kept_term, kept_arguments, words_of}
 use Rattle.list_rules.specs.Lists.{argument, folded_bits}
-use Rattle.list_rules.proofs.Lists.{first_operand, alike_at, first_number, alone_from, folded_from}
+use Rattle.list_rules.proofs.Lists.{first_number, alone_from, folded_from}
 use Rattle.list_rules.proofs.folds.folded_check.Goals as goal
 
 pub returns-then-list-LEAST : goal.returns-then-list-LEAST
@@ -17,12 +17,6 @@ returns-then-list-LEAST g c = let a = c.args in
     ends held k c.requires.claimed (kept_term k (argument k a.list 0)) (first_number c.requires c.argument-first.ensures) c.compare.ensures
     ∙ ap (λ (t : Term). compare held t (kept_term k a.claim))
     (sym (alone_from g.O.Operation.expected (kept_term k) (words_of k a.list) (omega (arith, n, c.requires.alike.some)) g.met.O.Operation.alone (omega (arith, n, c.if-list-LEAST.true))))
-
-pub width_at-w-requires : goal.width_at-w-requires
-width_at-w-requires g c = first_operand c.requires c.argument-first.ensures
-
-pub fold_arguments-bits-requires : goal.fold_arguments-bits-requires
-fold_arguments-bits-requires g c = alike_at c.requires c.argument-first.ensures c.width_at-w.ensures.value
 
 pub returns : goal.returns
 returns g c = let a = c.args in

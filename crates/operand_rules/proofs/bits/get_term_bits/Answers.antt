@@ -1,6 +1,5 @@
-use mathlib.Core.Path.{ap}
-use Rattle.terms.specs.Decoded.{operands_of}
-use Rattle.operand_rules.proofs.Forms.{not_kind, list_inside}
+use borrow.Author.Rules.{rules}
+use Rattle.operand_rules.proofs.Forms.{not_kind}
 use Rattle.operand_rules.proofs.Numbers.{widths, selected, argued}
 use Rattle.operand_rules.proofs.bits.get_term_bits.Goals as goal
 
@@ -8,10 +7,7 @@ pub select_bits-requires : goal.select_bits-requires
 select_bits-requires c = (widths c.requires).1
 
 pub returns-in_default : goal.returns-in_default
-returns-in_default c = selected c.requires c.term_at.ensures (not_kind 12 c.term_at.result c.in_default.in_default-own.keys2 tt) c.select_bits.ensures
-
-pub argument_bits-requires : goal.argument_bits-requires
-argument_bits-requires c = list_inside c.term_at.ensures _ (ap operands_of c.in-BvBbTerm.is)
+returns-in_default c = selected c.requires c.term_at.ensures (not_kind 12 c.term_at.result (search rules) tt) c.select_bits.ensures
 
 pub returns : goal.returns
 returns c = argued c.requires c.term_at.ensures c.in-BvBbTerm.is c.argument_bits.ensures

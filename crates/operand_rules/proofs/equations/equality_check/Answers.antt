@@ -3,19 +3,8 @@ use Rattle.theory.specs.Circuit.{equality}
 use Rattle.theory.specs.Verdict.{held}
 use Rattle.theory.proofs.Natural.{equality_hom}
 use Rattle.operand_rules.proofs.Numbers.{store_hom, ends}
-use Rattle.operand_rules.proofs.Sorts.{not_bits, operand_told, is_bits}
+use Rattle.operand_rules.proofs.Sorts.{operand_told, is_bits}
 use Rattle.operand_rules.proofs.equations.equality_check.Goals as goal
-
-pub returns-in_default : goal.returns-in_default
-returns-in_default c = not_bits _ _ c.sort_at.result c.in_default.not-Bv c.sort_at.ensures
-
-pub get_term_bits-xs-requires : goal.get_term_bits-xs-requires
-get_term_bits-xs-requires c = let p = c.requires in
-    operand_told c.args.kept.now p.left c.sort_at.ensures c.in-Bv.is
-
-pub get_term_bits-ys-requires : goal.get_term_bits-ys-requires
-get_term_bits-ys-requires c = let p = c.requires in
-    operand_told c.args.kept.now p.right (c.sort_at.ensures ∙ sym p.same) c.in-Bv.is
 
 pub returns : goal.returns
 returns c = let p = c.requires in

@@ -1,20 +1,13 @@
 -- `step_record`: a step that passes has a rule and literals, so its answer is theory's.
 use mathlib.Core.Path.{sym, ap, ◌∙◌}
 use native.Mathlib.Omega.{arith}
-use Rattle.theory.specs.Limit.{rack}
 use Rattle.theory.specs.Job.{answer_to}
 use Rattle.store.proofs.Keeping.{found_arguments}
-use Rattle.records.proofs.Turns.{same_err, few_terms, step_unkept, step_unruled, step_full, step_free, step_right, step_literals, step_turned}
+use Rattle.records.proofs.Turns.{same_err, few_terms, step_unkept, step_unruled, step_full, step_free, step_turned}
 use Rattle.records.proofs.answering.step_record.Goals as goal
-
-pub overflow_add-rows : goal.overflow_add-rows
-overflow_add-rows c = omega (arith, few_terms c.requires.reading.store)
 
 pub overflow_cast-rows : goal.overflow_cast-rows
 overflow_cast-rows c = omega (arith, few_terms c.requires.reading.store)
-
-pub all_below-requires : goal.all_below-requires
-all_below-requires c = c.requires.reading.placed
 
 pub returns-then-not-all_below : goal.returns-then-not-all_below
 returns-then-not-all_below c = λ limits place. step_unkept limits place c.requires.reading c.args.answers.now c.args.answered (sym c.all_below.ensures ∙ c.if-not-all_below.true)
@@ -27,19 +20,6 @@ pub returns-in_err-room_fault : goal.returns-in_err-room_fault
 returns-in_err-room_fault c = λ limits place. rw (same_err c.from_residual.result c.from_residual.ensures.1)
     (step_full limits place c.requires.reading c.args.answers.now c.args.answered (sym c.all_below.ensures ∙ c.if-not-all_below.false)
     (sym c.is_rule.ensures ∙ c.if-not-is_rule.false) c.room_fault.ensures c.in_err-room_fault.was)
-
-pub answer-reply-requires : goal.answer-reply-requires
-answer-reply-requires c = record {
-  literals = step_literals rack 0 c.requires.reading c.args.answers.now c.args.answered
-      (step_free rack 0 c.requires.reading c.args.answers.now c.args.answered (sym c.all_below.ensures ∙ c.if-not-all_below.false)
-      (sym c.is_rule.ensures ∙ c.if-not-is_rule.false) c.room_fault.ensures c.in_ok-room_fault.was) c.new.result c.new.ensures;
-  rule = sym c.is_rule.ensures ∙ c.if-not-is_rule.false;
-}
-
-pub answered_turn-requires : goal.answered_turn-requires
-answered_turn-requires c = (step_right rack 0 c.requires.reading c.args.answers.now c.args.answered
-    (step_free rack 0 c.requires.reading c.args.answers.now c.args.answered (sym c.all_below.ensures ∙ c.if-not-all_below.false)
-    (sym c.is_rule.ensures ∙ c.if-not-is_rule.false) c.room_fault.ensures c.in_ok-room_fault.was)).roomy
 
 pub returns : goal.returns
 returns c = λ limits place. step_turned limits place c.requires.reading c.args.answers.now c.args.answered

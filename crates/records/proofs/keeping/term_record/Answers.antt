@@ -4,20 +4,14 @@ use Rattle.std.specs.Prelude.{Ok}
 use Rattle.intern.specs.declared.Interned.{Interned}
 use native.Mathlib.Omega.{arith}
 use Rattle.intern.specs.Interning.{limits_of}
-use Rattle.records.proofs.Turns.{same_err, few_terms, offered, not_below, term_turned}
+use Rattle.records.proofs.Turns.{same_err, few_terms, not_below, term_turned}
 use Rattle.records.proofs.keeping.term_record.Goals as goal
-
-pub overflow_add-rows : goal.overflow_add-rows
-overflow_add-rows c = omega (arith, few_terms c.requires.store)
 
 pub overflow_cast-rows : goal.overflow_cast-rows
 overflow_cast-rows c = omega (arith, few_terms c.requires.store)
 
 pub returns-then-not-below : goal.returns-then-not-below
 returns-then-not-below c = λ place answers. not_below (limits_of c.args.limits) place c.requires answers c.args.answered (sym c.below.ensures ∙ c.if-not-below.true)
-
-pub intern-requires : goal.intern-requires
-intern-requires c = offered c.requires (sym c.below.ensures ∙ c.if-not-below.false)
 
 pub returns-in_err-kept : goal.returns-in_err-kept
 returns-in_err-kept c = λ place answers. rw (same_err c.from_residual.result c.from_residual.ensures.1)

@@ -7,9 +7,8 @@ use Rattle.runs.proofs.finished.run_within.Goals as goal
 pub returns-then-job-gt-MAX_JOB : goal.returns-then-job-gt-MAX_JOB
 returns-then-job-gt-MAX_JOB c = let a = c.args in finished_long (limits_of a.limits) a.job.now a.work.now a.answers.now c.if-job-gt-MAX_JOB.true c.start.ensures
 
-pub seal-requires : goal.seal-requires
-seal-requires c = let a = c.args in
-    rw c.number_length.ensures (record { sized = length_of a.job.now; there = c.walk-s.ensures.roomy })
+pub seal-requires-clause-sized : goal.seal-requires-clause-sized
+seal-requires-clause-sized c = rw c.number_length.ensures (length_of c.args.job.now)
 
 pub returns : goal.returns
 returns c = let a = c.args in

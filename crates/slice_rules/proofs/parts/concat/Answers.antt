@@ -1,40 +1,34 @@
+use borrow.Author.Rules.{rules}
 use mathlib.Core.Path.{ap, sym, ◌∙◌}
 use Rattle.theory.specs.Kind.{BvConcat}
 use Rattle.theory.specs.RuleTable.{by_concat}
 use Rattle.theory.specs.Rule.{on_sides}
 use Rattle.terms.specs.declared.Operands.TheVariants.{List as Listed}
 use Rattle.terms.specs.Decoded.{op_of, operands_of}
-use Rattle.operand_rules.proofs.Forms.{no_equation, sides, no_case, args_form, left_below, right_below}
+use Rattle.operand_rules.proofs.Forms.{no_equation, sides, no_case, args_form, sides_below}
 use Rattle.slice_rules.proofs.Fitting.{any_form, concat_given}
 use Rattle.slice_rules.proofs.parts.concat.Goals as goal
 
 pub returns-in_default : goal.returns-in_default
-returns-in_default c = no_equation c.term_at.ensures by_concat c.in_default.in_default-own.keys2
-
-pub term_at-requires-2 : goal.term_at-requires-2
-term_at-requires-2 c = left_below c.term_at.ensures _ _ _ (ap operands_of c.in-Equals.is) c.requires
+returns-in_default c = no_equation c.term_at.ensures by_concat (search rules)
 
 pub returns-in_default-term_at : goal.returns-in_default-term_at
 unfolding on_sides
-returns-in_default-term_at c = no_case c.term_at-2.ensures 29 c.in_default-term_at.in_default-term_at-own.keys2 tt _ ∙ sides c.term_at.ensures by_concat c.in-Equals.is
-
-pub term_at-requires-3 : goal.term_at-requires-3
-term_at-requires-3 c = right_below c.term_at.ensures _ _ _ (ap operands_of c.in-Equals.is) c.requires
+returns-in_default-term_at c = no_case c.term_at-2.ensures 29 (search rules) tt _ ∙ sides c.term_at.ensures by_concat c.in-Equals.is
 
 pub returns-in_default-term_at-2 : goal.returns-in_default-term_at-2
 unfolding on_sides
-returns-in_default-term_at-2 c = no_case c.term_at-3.ensures 12 c.in_default-term_at-2.in_default-term_at-2-own.keys2 tt _
+returns-in_default-term_at-2 c = no_case c.term_at-3.ensures 12 (search rules) tt _
     ∙ sym (args_form c.term_at-2.ensures BvConcat (Listed _) (ap op_of c.in-BvConcat.is) (ap operands_of c.in-BvConcat.is) _)
     ∙ sides c.term_at.ensures by_concat c.in-Equals.is
 
 pub concat_check-requires : goal.concat_check-requires
-concat_check-requires c = let d = ap operands_of c.in-Equals.is in
-    concat_given c.args.kept.now c.term_at-2.ensures (left_below c.term_at.ensures _ _ _ d c.requires) _ _
-    (ap op_of c.in-BvConcat.is) (ap operands_of c.in-BvConcat.is) (right_below c.term_at.ensures _ _ _ d c.requires)
+concat_check-requires c = let b = sides_below c.term_at.ensures c.in-Equals.is c.requires in
+    concat_given c.args.kept.now c.term_at-2.ensures b.0 _ _ (ap op_of c.in-BvConcat.is) (ap operands_of c.in-BvConcat.is) b.1
 
 pub returns : goal.returns
 unfolding on_sides
 returns c = c.concat_check.ensures
     ∙ sym (args_form c.term_at-2.ensures BvConcat (Listed _) (ap op_of c.in-BvConcat.is) (ap operands_of c.in-BvConcat.is) _
-    ∙ any_form c.term_at-3.ensures 12 c.in-BvBbTerm.in-BvBbTerm-own.keys1 _)
+    ∙ any_form c.term_at-3.ensures 12 (search rules) _)
     ∙ sides c.term_at.ensures by_concat c.in-Equals.is

@@ -15,9 +15,6 @@ pub loop-i-init : goal.loop-i-init
 loop-i-init c = let k = c.args.kept.now in
     subst (λ (i : ℕ). Joining k (words_of k c.args.list) c.new-bits.result.items i) (count_length k.lookup.job.now (Listed c.args.list)) (join_start c.new-bits.ensures)
 
-pub argument-x-requires : goal.argument-x-requires
-argument-x-requires c = record { inside = c.requires.arguments.placed; below = omega (arith, c.loop-i-test.true, c.loop-i.auto.i) }
-
 pub width_at-requires : goal.width_at-requires
 width_at-requires c = argument_operand c.requires (c.loop-i.i - 1) (omega (arith, c.loop-i-test.true, c.loop-i.auto.i)) c.argument-x.ensures
 

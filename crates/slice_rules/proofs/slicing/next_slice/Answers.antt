@@ -1,24 +1,15 @@
-use mathlib.Core.Path.{ap, sym, ◌∙◌}
+use mathlib.Core.Path.{sym, ◌∙◌}
 use Rattle.theory.specs.Kind.{BvExtract}
 use Rattle.theory.specs.Rule.{extract_kind, parts_verdict}
 use Rattle.operand_rules.proofs.Forms.{no_form, one_form, one_below}
 use Rattle.store.specs.Kept.{kept_term}
-use Rattle.slice_rules.proofs.SliceLaws.{pair_form, no_pair, pair_kept, pair_tested}
+use Rattle.slice_rules.proofs.SliceLaws.{pair_form, pair_kept, pair_tested}
 use Rattle.slice_rules.proofs.slicing.next_slice.Goals as goal
-
-pub returns-in_default : goal.returns-in_default
-returns-in_default c = λ next. no_pair c.and_pair.ensures c.in_default.is _
-
-pub term_at-requires : goal.term_at-requires
-term_at-requires c = (pair_kept c.and_pair.ensures c.in-Some.is).0
 
 pub returns-in_default-of : goal.returns-in_default-of
 returns-in_default-of c = let a = c.args in
     λ next. no_form c.term_at.ensures extract_kind (c.of.ensures.other c.in_default-of.is) _
     ∙ pair_form c.and_pair.ensures c.in-Some.is (parts_verdict a.done (kept_term a.kept.now a.a) (kept_term a.kept.now a.c) next)
-
-pub term_at-requires-2 : goal.term_at-requires-2
-term_at-requires-2 c = (pair_kept c.and_pair.ensures c.in-Some.is).1
 
 pub returns-in_default-of-2 : goal.returns-in_default-of-2
 returns-in_default-of-2 c = let a = c.args in

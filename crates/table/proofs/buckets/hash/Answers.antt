@@ -3,7 +3,7 @@ use mathlib.Core.Path.{◌≡◌, sym, subst, ◌∙◌}
 use Prim.Native.Nat.{ℕ, ◌+◌, ◌*◌, ◌≤◌}
 use native.Mathlib.Nat.{mod-lt}
 use native.Mathlib.Omega.{arith}
-use Rattle.table.proofs.BucketLaws.{fold_low, hash_fits, hash_last, hash_short, hash_start, hash_turn}
+use Rattle.table.proofs.BucketLaws.{fold_low, hash_last, hash_short, hash_start, hash_turn}
 use Rattle.table.proofs.buckets.hash.Goals as goal
 
 pub returns-then-s-lt-BODY_AT : goal.returns-then-s-lt-BODY_AT
@@ -12,15 +12,6 @@ returns-then-s-lt-BODY_AT c = let a = c.args in record { value = hash_short a.m 
 pub loop-k-init : goal.loop-k-init
 loop-k-init c = let a = c.args in
     (omega (arith, c.from-h.ensures, (c.type_inv.s 2).fits), hash_start a.m a.s.now (omega (arith, c.if-s-lt-BODY_AT.false)) c.from-h.ensures)
-
-pub number_of-requires : goal.number_of-requires
-number_of-requires c = let t = c.loop-k-test.true in record { inside = omega arith; short = omega arith }
-
-pub overflow_add-h : goal.overflow_add-h
-overflow_add-h c = let w = c.number_of.ensures.below in let h = c.loop-k.invariant.0 in omega arith
-
-pub overflow_mul-h-in-loop-k : goal.overflow_mul-h-in-loop-k
-overflow_mul-h-in-loop-k c = omega (arith, hash_fits c.loop-k.h c.number_of.result c.args.m c.loop-k.invariant.0 c.number_of.ensures.below c.requires)
 
 pub loop-k-preserved : goal.loop-k-preserved
 loop-k-preserved c = let t = c.loop-k-test.true in

@@ -1,13 +1,6 @@
 use native.Mathlib.Omega.{arith}
-use Rattle.rows.proofs.RowLaws.{link_least}
 use Rattle.table.proofs.MemoryLaws.{start_is}
 use Rattle.table.proofs.buckets.heads_start.Goals as goal
-
-pub overflow_mul-result : goal.overflow_mul-result
-overflow_mul-result g c = let s = c.requires.sized.few_bytes in omega (arith, link_least g.row.B)
-
-pub overflow_add-result : goal.overflow_add-result
-overflow_add-result g c = let s = c.requires.sized.few_bytes in omega (arith, link_least g.row.B)
 
 pub overflow_mul-result-2 : goal.overflow_mul-result-2
 overflow_mul-result-2 g c = let r = start_is g.row.B c.args.len g.row.L _ c.requires.linked c.most_rows.ensures in omega (arith, r.0, r.1)

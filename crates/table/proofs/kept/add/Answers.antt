@@ -1,11 +1,8 @@
 -- `add`: the job's number length is two or four, and the same for any
 use Rattle.table.proofs.AddLaws.{grown_as}
 use Rattle.table.proofs.Face.{table_long, fits_long}
-use Rattle.terms.proofs.Numbers.{short_length, long_length}
+use Rattle.terms.proofs.Numbers.{long_length}
 use Rattle.table.proofs.kept.add.Goals as goal
-
-pub returns-then-number_length-eq-NUMBER_BYTES : goal.returns-then-number_length-eq-NUMBER_BYTES
-returns-then-number_length-eq-NUMBER_BYTES c = grown_as (short_length _ c.number_length.ensures c.if-number_length-eq-NUMBER_BYTES.true) c.add_record.ensures
 
 pub returns : goal.returns
 returns c = grown_as (long_length _ c.number_length.ensures c.if-number_length-eq-NUMBER_BYTES.false) c.add_record-2.ensures

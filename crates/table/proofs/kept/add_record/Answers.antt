@@ -9,18 +9,6 @@ use Rattle.table.proofs.MemoryLaws.{framed, row_memory}
 use Rattle.table.proofs.AddLaws.{grown_found, grown_new, grown_spent, part_record, room_true, walk_told}
 use Rattle.table.proofs.kept.add_record.Goals as goal
 
-pub slice_bounds-bucket-end : goal.slice_bounds-bucket-end
-slice_bounds-bucket-end g c = let h = c.requires.inside in omega (arith, c.number_of.ensures.value)
-
-pub bucket-j-requires : goal.bucket-j-requires
-bucket-j-requires g c = let t = (framed g.row.B c.requires.linked c.of-heads.ensures.start c.of-heads.ensures.count c.requires.kept) in record { few = t.small; seeded = λ h. omega (arith, t.cells h) }
-
-pub first_in-first-requires : goal.first_in-first-requires
-first_in-first-requires g c = let t = (framed g.row.B c.requires.linked c.of-heads.ensures.start c.of-heads.ensures.count c.requires.kept) in record { sized = t.rows.link_length; inside = λ h. omega (arith, t.cells h) }
-
-pub slice_bounds-walk-end : goal.slice_bounds-walk-end
-slice_bounds-walk-end g c = let h = c.requires.inside in omega (arith, c.number_of.ensures.value)
-
 pub walk-requires : goal.walk-requires
 walk-requires g c = sought_from _ (framed g.row.B c.requires.linked c.of-heads.ensures.start c.of-heads.ensures.count c.requires.kept) c.bucket-j.ensures c.first_in-first.ensures
 
@@ -43,9 +31,6 @@ add_row-requires g c = let t = (framed g.row.B c.requires.linked c.of-heads.ensu
       sized = t.rows.link_length;
       few = let s = rows_small t.rows in omega arith;
     }
-
-pub overflow_add-result : goal.overflow_add-result
-overflow_add-result g c = let r = rows_small c.requires.kept.rows in omega arith
 
 pub overflow_cast-result : goal.overflow_cast-result
 overflow_cast-result g c = let r = rows_small c.requires.kept.rows in omega arith

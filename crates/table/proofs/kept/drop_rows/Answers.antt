@@ -3,12 +3,8 @@ use mathlib.Core.Path.{subst}
 use Prim.Native.Nat.{ℕ}
 use Rattle.table.specs.Promise.{Cut}
 use Rattle.table.proofs.Face.{table_long}
-use Rattle.terms.proofs.Numbers.{short_length, long_length}
+use Rattle.terms.proofs.Numbers.{long_length}
 use Rattle.table.proofs.kept.drop_rows.Goals as goal
-
-pub returns-then-number_length-eq-NUMBER_BYTES : goal.returns-then-number_length-eq-NUMBER_BYTES
-returns-then-number_length-eq-NUMBER_BYTES c = let a = c.args in
-    subst (λ (b : ℕ). Cut b a.job.now a.work.now c.drop_rows_as.new.work a.n a.m) (short_length _ c.number_length.ensures c.if-number_length-eq-NUMBER_BYTES.true) c.drop_rows_as.ensures
 
 pub returns : goal.returns
 returns c = let a = c.args in

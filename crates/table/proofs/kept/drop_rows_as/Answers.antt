@@ -1,15 +1,9 @@
-use mathlib.Core.Path.{refl, sym, ap, ◌∙◌, subst}
+use mathlib.Core.Path.{sym, ap, ◌∙◌, subst}
 use Prim.Native.Nat.{ℕ}
 use native.Mathlib.Omega.{arith}
 use Rattle.table.specs.Buckets.{head_count, heads_start}
-use Rattle.table.proofs.MemoryLaws.{Unmoved, before_drop, cut, drop_next, drop_turn, dropped_is, framed, unframed, unmoved_start}
+use Rattle.table.proofs.MemoryLaws.{Unmoved, cut, drop_next, drop_turn, dropped_is, unframed}
 use Rattle.table.proofs.kept.drop_rows_as.Goals as goal
-
-pub loop-k-init : goal.loop-k-init
-loop-k-init g c = (c.requires.fewer, framed g.row.B c.requires.linked c.of-heads.ensures.start c.of-heads.ensures.count c.requires.kept, refl, unmoved_start _ _ _, refl)
-
-pub drop_row-requires : goal.drop_row-requires
-drop_row-requires g c = before_drop c.loop-k-test.true c.loop-k.invariant.1
 
 pub loop-k-preserved : goal.loop-k-preserved
 loop-k-preserved g c = let r = drop_turn c.loop-k-test.true c.loop-k.invariant.1 c.loop-k.invariant.3 c.drop_row.ensures in (

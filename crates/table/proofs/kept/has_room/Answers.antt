@@ -18,19 +18,6 @@ returns-then-max_terms-n g c = let a = c.args in
 pub returns-then-limit-n : goal.returns-then-limit-n
 returns-then-limit-n g c = let a = c.args in room_numbers g.row.B a.limit a.n a.len (omega (arith, c.if-limit-n.true))
 
-pub overflow_mul-cost : goal.overflow_mul-cost
-overflow_mul-cost g c = let l = c.requires.sized.few_bytes in omega arith
-
-pub overflow_add-cost : goal.overflow_add-cost
-overflow_add-cost g c = let l = c.requires.sized.few_bytes in omega arith
-
-pub overflow_mul-result : goal.overflow_mul-result
-overflow_mul-result g c = omega (arith, c.requires.few, cheap c.args.n g.row.B c.requires.sized c.requires.few)
-
-pub overflow_add-result : goal.overflow_add-result
-overflow_add-result g c = let l = c.requires.sized.few_bytes in
-    omega (arith, c.requires.few, cheap c.args.n g.row.B c.requires.sized c.requires.few)
-
 pub returns : goal.returns
 returns g c = let a = c.args in
     room_memory g.row.B a.limit a.n a.len refl (omega arith)

@@ -1,10 +1,7 @@
 -- `Term::all_below`: the test of the list is that of what is left from i on (Lists, `Passing`).
 use native.Mathlib.Omega.{arith}
-use Rattle.terms.proofs.Lists.{words_in_length, pass_start, pass_turn, pass_fails, pass_end}
+use Rattle.terms.proofs.Lists.{words_in_length, pass_turn, pass_fails, pass_end}
 use Rattle.terms.proofs.Term.all_below.Goals as goal
-
-pub loop-i-init : goal.loop-i-init
-loop-i-init c = pass_start
 
 pub returns-then-n-argument : goal.returns-then-n-argument
 returns-then-n-argument c = let a = c.args in

@@ -1,10 +1,7 @@
 -- `Term::read_chain`: the tests of length are those of a chain.
 use native.Mathlib.Omega.{arith}
-use Rattle.terms.proofs.Reading.{chain_short, chain_none, chain_many, chain_length, chain_made}
+use Rattle.terms.proofs.Reading.{chain_none, chain_many, chain_length, chain_made}
 use Rattle.terms.proofs.Term.read_chain.Goals as goal
-
-pub returns-then-size : goal.returns-then-size
-returns-then-size c = record { says = chain_short _ _ _ _ c.requires.inside c.if-size.true; placed = tt }
 
 pub returns-then-count-lt1 : goal.returns-then-count-lt1
 returns-then-count-lt1 c = record { says = chain_none _ _ _ _ c.requires.inside c.if-size.false c.number-count.ensures.value c.if-count-lt1.true; placed = tt }

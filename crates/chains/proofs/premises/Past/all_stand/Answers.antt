@@ -1,11 +1,8 @@
 -- `all_stand`: the test of the list is that of what is left from i on (Standing, `Passing`).
 use native.Mathlib.Omega.{arith}
 use Rattle.terms.proofs.Lists.{words_in_length}
-use Rattle.chains.proofs.Standing.{pass_start, pass_turn, pass_fails, pass_end, broken_tree, standing_tree}
+use Rattle.chains.proofs.Standing.{pass_turn, pass_fails, pass_end, broken_tree, standing_tree}
 use Rattle.chains.proofs.premises.Past.all_stand.Goals as goal
-
-pub loop-i-init : goal.loop-i-init
-loop-i-init c = pass_start
 
 pub returns-in_default : goal.returns-in_default
 returns-in_default c =

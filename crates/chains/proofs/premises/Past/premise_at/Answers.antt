@@ -1,7 +1,6 @@
 -- `premise_at`: an earlier step that is held, and whose literal's origin is before its record.
 use mathlib.Core.Path.{sym, ap, ◌∙◌}
 use mathlib.Core.Bool.{Bool, cond}
-use Prim.Native.Nat.{◌-◌}
 use Rattle.std.specs.Prelude.{None as none, Some as some}
 use Rattle.chains.proofs.Standing.{premise_beyond, answer_lies, code_told, place_told, premise_refused, premise_claims_none, premise_stands}
 use Rattle.chains.proofs.premises.Past.premise_at.Goals as goal
@@ -9,20 +8,16 @@ use Rattle.chains.proofs.premises.Past.premise_at.Goals as goal
 pub returns-then-self-k : goal.returns-then-self-k
 returns-then-self-k c = premise_beyond _ _ _ _ _ c.if-number-eq0.false c.if-self-k.true
 
-pub code_at-requires : goal.code_at-requires
-code_at-requires c = let a = answer_lies c.args.self.now _ c.number_length-bytes.ensures c.if-self-k.false in record { sized = a.0; there = a.1 }
+pub code_at-requires-clause-sized : goal.code_at-requires-clause-sized
+code_at-requires-clause-sized c = (answer_lies c.args.self.now _ c.number_length-bytes.ensures c.if-self-k.false).0
 
-pub place_at-at-requires : goal.place_at-at-requires
-place_at-at-requires c = let a = answer_lies c.args.self.now _ c.number_length-bytes.ensures c.if-self-k.false in record { sized = a.0; there = a.1 }
+pub place_at-at-requires-clause-sized : goal.place_at-at-requires-clause-sized
+place_at-at-requires-clause-sized c = (answer_lies c.args.self.now _ c.number_length-bytes.ensures c.if-self-k.false).0
 
 pub returns-then-code_at-ne0 : goal.returns-then-code_at-ne0
 returns-then-code_at-ne0 c =
     premise_refused _ _ _ _ _ c.if-number-eq0.false c.if-self-k.false (code_told c.args.self.now _ c.number_length-bytes.ensures c.code_at.ensures.value)
     c.if-code_at-ne0.true
-
-pub claimed-requires : goal.claimed-requires
-claimed-requires c =
-    rw (place_told c.args.self.now _ c.number_length-bytes.ensures c.place_at-at.ensures.value) (c.args.self.now.noted.places (c.args.number - 1) c.if-self-k.false)
 
 pub returns-in_err-p : goal.returns-in_err-p
 returns-in_err-p c =

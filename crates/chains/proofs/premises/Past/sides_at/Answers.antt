@@ -1,8 +1,7 @@
 -- `sides_at`: the sides of the equation at the premise's place.
 use mathlib.Core.Path.{ap, ◌∙◌}
+use borrow.Author.Rules.{rules}
 use Rattle.std.specs.Prelude.{option_map}
-use Rattle.terms.specs.Decoded.{operands_of}
-use Rattle.operand_rules.proofs.Forms.{left_below, right_below}
 use Rattle.steps.proofs.Equations.{no_sides, two_sides}
 use Rattle.chains.specs.Told.{sides_of}
 use Rattle.chains.proofs.Standing.{broken_sides, literal_below, standing_sides}
@@ -20,14 +19,8 @@ pub returns-in_default : goal.returns-in_default
 returns-in_default c = record {
   below = tt;
   sides = standing_sides _ _ _ _ _ c.args.self.now.noted.store _ _ _ c.premise_at.ensures c.argument.ensures c.in_ok-p.was
-      (no_sides c.term_on.ensures.term_at c.in_default.in_default-own.keys2);
+      (no_sides c.term_on.ensures.term_at (search rules));
 }
-
-pub returns-clause-below : goal.returns-clause-below
-returns-clause-below c =
-    let b = literal_below _ _ _ _ _ c.args.self.now.noted.store _ _ _ c.premise_at.ensures c.argument.ensures c.in_ok-p.was in
-    let d = ap operands_of c.in-Equals.is in
-    (left_below c.term_on.ensures.term_at _ _ _ d b, right_below c.term_on.ensures.term_at _ _ _ d b)
 
 pub returns-clause-sides : goal.returns-clause-sides
 returns-clause-sides c =

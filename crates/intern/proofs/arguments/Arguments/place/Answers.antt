@@ -4,14 +4,10 @@ use Rattle.store.proofs.Arguments.{count_length, operand_below}
 use Rattle.store.proofs.Keeping.{store_of}
 use Rattle.intern.proofs.arguments.Arguments.place.Goals as goal
 
-pub operand-requires : goal.operand-requires
-operand-requires c = let a = c.args.self.now in
-    record { placed = a.placed; below = omega (arith, count_length a.kept.lookup.job.now a.list) }
+pub operand-requires-clause-below : goal.operand-requires-clause-below
+operand-requires-clause-below c = let a = c.args.self.now in omega (arith, count_length a.kept.lookup.job.now a.list)
 
-pub returns : goal.returns
-returns c = let a = c.args.self.now in
-    record {
-      is = c.operand.ensures;
-      below = operand_below (record { store = store_of a.kept; placed = a.placed; below = a.below }) c.args.i
-          (omega (arith, count_length a.kept.lookup.job.now a.list)) c.operand.ensures;
-    }
+pub returns-clause-below : goal.returns-clause-below
+returns-clause-below c = let a = c.args.self.now in
+    operand_below (record { store = store_of a.kept; placed = a.placed; below = a.below }) c.args.i
+    (omega (arith, count_length a.kept.lookup.job.now a.list)) c.operand.ensures

@@ -2,14 +2,8 @@ use mathlib.Core.Path.{sym, ap₂, ◌∙◌}
 use Rattle.theory.specs.Circuit.{bitblast_ult}
 use Rattle.theory.specs.Verdict.{held}
 use Rattle.theory.proofs.Natural.{ult_hom}
-use Rattle.operand_rules.proofs.Numbers.{operand_as, store_hom, ends}
+use Rattle.operand_rules.proofs.Numbers.{store_hom, ends}
 use Rattle.operand_rules.proofs.comparisons.LessBinary.check.Goals as goal
-
-pub get_term_bits-xs-requires : goal.get_term_bits-xs-requires
-get_term_bits-xs-requires c = operand_as c.requires.left c.width_at-w.ensures.value
-
-pub get_term_bits-ys-requires : goal.get_term_bits-ys-requires
-get_term_bits-ys-requires c = operand_as c.requires.right c.width_at-w.ensures.value
 
 pub returns : goal.returns
 returns c = let s = c.requires in

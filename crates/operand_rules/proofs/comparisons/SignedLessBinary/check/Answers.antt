@@ -5,12 +5,6 @@ use Rattle.theory.proofs.Natural.{slt_hom}
 use Rattle.operand_rules.proofs.Numbers.{operand_as, bits_length, store_hom, ends}
 use Rattle.operand_rules.proofs.comparisons.SignedLessBinary.check.Goals as goal
 
-pub get_term_bits-xs-requires : goal.get_term_bits-xs-requires
-get_term_bits-xs-requires c = operand_as c.requires.left c.width_at-w.ensures.value
-
-pub get_term_bits-ys-requires : goal.get_term_bits-ys-requires
-get_term_bits-ys-requires c = operand_as c.requires.right c.width_at-w.ensures.value
-
 pub slt-requires : goal.slt-requires
 slt-requires c = let w = c.width_at-w.ensures.value in
     record { alike = bits_length (operand_as c.requires.left w) c.get_term_bits-xs.ensures ∙ sym (bits_length (operand_as c.requires.right w) c.get_term_bits-ys.ensures) }

@@ -1,10 +1,15 @@
-use borrow.Author.Rules.{rules}
-use mathlib.Core.Path.{◌≡◌, refl, ◌∙◌}
-use Prim.Native.Nat.{◌^◌, min}
-use Rattle.shift_circuits.proofs.ShiftLaws.{left_stage}
+use mathlib.Core.Path.{ap, ◌∙◌}
+use Rattle.store.specs.Lookup.{gates}
+use Rattle.theory.specs.Circuit.{shl_stage}
+use Rattle.shift_circuits.proofs.shift.LeftDirection.stage.Goals.{then-i-thresh, else-i-thresh}
+use Rattle.shift_circuits.proofs.ShiftLaws.{left_in, left_out, left_end}
 use Rattle.shift_circuits.proofs.shift.LeftDirection.stage.Goals as goal
 
+pub loop-i-preserved : goal.loop-i-preserved
+loop-i-preserved c = elim c.if-i-thresh.branch [
+  | then-i-thresh w ↦ left_out c.loop-i.invariant c.push.ensures.items c.loop-i-test.true c.ite3.ensures w.from-is w.if-i-thresh.true
+  | else-i-thresh w ↦ left_in c.loop-i.invariant c.push.ensures.items c.loop-i-test.true c.ite3.ensures w.from-is w.if-i-thresh.false
+]
+
 pub returns : goal.returns
-returns c = let k : c.min-count.result ≡ min c.len.result (2 ^ c.args.s) = search rules in
-    left_stage _ c.args.s _ c.args.p.now.items c.ites.ensures (c.append.ensures ∙ rw (c.same_bits-moved.ensures, c.len-2.ensures.value, c.deref.ensures.0) refl)
-    (k ∙ rw c.len.ensures.value refl)
+returns c = left_end c.loop-i.invariant c.loop-i-test.false ∙ ap (shl_stage (gates c.args.lookup.now) c.args.s c.args.y) c.as_slice-bits.ensures.value

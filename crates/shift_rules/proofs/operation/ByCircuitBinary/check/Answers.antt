@@ -22,7 +22,7 @@ returns g c = let a = c.args in
     let o = a.self.operation in
     let xs = kept_bits k a.x in
     let ys = kept_bits k a.y in
-    let h = c.is_held.ensures (kept_term k a.x) c.get_term_bits-xs.ensures in
+    let h = c.is_held.ensures k (kept_term k a.x) c.get_term_bits-xs.ensures in
     bits_end (verdict_of c.if-is_held.accepted) k c.requires.claimed _ (c.bits-bits.ensures xs ys c.get_term_bits-xs.ensures c.get_term_bits-ys.ensures) c.compare_bits_as.ensures
     ∙ ap₂ (λ (v : Verdict) (w : ℕ). compare v (bb (g.O.Operation.circuit o w xs ys)) (kept_term k a.claim))
     (elim c.if-is_held.branch [

@@ -26,7 +26,7 @@ true_kept k = (number_exact (kept_terms k) (store_of k).well (few k) 0 (there k 
 
 -- the test on the top bit's number is theory's on the term
 pub returns-else-self : goal.returns-else-self
-returns-else-self c = λ t e. let k = c.args.kept.now in
+returns-else-self c = λ k t e.
     let top = c.unwrap_or.ensures ∙ ap (λ o. unwrap_or o 0) (c.copied.ensures ∙ c.last.ensures.value) ∙ unwrap_or-slice_get c.deref.result.now _ 0 ∙ top_bit 0 c.deref.result.now ∙ ap (last 0) c.deref.ensures.0 in
     sym (cond_false _ _ c.if-self.false
     ∙ ends_bits t ∙ false_test k (last (node True nil) (get_term_bits t))

@@ -10,7 +10,7 @@ use Rattle.theory.specs.Bits.{extend_bits}
 use Rattle.theory.specs.Verdict.{held}
 use Rattle.theory.specs.Rule.{compare}
 use Rattle.theory.proofs.Indexed.{cond_true, cond_false}
-use Rattle.operand_rules.proofs.Numbers.{operand_as, ends, bits_end, bits_length}
+use Rattle.operand_rules.proofs.Numbers.{ends, bits_end, bits_length}
 use Rattle.store.specs.Kept.{kept_term, kept_bits, kept_number}
 use Rattle.slice_rules.proofs.Copying.{extended}
 use Rattle.slice_rules.proofs.Fitting.{own, wider_fits}
@@ -23,16 +23,10 @@ returns-then-self-eq0 c = let a = c.args in
     ends held a.kept.now c.requires.one.claimed x (own a.kept.now o.there) c.compare.ensures
     ∙ ap (λ (t : Term). compare held t (kept_term a.kept.now a.claim)) (sym (cond_true x _ (eq-eqb _ _ c.if-self-eq0.true)))
 
-pub get_term_bits-bits-requires : goal.get_term_bits-bits-requires
-get_term_bits-bits-requires c = operand_as c.requires.one.only c.width_at-w.ensures.value
-
 pub bounds-deref-w : goal.bounds-deref-w
 bounds-deref-w c =
     let l = bits_length c.requires.one.only (c.deref.ensures.0 ∙ c.get_term_bits-bits.ensures) in
     omega (arith, l, c.width_at-w.ensures.value, c.width_at-w.ensures.bound.0)
-
-pub same_bits-requires : goal.same_bits-requires
-same_bits-requires c = let f = wider_fits _ c.args.self.copies c.requires.fits in omega (arith, f)
 
 pub append-requires : goal.append-requires
 append-requires c =

@@ -2,7 +2,7 @@
 use native.Mathlib.Omega.{arith}
 use Rattle.rows.proofs.RowLaws.{link_short, link_long}
 use Rattle.terms.proofs.Numbers.{short_length, long_length}
-use Rattle.store.proofs.Sorting.{low_bool, row_bool_deep}
+use Rattle.store.proofs.Sorting.{low_bool}
 use Rattle.store.proofs.shelf.Terms.bool_depth.Goals as goal
 
 pub returns-then-k-lt-FIRST_PLACE : goal.returns-then-k-lt-FIRST_PLACE
@@ -13,13 +13,7 @@ bool_depth_as-requires c = let h = c.if-k-lt-FIRST_PLACE.false in
     let l = c.requires in
     record { kept = omega arith; own = short_length _ c.number_length.ensures c.if-number_length-eq-NUMBER_BYTES.true; linked = link_short }
 
-pub returns-then-number_length-eq-NUMBER_BYTES : goal.returns-then-number_length-eq-NUMBER_BYTES
-returns-then-number_length-eq-NUMBER_BYTES c = row_bool_deep c.args.self.now.shelf c.args.place c.if-k-lt-FIRST_PLACE.false c.requires c.bool_depth_as.ensures
-
 pub bool_depth_as-requires-2 : goal.bool_depth_as-requires-2
 bool_depth_as-requires-2 c = let h = c.if-k-lt-FIRST_PLACE.false in
     let l = c.requires in
     record { kept = omega arith; own = long_length _ c.number_length.ensures c.if-number_length-eq-NUMBER_BYTES.false; linked = link_long }
-
-pub returns : goal.returns
-returns c = row_bool_deep c.args.self.now.shelf c.args.place c.if-k-lt-FIRST_PLACE.false c.requires c.bool_depth_as-2.ensures

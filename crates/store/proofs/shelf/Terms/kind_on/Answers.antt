@@ -4,8 +4,7 @@ use Prim.Native.Nat.{◌+◌, ◌-◌, ◌≤◌}
 use native.Mathlib.Omega.{arith}
 use lib.ListN.{drop, length}
 use Rattle.theory.specs.Record.{extent}
-use Rattle.store.proofs.Keeping.{row_lies}
-use Rattle.store.proofs.Sorting.{low_root, row_kind, row_root, row_stands}
+use Rattle.store.proofs.Sorting.{row_kind, row_root, row_stands}
 use Rattle.store.proofs.shelf.Terms.kind_on.Goals as goal
 
 pub number-requires : goal.number-requires

@@ -1,6 +1,5 @@
 -- `row_as`: a row's record lies in the job, and its measure fits into a number.
 use native.Mathlib.Omega.{arith}
-use Rattle.store.proofs.Keeping.{row_lies_as}
 use Rattle.store.proofs.Sorting.{own_measure, own_offset, row_stands}
 use Rattle.store.proofs.shelf.Terms.row_as.Goals as goal
 

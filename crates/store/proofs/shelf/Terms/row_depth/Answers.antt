@@ -6,11 +6,5 @@ use Rattle.store.proofs.shelf.Terms.row_depth.Goals as goal
 pub row_depth_as-requires : goal.row_depth_as-requires
 row_depth_as-requires c = record { kept = c.requires; own = short_length _ c.number_length.ensures c.if-number_length-eq-NUMBER_BYTES.true; linked = link_short }
 
-pub returns-then-number_length-eq-NUMBER_BYTES : goal.returns-then-number_length-eq-NUMBER_BYTES
-returns-then-number_length-eq-NUMBER_BYTES c = c.row_depth_as.ensures
-
 pub row_depth_as-requires-2 : goal.row_depth_as-requires-2
 row_depth_as-requires-2 c = record { kept = c.requires; own = long_length _ c.number_length.ensures c.if-number_length-eq-NUMBER_BYTES.false; linked = link_long }
-
-pub returns : goal.returns
-returns c = c.row_depth_as-2.ensures

@@ -2,7 +2,7 @@
 use borrow.Author.Rules.{rules}
 use native.Mathlib.Omega.{arith}
 use Rattle.terms.specs.declared.Item.TheVariants as I
-use Rattle.store.proofs.Keeping.{row_lies, row_whole, true_at, false_at, read_term_at, read_no_term}
+use Rattle.store.proofs.Keeping.{row_whole, true_at, false_at, read_term_at, read_no_term}
 use Rattle.store.proofs.shelf.Terms.term_on.Goals as goal
 
 pub returns-then-place-eq-TRUE : goal.returns-then-place-eq-TRUE
