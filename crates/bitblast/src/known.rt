@@ -21,7 +21,8 @@ pub struct Known {
 
 // Runs a job and writes the bits of the term of that number, bit 0 first, for a host. A byte is 0,
 // 1, or 2 for a bit that is not known; `inputs` has one for each bit of the variables that stand in
-// the term, the lowest number first. If the job stops early, the code is 20.
+// the term, the lowest number first. If the job stops early, the code is that of
+// `Refusal::NotAsked`.
 pub fn bb_known(
     job: &[u8],
     work: &mut [u8],

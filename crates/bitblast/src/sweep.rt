@@ -48,7 +48,7 @@ impl Swept {
 }
 
 // Runs a job and sweeps the equality of that number: on how many assignments of its variables the
-// two sides differ, for a host. If the job stops early, the code is 20.
+// two sides differ, for a host. If the job stops early, the code is that of `Refusal::NotAsked`.
 pub fn bb_sweep(
     job: &[u8],
     work: &mut [u8],

@@ -1,2 +1,4 @@
 pub mod DigitLaws
+pub mod VariableLaws
 pub mod AssignLaws
+pub mod Sets

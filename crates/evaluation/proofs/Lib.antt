@@ -2,3 +2,4 @@ pub mod CellLaws
 pub mod PlaceLaws
 pub mod ListLaws
 pub mod TermLaws
+pub mod Sets

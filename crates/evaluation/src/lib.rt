@@ -2,7 +2,7 @@
 // bytes for each kept term, `true` and `false` too.
 //
 // To read: cells (the buffer), evaluate (one term).
-#![tactic(auto)]
+#![tactic(auto, using(crate::proofs::Sets::laws))]
 
 pub mod cells;
 pub mod evaluate;

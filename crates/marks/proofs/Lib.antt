@@ -2,3 +2,4 @@ pub mod MarkLaws
 pub mod Marking
 pub mod Threading
 pub mod Walking
+pub mod Sets

@@ -90,12 +90,6 @@ set_low job work place l = record { kept = kept_self job work; marks_are = λ p.
 pub row_room : {job work : Bytes} {place : ℕ} → Room job work place → first_terms ≤ place → (place - first_terms) * row_size (link_size job) + row_size (link_size job) ≤ length work
 row_room {job} {work} {place} r l = omega (arith, r.room l, place_rows place (row_size (link_size job)) l)
 
--- a mark as it is read
-pub mark_read : (job work : Bytes) (place : ℕ) → first_terms ≤ place → {v : ℕ} → v ≡ link_at (link_size job) work (place - first_terms) → not (eqb v 0) ≡ mark_of job work place
-mark_read job work zero l e = absurd (omega arith)
-mark_read job work (suc zero) l e = absurd (omega arith)
-mark_read job work (suc (suc k)) l e = ap (λ (z : ℕ). not (eqb z 0)) (e ∙ ap (link_at (link_size job) work) (let z : suc (suc k) - 2 ≡ k = omega arith in z))
-
 pub mark_low : (job work : Bytes) (place : ℕ) → place < first_terms → true ≡ mark_of job work place
 mark_low job work zero l = refl
 mark_low job work (suc zero) l = refl
@@ -147,13 +141,6 @@ or_swap true false c = refl
 or_swap false true c = refl
 or_swap false false c = refl
 
--- one more in front
-pub all_more : {job work mid after : Bytes} {k : ℕ} {ks : List ℕ} → Set job work k mid → SetAll job mid ks after → SetAll job work (k ∷ ks) after
-all_more {job} {work} {mid} {after} {k} {ks} s r = record {
-  kept = kept_more s.kept r.kept;
-  marks_are = λ p. r.marks_are p ∙ ap (λ (b : Bool). element p ks || b) (s.marks_are p) ∙ or_swap (element p ks) (eqb p k) (mark_of job work p);
-}
-
 -- one more after the others
 pub all_then : {job work mid after : Bytes} {k : ℕ} {ks : List ℕ} → SetAll job work ks mid → Set job mid k after → SetAll job work (k ∷ ks) after
 all_then {job} {work} {mid} {after} {k} {ks} r s = record {
@@ -164,10 +151,6 @@ all_then {job} {work} {mid} {after} {k} {ks} r s = record {
 -- ---- rooms
 pub room_kept : {job work after : Bytes} {k : ℕ} → Kept job work after → Room job work k → Room job after k
 room_kept e r = record { room = λ l. let z = r.room l in omega (arith, e.length_is) }
-
-pub rooms_kept : {job work after : Bytes} (ks : List ℕ) → Kept job work after → Rooms job work ks → Rooms job after ks
-rooms_kept [] e r = tt
-rooms_kept (k ∷ ks) e r = (room_kept e r.0, rooms_kept ks e r.1)
 
 pub room_at : {job work : Bytes} (ks : List ℕ) (i : ℕ) → i < length ks → Rooms job work ks → Room job work (get_or ks i 0)
 room_at [] i h r = absurd (omega arith)
@@ -222,10 +205,6 @@ listing_room {job} {work} {ks} {now} {i} h s r e = subst (Room job now) (sym e) 
 -- the numbers of a list in the job
 pub count_is : (job : Bytes) (a : Args) → length (words_in job a) ≡ a.count
 count_is job a = words_length a.bytes a.count (drop a.at job)
-
--- in a case of the arguments
-pub ops_out : (job : Bytes) {work after : Bytes} (o u : Operands) → o ≡ u → SetAll job work (numbers_of job u) after → SetAll job work (numbers_of job o) after
-ops_out job {work} {after} o u e h = subst (λ (z : Operands). SetAll job work (numbers_of job z) after) (sym e) h
 
 -- ---- what a call leaves
 -- nothing was marked

@@ -235,18 +235,6 @@ module _ {job work : Bytes} {n asked : ℕ} where
     threads = m.threads;
   }
 
-  -- the asked term is the last that stands in it
-  pub marked_of : Shelf job work n → asked < first_terms + n
-      → ((p : ℕ) → first_terms ≤ p → p < first_terms + n → mark_of job work p ≡ stands (tree_at (listed job work n) p) (tree_at (listed job work n) asked))
-      → Threads job work asked → Marked job work n asked
-  marked_of s l m t = record {
-    shelf = s;
-    low = l;
-    marks_are = m;
-    last = λ p a h b. m p a b ∙ T_none _ (λ z. let e = stands_before (listed job work n) s.well asked (omega (arith, s.count)) p (omega (arith, s.count)) z in absurd (omega arith));
-    threads = t;
-  }
-
 -- ---- from place to place
 -- a property that holds at j holds at stop, if the places between keep it
 pub jump : (P Q : ℕ → Type 0) (stop : ℕ) → ((j : ℕ) → j < stop → Q j → P j → P (j + 1)) → (d j : ℕ) → j + d ≡ stop → ((r : ℕ) → j ≤ r → r < stop → Q r) → P j → P stop

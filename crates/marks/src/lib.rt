@@ -1,7 +1,8 @@
-// Marks on the kept terms of a job whose records are all taken: which of them stand in the asked one. A row's mark is in the bytes of its
-// link, which is not needed any more. Marks are threaded: the link of a marked row holds the next marked place, so that a pass over the marked
-// terms meets no other.
-#![tactic(auto)]
+// Marks on the kept terms of a job whose records are all taken: which of them stand in the asked
+// one. A row's mark is in the bytes of its link, which is not needed any more. Marks are threaded:
+// the link of a marked row holds the next marked place, so that a pass over the marked terms meets
+// no other.
+#![tactic(auto, using(crate::proofs::Sets::laws))]
 
 ghost use Rattle.std.specs.Prelude.{◌≡◌, T, suc, ◌+◌, ◌-◌, ◌*◌, ◌^◌, ◌≤◌, ◌<◌, length};
 ghost use Rattle.theory.specs.Limit.{first_terms};
@@ -9,7 +10,8 @@ ghost use Rattle.terms.specs.Decoded.{OperandsPlaced, Inside, words_in, numbers_
 ghost use Rattle.store.specs.Shelf.{Shelf};
 ghost use Rattle.rows.specs.Layout.{link_at, link_size, row_size};
 ghost use Rattle.rows.specs.Rows.{stored_link};
-ghost use Rattle.marks.specs.Marks.{mark_of, Room, Rooms, Cleared, Set, SetAll, SetTerm, following, Linked, Threadable, Threaded, Reaches, Marks, Marked};
+ghost use Rattle.marks.specs.Marks.{mark_of, Room, Rooms, Cleared, Set, SetAll, SetTerm, following};
+ghost use Rattle.marks.specs.Marks.{Linked, Threadable, Threaded, Reaches, Marks, Marked};
 ghost use Rattle.std.proofs.Math.Bool.{Bool-set};
 ghost use Rattle.std.proofs.Math.Dec.{T_prop};
 ghost use Rattle.theory.proofs.Facts.{kept_facts};
@@ -114,7 +116,8 @@ fn mark_term(job: &[u8], work: &mut [u8], n: usize, place: u32)
     mark_operands(job, work, t.operands());
 }
 
-// Marks the terms that stand in the asked one, and no others: downwards, since arguments have smaller numbers.
+// Marks the terms that stand in the asked one, and no others: downwards, since arguments have
+// smaller numbers.
 fn mark_down(job: &[u8], work: &mut [u8], n: usize, asked: u32)
     requires shelf { Shelf job.now work.old n }
     requires low { asked < first_terms + n }
@@ -141,7 +144,8 @@ fn link(job: &[u8], work: &mut [u8], place: u32, v: u32)
     }
 }
 
-// Threads the marked places, downwards from the asked one. The link of that one leads to the lowest.
+// Threads the marked places, downwards from the asked one. The link of that one leads to the
+// lowest.
 fn thread(job: &[u8], work: &mut [u8], asked: u32)
     requires { Threadable job.now work.old asked }
     ensures { Threaded job.now work.old asked work.new }
@@ -156,7 +160,8 @@ fn thread(job: &[u8], work: &mut [u8], asked: u32)
     link(job, work, asked, next);
 }
 
-// The number in the link of a row's place. A call for each number length: each is then compiled for its length.
+// The number in the link of a row's place. A call for each number length: each is then compiled for
+// its length.
 fn linked(job: &[u8], work: &[u8], place: u32) -> u32
     requires row { first_terms ≤ place }
     requires room { Room job.now work.now place }
@@ -199,7 +204,8 @@ pub fn mark_from(job: &[u8], work: &mut [u8], n: usize, asked: u32)
     thread(job, work, asked);
 }
 
-// The asked term of a job, by its place, where the terms that stand in it, and no others, are marked and threaded.
+// The asked term of a job, by its place, where the terms that stand in it, and no others, are
+// marked and threaded.
 #[derive(Clone, Copy)]
 pub struct Asked<'a> {
     pub terms: Terms<'a>,

@@ -3,3 +3,4 @@ pub mod ApplyLaws
 pub mod ManyLaws
 pub mod MeaningLaws
 pub mod MoveLaws
+pub mod Sets

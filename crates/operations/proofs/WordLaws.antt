@@ -9,10 +9,6 @@ use Rattle.operations.specs.Width.{Wide}
 pub pow_64 : (n : ℕ) → n ≤ 64 → 2 ^ n ≤ 18446744073709551616
 pow_64 n h = pow_mono {i = n} {j = 64} h
 
--- a number of n bits is one of 64
-pub below_64 : {n x : ℕ} → n ≤ 64 → x < 2 ^ n → x < 18446744073709551616
-below_64 {n} h l = omega (arith, pow_64 n h)
-
 pub ones_is : (n : ℕ) → Wide n → 18446744073709551615 / 2 ^ (64 - n) ≡ 2 ^ n - 1
 ones_is n w =
     let m = 64 - n in

@@ -1,9 +1,11 @@
-// One operation of a term, on the widths and the numbers of its arguments. A Bool has width 0 and the number 0 or 1.
+// One operation of a term, on the widths and the numbers of its arguments. A Bool has width 0 and
+// the number 0 or 1.
 ghost use Rattle.std.specs.Prelude.{◌≡◌, [], ◌∷◌};
 ghost use Rattle.theory.specs.Value.{Assign, meaning, bit};
 ghost use Rattle.theory.specs.Kind.{Ite};
 ghost use Rattle.sweeps.specs.Sweep.{as_number};
-ghost use Rattle.operations.specs.Apply.{unary_op, binary_op, val_by, One, Two, Bools3, Extends, Extended, Starts, Started};
+ghost use Rattle.operations.specs.Apply.{unary_op, binary_op, val_by, One, Two, Bools3};
+ghost use Rattle.operations.specs.Apply.{Extends, Extended, Starts, Started};
 
 use crate::words::{
     add_n, ashr_n, bit, low, lshr_n, mul_n, neg_n, not_n, ones, rotate_left_n, rotate_right_n,
@@ -79,7 +81,8 @@ pub fn flag(b: bool) -> u64
 // x with k copies of its top bit above, at width m.
 pub fn extended(m: u32, k: u32, x: u64) -> u64
     requires { One (unary_op (Unary.Extend k)) m x }
-    ensures { (ρ : Assign) → result ≡ as_number (meaning ρ (unary_op (Unary.Extend k)) (val_by m x ∷ [])) }
+    ensures { (ρ : Assign)
+        → result ≡ as_number (meaning ρ (unary_op (Unary.Extend k)) (val_by m x ∷ [])) }
 {
     if bit(m - 1, x) {
         return x + (ones(m + k) - ones(m));
@@ -90,7 +93,8 @@ pub fn extended(m: u32, k: u32, x: u64) -> u64
 // k copies of x at width m, one above the other.
 pub fn repeated(m: u32, k: u32, x: u64) -> u64
     requires { One (unary_op (Unary.Repeat k)) m x }
-    ensures { (ρ : Assign) → result ≡ as_number (meaning ρ (unary_op (Unary.Repeat k)) (val_by m x ∷ [])) }
+    ensures { (ρ : Assign)
+        → result ≡ as_number (meaning ρ (unary_op (Unary.Repeat k)) (val_by m x ∷ [])) }
 {
     let mut r = x;
     for _ in 1..k {
@@ -121,7 +125,8 @@ pub fn apply_one(op: Unary, m: u32, x: u64) -> u64
 // An operation of two arguments of width m.
 pub fn apply_two(op: Binary, m: u32, x: u64, y: u64) -> u64
     requires { Two (binary_op op) m x y }
-    ensures { (ρ : Assign) → result ≡ as_number (meaning ρ (binary_op op) (val_by m x ∷ val_by m y ∷ [])) }
+    ensures { (ρ : Assign)
+        → result ≡ as_number (meaning ρ (binary_op op) (val_by m x ∷ val_by m y ∷ [])) }
 {
     match op {
         Binary::Xor => flag(x != y),
@@ -140,7 +145,8 @@ pub fn apply_two(op: Binary, m: u32, x: u64, y: u64) -> u64
 // The choice by a Bool between two.
 pub fn choice(c: u64, x: u64, y: u64) -> u64
     requires { Bools3 c x y }
-    ensures { (ρ : Assign) → result ≡ as_number (meaning ρ Ite (val_by 0 c ∷ val_by 0 x ∷ val_by 0 y ∷ [])) }
+    ensures { (ρ : Assign)
+        → result ≡ as_number (meaning ρ Ite (val_by 0 c ∷ val_by 0 x ∷ val_by 0 y ∷ [])) }
 {
     if c == 1 { x } else { y }
 }

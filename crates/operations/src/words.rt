@@ -1,6 +1,8 @@
 // The operations on numbers of n bits, for n from 1 to 64.
 ghost use Rattle.std.specs.Prelude.{◌≡◌, ◌+◌, ◌-◌, ◌*◌, ◌%◌, ◌^◌, ◌<◌, ◌≤◌};
-ghost use Rattle.theory.specs.Value.{bit_at, not_n, neg_n, xnor_n, add_n, mul_n, shl_n, lshr_n, ashr_n, udiv_n, urem_n, moved_n, rotate_left_n, rotate_right_n};
+ghost use Rattle.theory.specs.Value.{bit_at, not_n, neg_n, xnor_n, add_n, mul_n, shl_n, lshr_n};
+ghost use Rattle.theory.specs.Value.{ashr_n, udiv_n, urem_n, moved_n, rotate_left_n};
+ghost use Rattle.theory.specs.Value.{rotate_right_n};
 ghost use Rattle.operations.specs.Width.{Wide, Fits, Both, turn};
 
 // The greatest number of n bits.

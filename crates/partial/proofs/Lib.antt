@@ -5,3 +5,4 @@ pub mod PassLaws
 pub mod LengthLaws
 pub mod OutputLaws
 pub mod NumberLaws
+pub mod Sets

@@ -48,44 +48,12 @@ use Rattle.partial.proofs.InputLaws.{offsets}
 use Rattle.partial.proofs.LengthLaws.{length_known}
 
 -- ---- bytes 0, 1 and 2
-known_from : (l : Bytes) (i : ℕ) → i < length l → all_below 3 (drop i l) ≡ ltb (get_or l i 0) 3 && all_below 3 (drop (suc i) l)
-known_from [] i h = absurd (omega arith)
-known_from (x ∷ l) zero h = refl
-known_from (x ∷ l) (suc i) h = known_from l i (omega arith)
-
-known_end : (l : Bytes) (i : ℕ) → length l ≤ i → all_below 3 (drop i l) ≡ true
-known_end [] zero h = refl
-known_end [] (suc i) h = refl
-known_end (x ∷ l) zero h = absurd (omega arith)
-known_end (x ∷ l) (suc i) h = known_end l i (omega arith)
-
 -- what is left decides
 pub record KnownFrom (inputs : Bytes) (i : ℕ) : Type 0 where
   pub most : i ≤ length inputs
   pub is : all_below 3 (drop i inputs) ≡ all_below 3 inputs
 
-module _ {inputs : Bytes} where
-  pub known_start : KnownFrom inputs 0
-  known_start = record { most = omega arith; is = refl }
-
-  module _ {i : ℕ} (s : KnownFrom inputs i) (l : i < length inputs) where
-    pub known_turn : get_or inputs i 0 ≤ 2 → KnownFrom inputs (i + 1)
-    known_turn h = record {
-      most = omega arith;
-      is = ap (λ (j : ℕ). all_below 3 (drop j inputs)) (add-one i)
-          ∙ sym (known_from inputs i l ∙ ap (λ (b : Bool). b && all_below 3 (drop (suc i) inputs)) (lt-ltb (get_or inputs i 0) 3 (omega arith))) ∙ s.is;
-    }
-
-    pub known_stop : 2 < get_or inputs i 0 → false ≡ all_below 3 inputs
-    known_stop h = sym (sym s.is ∙ known_from inputs i l ∙ ap (λ (b : Bool). b && all_below 3 (drop (suc i) inputs)) (le-ltb (get_or inputs i 0) 3 (omega arith)))
-
-  pub known_done : {i : ℕ} → KnownFrom inputs i → length inputs ≤ i → true ≡ all_below 3 inputs
-  known_done {i} s h = sym (sym s.is ∙ known_end inputs i h)
-
 -- ---- is it derivable?
-false_true : false ≡ true → ⊥
-false_true e = subst T (sym e) tt
-
 abbrev by_tests : Bool → Bool → Bool → Bool → Bool
 by_tests a b c d = a && (b && (c && d))
 
@@ -96,29 +64,8 @@ level_is : {list : Plain} {job work : Bytes} {n asked : ℕ} {b : Bool} → BitL
 level_is {list} {job} {work} {n} {asked} l e = subst (BitLevel list job work n asked) e l
 
 module _ {list : Plain} {job work : Bytes} {n asked : ℕ} {inputs : Bytes} {room : ℕ} {b : Bool} (l : BitLevel list job work n asked b) where
-  -- the asked term is not of such kinds
-  pub not_level : b ≡ false → Derivable list job work n asked inputs room false
-  not_level e = record {
-    is = ap (λ (a : Bool). by_tests a (eqb (length inputs) (all_bits list asked)) (all_below 3 inputs) (leb (bits_in (tree_at list asked)) room)) (sym e ∙ l.is);
-    level = λ f. absurd (false_true f);
-  }
-
   module _ (e : b ≡ true) {size : ℕ} (f : size ≡ all_bits list asked) where
-    -- not a byte for each bit
-    pub not_each : (length inputs ≡ size → ⊥) → Derivable list job work n asked inputs room false
-    not_each g = record {
-      is = λ i. by_tests ((level_is l e).is i) (sym (ne_eqb (length inputs) (all_bits list asked) (λ h. g (h ∙ sym f))) i) (all_below 3 inputs) (leb (bits_in (tree_at list asked)) room);
-      level = λ h. absurd (false_true h);
-    }
-
     module _ (g : length inputs ≡ size) where
-      -- a byte above 2
-      pub not_bytes : {c : Bool} → c ≡ all_below 3 inputs → c ≡ false → Derivable list job work n asked inputs room false
-      not_bytes h k = record {
-        is = λ i. by_tests ((level_is l e).is i) (sym (eq-eqb (length inputs) (all_bits list asked) (g ∙ f)) i) ((sym k ∙ h) i) (leb (bits_in (tree_at list asked)) room);
-        level = λ z. absurd (false_true z);
-      }
-
       -- the output decides
       pub by_room : {c : Bool} → c ≡ all_below 3 inputs → c ≡ true → {w : ℕ} → w ≡ bits_in (tree_at list asked) → Derivable list job work n asked inputs room (leb w room)
       by_room h k d = record {

@@ -23,16 +23,7 @@ pub record Writing (job work : Bytes) (n : ℕ) (values inputs : Bytes) (asked b
   pub holds : (input : Term → List Known) → Sound input (listed job work n) job work inputs values (suc asked) → Holds (byte_of input (tree_at (listed job work n) asked)) i outputs now
 
 module _ {job work : Bytes} {n : ℕ} {values inputs : Bytes} {asked bits : ℕ} {outputs : Bytes} where
-  pub writing_start : Output job work n asked bits outputs → Writing job work n values inputs asked bits outputs outputs 0
-  writing_start s = record { able = s; most = omega arith; length_is = refl; holds = λ input sound. record { length_is = refl; rest_is = refl; first_are = λ x l. absurd (omega arith) } }
-
   module _ {now : Bytes} {i : ℕ} (s : Writing job work n values inputs asked bits outputs now i) (l : i < bits) where
-    pub writing_bit : i < bits_in (tree_at (listed job work n) asked)
-    writing_bit = subst (λ (z : ℕ). i < z) s.able.bits_are l
-
-    pub writing_low : i < length now
-    writing_low = omega (arith, s.length_is, s.able.room)
-
     pub writing_turn : {x : Known} {v : ℕ} → BitOn (listed job work n) job work inputs values asked i x → v ≡ known_byte x → Writing job work n values inputs asked bits outputs (set now i v) (i + 1)
     writing_turn {x} {v} b e = record {
       able = s.able;

@@ -1,5 +1,5 @@
 // The bits of a term of the final store where only part of its inputs is known.
-#![tactic(auto)]
+#![tactic(auto, using(crate::proofs::Sets::laws))]
 
 pub mod inputs;
 pub mod levels;

@@ -1,3 +1,4 @@
 pub mod BlockLaws
 pub mod SweepLaws
 pub mod NumberLaws
+pub mod Sets

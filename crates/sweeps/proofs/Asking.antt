@@ -36,6 +36,3 @@ module _ (job : Bytes) (work space number : ℕ) (t : Term) (e : asked job work 
 
   pub asked_place : Stands (final job work space) number t
   asked_place = stands_at (final job work space) number t asked_at
-
-  pub asked_end : (run rack job work space).stop ≡ 0
-  asked_end = eqb→eq (run rack job work space).stop 0 (asked_cases (eqb (run rack job work space).stop 0) (at_place (final job work space) number) t e).0

@@ -1,5 +1,5 @@
 -- Counting the codes of answers, one answer at a time.
-use mathlib.Core.Path.{◌≡◌, sym, ap, ap₂, ◌∙◌}
+use mathlib.Core.Path.{◌≡◌, sym, ap, ◌∙◌}
 use mathlib.Core.Bool.{Bool, true, false, cond}
 use Prim.Native.Nat.{ℕ, suc, ◌+◌, ◌*◌, ◌-◌, ◌≤◌, ◌<◌}
 use native.Mathlib.Omega.{arith}
@@ -25,11 +25,6 @@ one_more true m = omega arith
 one_more false m = omega arith
 
 module _ {b : ℕ} {p : ℕ → Bool} {bs : Bytes} {count : ℕ} where
-  pub counted_start : Counted b p bs count 0 0
-  counted_start =
-      let e : count - 0 ≡ count = omega arith in
-      record { within = omega arith; few = omega arith; whole = (let z : 0 * answer_bytes b ≡ 0 = omega arith in let f = ap₂ (λ (m d : ℕ). how_many p (decode_answers b m (drop d bs))) e z in omega arith) }
-
   -- answer k has the code x, which counts r
   pub counted_turn : {n k x r : ℕ} → k < count → x ≡ (decode_answer b (drop (k * answer_bytes b) bs)).code → (r ≡ cond (p x) 1 0) × (r ≤ 1)
       → Counted b p bs count n k → Counted b p bs count (n + r) (k + 1)
@@ -43,9 +38,3 @@ module _ {b : ℕ} {p : ℕ → Bool} {bs : Bytes} {count : ℕ} where
       ∙ ap (λ (y : ℕ). cond (p y) 1 0 + how_many p (decode_answers b (count - (k + 1)) (drop (answer_bytes b) (drop (k * answer_bytes b) bs)))) (sym e)
       ∙ ap (λ (l : Bytes). cond (p x) 1 0 + how_many p (decode_answers b (count - (k + 1)) l)) (drop-drop (answer_bytes b) (k * answer_bytes b) bs ∙ ap (λ (j : ℕ). drop j bs) next) in
       record { within = omega arith; few = omega arith; whole = omega arith }
-
-  pub counted_end : {n k : ℕ} → count ≤ k → Counted b p bs count n k → n ≡ how_many p (decode_answers b count bs)
-  counted_end {n} {k} h c =
-      let w = c.within in
-      let e : count - k ≡ 0 = omega arith in
-      (let z : n ≡ n + 0 = omega arith in z) ∙ ap (λ (m : ℕ). n + how_many p (decode_answers b m (drop (k * answer_bytes b) bs))) (sym e) ∙ c.whole

@@ -6,7 +6,8 @@ ghost use Rattle.theory.specs.Answer.{decode_answer, decode_answers};
 ghost use Rattle.theory.specs.Limit.{answer_bytes};
 ghost use Rattle.terms.specs.Bodies.{Length};
 ghost use Rattle.theory.specs.Tally.{up, how_many, tally_after};
-ghost use Rattle.tally.specs.Counted.{as_tally, class_of, belongs, depth_length, whole_answers, answers_in};
+ghost use Rattle.tally.specs.Counted.{as_tally, class_of, belongs, depth_length, whole_answers};
+ghost use Rattle.tally.specs.Counted.{answers_in};
 
 use terms::{CODE_AT, DEPTH_AT, Term};
 

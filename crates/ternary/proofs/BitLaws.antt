@@ -65,12 +65,6 @@ default [] k d e h = absurd (omega arith)
 default (x ∷ l) zero d e h = refl
 default (x ∷ l) (suc k) d e h = default l k d e (omega arith)
 
-pub byte_none : (l : List ℕ) (from k : ℕ) → length l ≤ from + k → 2 ≡ get_or (drop from l) k 2
-byte_none l from k h = sym (get_or-drop from l k 2 ∙ past l (from + k) 2 h)
-
-pub byte_there : (l : List ℕ) (from k : ℕ) → from + k < length l → get_or l (from + k) 0 ≡ get_or (drop from l) k 2
-byte_there l from k h = default l (from + k) 0 2 h ∙ sym (get_or-drop from l k 2)
-
 -- ---- a row of cells
 drop_end : (f : ℕ → Known) (ks : List ℕ) (i : ℕ) → length ks ≤ i → map f (drop i ks) ≡ []
 drop_end f [] zero h = refl

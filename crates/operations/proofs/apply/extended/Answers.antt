@@ -1,5 +1,5 @@
-use Rattle.std.proofs.Common.{sym, ◌∙◌, arith}
-use Rattle.operations.proofs.ApplyLaws.{extend_in, extend_wide, extend_le, extend_fits, is_extend_set, is_extend_clear}
+use Rattle.std.proofs.Common.{arith}
+use Rattle.operations.proofs.ApplyLaws.{extend_in, extend_wide, extend_le, extend_fits}
 use Rattle.operations.proofs.apply.extended.Goals as goal
 
 pub overflow_sub-m : goal.overflow_sub-m
@@ -19,9 +19,3 @@ overflow_sub-result c = extend_le _ _ _ _ c.ones.ensures c.ones-then-bit.ensures
 
 pub overflow_add-result : goal.overflow_add-result
 overflow_add-result c = record { fits = extend_fits _ _ _ _ _ c.requires c.ones.ensures c.ones-then-bit.ensures }
-
-pub returns-then-bit : goal.returns-then-bit
-returns-then-bit c = is_extend_set _ _ _ _ _ c.requires (sym c.bit.ensures ∙ c.if-bit.true) c.ones.ensures c.ones-then-bit.ensures
-
-pub returns : goal.returns
-returns c = is_extend_clear _ _ _ c.requires (sym c.bit.ensures ∙ c.if-bit.false)

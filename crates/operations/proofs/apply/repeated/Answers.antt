@@ -1,14 +1,8 @@
-use Rattle.operations.proofs.MoveLaws.{repeat_in, copying_start, copying_low, copying_fits, copying_turn, copying_done}
+use Rattle.operations.proofs.MoveLaws.{repeat_in, copying_start, copying_turn, copying_done}
 use Rattle.operations.proofs.apply.repeated.Goals as goal
 
 pub loop-init : goal.loop-init
 loop-init c = copying_start _ _ _ c.requires
-
-pub overflow_shl-r : goal.overflow_shl-r
-overflow_shl-r c = copying_low _ _ _ _ _ c.requires c.loop.invariant c.loop-test.true
-
-pub overflow_add-r : goal.overflow_add-r
-overflow_add-r c = record { fits = copying_fits _ _ _ _ _ c.requires c.loop.invariant c.loop-test.true }
 
 pub loop-preserved : goal.loop-preserved
 loop-preserved c = copying_turn _ _ _ _ _ c.requires c.loop.invariant c.loop-test.true

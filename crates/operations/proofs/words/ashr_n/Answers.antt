@@ -1,5 +1,5 @@
-use Rattle.std.proofs.Common.{◌<◌, ◌≤◌, sym, ◌∙◌, arith}
-use Rattle.operations.proofs.WordLaws.{ashr_le, ashr_fits, ashr_set, ashr_clear, ashr_full, ashr_none}
+use Rattle.std.proofs.Common.{◌<◌, sym, ◌∙◌, arith}
+use Rattle.operations.proofs.WordLaws.{ashr_le, ashr_fits, ashr_set}
 use Rattle.operations.proofs.words.ashr_n.Goals as goal
 
 pub overflow_sub-result : goal.overflow_sub-result
@@ -11,15 +11,3 @@ overflow_add-result c = record { fits = ashr_fits _ _ _ _ _ c.requires.wide.most
 pub returns-then-top : goal.returns-then-top
 returns-then-top c = let below : c.args.y < c.args.n = omega (arith, c.from.ensures, c.if-y-from.true) in
     ashr_set _ _ _ _ _ below (sym c.bit-top.ensures ∙ c.if-top.true) c.ones.ensures c.ones-then-top.ensures
-
-pub returns-then-y-from : goal.returns-then-y-from
-returns-then-y-from c = let below : c.args.y < c.args.n = omega (arith, c.from.ensures, c.if-y-from.true) in
-    ashr_clear _ _ _ below (sym c.bit-top.ensures ∙ c.if-top.false)
-
-pub returns-then-top-2 : goal.returns-then-top-2
-returns-then-top-2 c = let past : c.args.n ≤ c.args.y = omega (arith, c.from.ensures, c.if-y-from.false) in
-    ashr_full _ _ _ _ past (sym c.bit-top.ensures ∙ c.if-top-2.true) c.ones-then-top-2.ensures
-
-pub returns-else-top-2 : goal.returns-else-top-2
-returns-else-top-2 c = let past : c.args.n ≤ c.args.y = omega (arith, c.from.ensures, c.if-y-from.false) in
-    ashr_none _ _ _ past (sym c.bit-top.ensures ∙ c.if-top-2.false)

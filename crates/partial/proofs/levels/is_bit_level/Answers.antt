@@ -1,15 +1,7 @@
 use mathlib.Core.Path.{sym, ◌∙◌}
-use native.Mathlib.Omega.{arith}
-use Rattle.marks.proofs.Walking.{walk_start, walk_step, walk_at, walk_on, walk_end}
-use Rattle.partial.proofs.LevelLaws.{searching_start, searching_turn, searching_not, searching_done}
+use Rattle.marks.proofs.Walking.{walk_step, walk_at, walk_on, walk_end}
+use Rattle.partial.proofs.LevelLaws.{searching_turn, searching_not, searching_done}
 use Rattle.partial.proofs.levels.is_bit_level.Goals as goal
-
-pub loop-k-init : goal.loop-k-init
-loop-k-init c = let p = c.places-k-items.ensures in
-    walk_start _ c.into_iter-k-iterator.ensures.into_iter_gives p.asked p.first (searching_start c.args.asked.now.marks)
-
-pub is_bit_kind-requires : goal.is_bit_kind-requires
-is_bit_kind-requires c = let e = walk_step c.loop-k.invariant c.in-Some.ensures.steps in omega (arith, e.low, c.args.asked.now.marks.low)
 
 pub returns-then-not-is_bit_kind : goal.returns-then-not-is_bit_kind
 returns-then-not-is_bit_kind c = let w = c.loop-k.invariant in

@@ -1,14 +1,8 @@
 use Rattle.partial.proofs.NumberLaws.{derive_ready, derive_output, derive_bytes, derive_zero}
 use Rattle.partial.proofs.number.derive_bits.Goals as goal
 
-pub place_inputs-requires : goal.place_inputs-requires
-place_inputs-requires c = c.requires.room
-
 pub known_all-requires : goal.known_all-requires
 known_all-requires c = derive_ready c.requires c.place_inputs.ensures
-
-pub term_bits-bits-requires : goal.term_bits-bits-requires
-term_bits-bits-requires c = c.requires.marked.low
 
 pub invariant_of-known : goal.invariant_of-known
 invariant_of-known c = record { closed = (derive_ready c.requires c.place_inputs.ensures).closed }

@@ -1,11 +1,7 @@
-use native.Mathlib.Omega.{arith}
 use mathlib.Core.Logic.{inl, inr}
 use mathlib.Core.Path.{refl}
-use Rattle.ternary.proofs.KindLaws.{equals_low, kind_equals, kind_at, kind_other}
+use Rattle.ternary.proofs.KindLaws.{kind_equals, kind_at, kind_other}
 use Rattle.ternary.proofs.kinds.is_bit_kind.Goals as goal
-
-pub width_on-requires : goal.width_on-requires
-width_on-requires c = omega (arith, c.requires, equals_low c.term_on.ensures _ _ c.in-Equals.is)
 
 pub returns-in-Equals : goal.returns-in-Equals
 returns-in-Equals c = kind_equals c.term_on.ensures c.args.terms.now.shelf c.requires _ _ c.in-Equals.is c.width_on.ensures

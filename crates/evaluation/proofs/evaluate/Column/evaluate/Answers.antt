@@ -1,4 +1,4 @@
-use Rattle.evaluation.proofs.TermLaws.{standing, given_at, done_at, own_at, placed_at, true_at, false_at, const_at}
+use Rattle.evaluation.proofs.TermLaws.{standing, given_at, done_at, placed_at}
 use Rattle.evaluation.proofs.evaluate.Column.evaluate.Goals as goal
 
 pub one-requires : goal.one-requires
@@ -93,21 +93,6 @@ many-requires-in-BvMul c = record { inside = placed_at (standing c.args.self.now
 
 pub many-requires-in-BvConcat : goal.many-requires-in-BvConcat
 many-requires-in-BvConcat c = record { inside = placed_at (standing c.args.self.now c.requires.low c.requires.term) _ c.in-BvConcat.is; given = given_at (standing c.args.self.now c.requires.low c.requires.term) _ c.in-BvConcat.is }
-
-pub returns-in-True : goal.returns-in-True
-returns-in-True c = true_at (standing c.args.self.now c.requires.low c.requires.term) c.in-True.is
-
-pub returns-in-False : goal.returns-in-False
-returns-in-False c = false_at (standing c.args.self.now c.requires.low c.requires.term) c.in-False.is
-
-pub returns-in-BoolVar : goal.returns-in-BoolVar
-returns-in-BoolVar c = own_at (standing c.args.self.now c.requires.low c.requires.term) _ c.in-BoolVar.is tt c.number.ensures
-
-pub returns-in-BvVar : goal.returns-in-BvVar
-returns-in-BvVar c = own_at (standing c.args.self.now c.requires.low c.requires.term) _ c.in-BvVar.is tt c.number-in-BvVar.ensures
-
-pub returns-in-Const : goal.returns-in-Const
-returns-in-Const c = const_at (standing c.args.self.now c.requires.low c.requires.term) _ _ c.in-Const.is
 
 pub returns-in-Not : goal.returns-in-Not
 returns-in-Not c = done_at (standing c.args.self.now c.requires.low c.requires.term) _ c.in-Not.is c.one.ensures

@@ -1,8 +1,5 @@
-use Rattle.evaluation.proofs.PlaceLaws.{first_low, one_ready, one_done}
+use Rattle.evaluation.proofs.PlaceLaws.{one_ready, one_done}
 use Rattle.evaluation.proofs.evaluate.Column.one.Goals as goal
-
-pub width_on-requires : goal.width_on-requires
-width_on-requires c = first_low c.requires
 
 pub apply_one-requires : goal.apply_one-requires
 apply_one-requires c = one_ready _ _ c.requires c.width_on.ensures c.number.ensures

@@ -1,8 +1,5 @@
-use Rattle.evaluation.proofs.PlaceLaws.{first_low, two_ready, two_done}
+use Rattle.evaluation.proofs.PlaceLaws.{two_ready, two_done}
 use Rattle.evaluation.proofs.evaluate.Column.two.Goals as goal
-
-pub width_on-requires : goal.width_on-requires
-width_on-requires c = first_low c.requires
 
 pub apply_two-requires : goal.apply_two-requires
 apply_two-requires c = two_ready c.args.op _ _ c.requires c.width_on.ensures c.number.ensures c.number-2.ensures

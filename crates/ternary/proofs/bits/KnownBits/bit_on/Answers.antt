@@ -1,8 +1,5 @@
-use Rattle.ternary.proofs.BitLaws.{bit_asked, bit_bool, bit_never, row_inside, row_low, bit_row, bit_small, bit_const, bit_variable, bv_variable}
+use Rattle.ternary.proofs.BitLaws.{bit_asked, bit_never, row_inside, row_low, bit_row, bit_small, bit_const, bit_variable, bv_variable}
 use Rattle.ternary.proofs.bits.KnownBits.bit_on.Goals as goal
-
-pub returns-then-width_on-eq0 : goal.returns-then-width_on-eq0
-returns-then-width_on-eq0 c = bit_bool (bit_asked c.args.self.now c.requires.low c.requires.marked c.requires.bit) c.width_on.ensures c.if-width_on-eq0.true c.bit_in.ensures
 
 pub argument-requires : goal.argument-requires
 argument-requires c = record { inside = row_inside c.term_on.ensures _ c.in-BvBbTerm.is; below = row_low (bit_asked c.args.self.now c.requires.low c.requires.marked c.requires.bit) c.term_on.ensures _ c.in-BvBbTerm.is }

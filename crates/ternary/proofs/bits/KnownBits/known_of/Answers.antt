@@ -1,11 +1,5 @@
-use Rattle.ternary.proofs.KnownLaws.{known_asked, and_inside, or_inside, bit_asked, known_true, known_false, known_variable, known_not, known_and, known_or, known_xor, known_equals, known_ite, known_bit, known_none}
+use Rattle.ternary.proofs.KnownLaws.{known_asked, bit_asked, known_true, known_false, known_variable, known_not, known_and, known_or, known_xor, known_equals, known_ite, known_bit, known_none}
 use Rattle.ternary.proofs.bits.KnownBits.known_of.Goals as goal
-
-pub row-requires : goal.row-requires
-row-requires c = and_inside (known_asked c.args.self.now c.requires.low c.requires.marked c.requires.bool_there) c.term_on.ensures _ c.in-And.is
-
-pub row-requires-in-Or : goal.row-requires-in-Or
-row-requires-in-Or c = or_inside (known_asked c.args.self.now c.requires.low c.requires.marked c.requires.bool_there) c.term_on.ensures _ c.in-Or.is
 
 pub bit_on-requires : goal.bit_on-requires
 bit_on-requires c = let q = bit_asked (known_asked c.args.self.now c.requires.low c.requires.marked c.requires.bool_there) c.term_on.ensures _ _ c.in-BvBitOf.is in record { low = q.low; marked = q.marked; bit = q.bit_low }
