@@ -5,11 +5,11 @@ ghost use Rattle.theory.specs.Value.{Assign, meaning, bit};
 ghost use Rattle.theory.specs.Kind.{Ite};
 ghost use Rattle.sweeps.specs.Sweep.{as_number};
 ghost use Rattle.operations.specs.Apply.{unary_op, binary_op, val_by, One, Two, Bools3};
-ghost use Rattle.operations.specs.Apply.{Extends, Extended, Starts, Started};
 
+pub use crate::many::{extend, start};
 use crate::words::{
-    add_n, ashr_n, bit, low, lshr_n, mul_n, neg_n, not_n, ones, rotate_left_n, rotate_right_n,
-    shl_n, udiv_n, urem_n, xnor_n,
+    ashr_n, bit, low, lshr_n, neg_n, not_n, ones, rotate_left_n, rotate_right_n, shl_n, udiv_n,
+    urem_n, xnor_n,
 };
 use theory::sign::signed_less;
 
@@ -149,61 +149,4 @@ pub fn choice(c: u64, x: u64, y: u64) -> u64
         → result ≡ as_number (meaning ρ Ite (val_by 0 c ∷ val_by 0 x ∷ val_by 0 y ∷ [])) }
 {
     if c == 1 { x } else { y }
-}
-
-// The first argument of an operation of one or more.
-pub fn start(op: Many, m: u32, x: u64) -> Word
-    requires { Starts op m x }
-    ensures { Started op m x result }
-{
-    match op {
-        Many::Bits => Word { width: 1, value: x },
-        Many::And
-        | Many::Or
-        | Many::BvAnd
-        | Many::BvOr
-        | Many::BvXor
-        | Many::Add
-        | Many::Mul
-        | Many::Concat => Word { width: m, value: x },
-    }
-}
-
-// What an operation comes to with one argument more, of width m.
-pub fn extend(op: Many, a: Word, m: u32, x: u64) -> Word
-    requires { Extends op a m x }
-    ensures { Extended op a m x result }
-{
-    let w = a.width;
-    let v = a.value;
-    match op {
-        Many::And | Many::BvAnd => Word {
-            width: w,
-            value: v & x,
-        },
-        Many::Or | Many::BvOr => Word {
-            width: w,
-            value: v | x,
-        },
-        Many::Bits => Word {
-            width: w + 1,
-            value: v + (x << w),
-        },
-        Many::BvXor => Word {
-            width: w,
-            value: v ^ x,
-        },
-        Many::Add => Word {
-            width: w,
-            value: add_n(w, v, x),
-        },
-        Many::Mul => Word {
-            width: w,
-            value: mul_n(w, v, x),
-        },
-        Many::Concat => Word {
-            width: w + m,
-            value: (v << m) + x,
-        },
-    }
 }

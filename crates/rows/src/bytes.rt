@@ -5,15 +5,14 @@ ghost use Rattle.theory.specs.Record.{bytes_of};
 ghost use Rattle.rows.specs.Layout.{Bounded, number_at};
 
 // The number of N bytes at a place.
-#[tactic(auto, using(terms::proofs::Numbers::sum_turn, terms::proofs::Numbers::sum_small))]
 pub fn number_of<const N: usize>(s: &[u8], at: usize) -> usize
     requires inside { at + N ≤ length s.now }
     requires short { N ≤ 4 }
     ensures { Bounded result (number_at s.now at N) (256 ^ N) }
 {
     let mut x: usize = 0;
-    for i in (0..N).rev() {
-        x = 256 * x + usize::from(s[at + i]);
+    for &byte in s[at..at + N].iter().rev() {
+        x = 256 * x + usize::from(byte);
     }
     x
 }
@@ -35,14 +34,13 @@ pub fn number(s: &[u8], at: usize, len: usize) -> usize
 
 // Stores `len` bytes of a number.
 #[inline]
-#[tactic(auto, using(crate::proofs::RowLaws::put_turn))]
 fn put_bytes(s: &mut [u8], at: usize, len: usize, x: usize)
     requires { at + len ≤ length s.old }
     ensures { s.new ≡ sets s.old at (bytes_of len x) }
 {
     let mut rest = x;
-    for i in 0..len {
-        s[at + i] = (rest % 256) as u8;
+    for byte in &mut s[at..at + len] {
+        *byte = (rest % 256) as u8;
         rest /= 256;
     }
 }

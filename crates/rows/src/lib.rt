@@ -18,7 +18,7 @@ ghost use Rattle.rows.specs.Layout.{Bounded, link_bytes, link_size, row_size};
 ghost use Rattle.rows.specs.Layout.{offset_at, measure_at, link_at};
 ghost use Rattle.rows.specs.Rows.{stored_row};
 
-use crate::bytes::{number_of, put_number_of};
+use crate::bytes::{number, number_of, put_number, put_number_of};
 use crate::layout::{LONG_LINK_BYTES, OFFSET_BYTES};
 pub use layout::{FIRST_PLACE, MISSING};
 use terms::Term;
@@ -35,63 +35,59 @@ pub fn link_bytes(bytes: usize) -> usize
     }
 }
 
-// Where row k's record stands in the job.
+// Where row k's record stands in the job, where a link has `len` bytes. A caller that knows the
+// length is compiled for it, here and below.
 #[tactic(auto, unfolding(crate::specs::Layout::offset_at))]
-pub fn offset_as<const L: usize>(work: &[u8], k: usize) -> usize
-    requires inside { k * row_size L + row_size L ≤ length work.now }
-    requires sized { Length L }
-    ensures { Bounded result (offset_at L work.now k) max_job }
+#[inline]
+pub fn offset_as(work: &[u8], len: usize, k: usize) -> usize
+    requires inside { k * row_size len + row_size len ≤ length work.now }
+    requires sized { Length len }
+    ensures { Bounded result (offset_at len work.now k) max_job }
 {
-    number_of::<OFFSET_BYTES>(work, k * (OFFSET_BYTES + 2 * L))
+    number_of::<OFFSET_BYTES>(work, k * (OFFSET_BYTES + 2 * len))
 }
 
 // The measure of row k.
 #[tactic(auto, unfolding(crate::specs::Layout::measure_at))]
-pub fn measure_as<const L: usize>(work: &[u8], k: usize) -> usize
-    requires inside { k * row_size L + row_size L ≤ length work.now }
-    requires sized { Length L }
-    ensures { Bounded result (measure_at L work.now k) (256 ^ L) }
+#[inline]
+pub fn measure_as(work: &[u8], len: usize, k: usize) -> usize
+    requires inside { k * row_size len + row_size len ≤ length work.now }
+    requires sized { Length len }
+    ensures { Bounded result (measure_at len work.now k) (256 ^ len) }
 {
-    number_of::<L>(work, k * (OFFSET_BYTES + 2 * L) + OFFSET_BYTES)
+    number(work, k * (OFFSET_BYTES + 2 * len) + OFFSET_BYTES, len)
 }
 
 // The link of row k: 0, or one more than the index of an earlier row.
 #[tactic(auto, unfolding(crate::specs::Layout::link_at))]
-pub fn link_at<const L: usize>(work: &[u8], k: usize) -> usize
-    requires inside { k * row_size L + row_size L ≤ length work.now }
-    requires sized { Length L }
-    ensures { Bounded result (link_at L work.now k) (256 ^ L) }
+#[inline]
+pub fn link_at(work: &[u8], len: usize, k: usize) -> usize
+    requires inside { k * row_size len + row_size len ≤ length work.now }
+    requires sized { Length len }
+    ensures { Bounded result (link_at len work.now k) (256 ^ len) }
 {
-    number_of::<L>(work, k * (OFFSET_BYTES + 2 * L) + OFFSET_BYTES + L)
+    number(work, k * (OFFSET_BYTES + 2 * len) + OFFSET_BYTES + len, len)
 }
 
 // Stores row n.
 #[tactic(auto, using(crate::proofs::RowLaws::stored_parts))]
-pub fn put_row<const L: usize>(
-    work: &mut [u8],
-    n: usize,
-    offset: usize,
-    measure: usize,
-    link: usize,
-)
-    requires inside { n * row_size L + row_size L ≤ length work.old }
-    requires sized { Length L }
-    ensures { work.new ≡ stored_row L work.old n offset measure link }
+#[inline]
+pub fn put_row(work: &mut [u8], len: usize, n: usize, offset: usize, measure: usize, link: usize)
+    requires inside { n * row_size len + row_size len ≤ length work.old }
+    requires sized { Length len }
+    ensures { work.new ≡ stored_row len work.old n offset measure link }
 {
-    let at = n * (OFFSET_BYTES + 2 * L);
+    let at = n * (OFFSET_BYTES + 2 * len);
     put_number_of::<OFFSET_BYTES>(work, at, offset);
-    put_number_of::<L>(work, at + OFFSET_BYTES, measure);
-    put_number_of::<L>(work, at + OFFSET_BYTES + L, link);
+    put_number(work, at + OFFSET_BYTES, len, measure);
+    put_number(work, at + OFFSET_BYTES + len, len, link);
 }
 
-// Where row k's record stands, in the job's own number length. A call for each of the two: each is
-// then compiled for its length.
+// Where row k's record stands, in the job's own number length.
+#[tactic(auto, using(terms::proofs::Numbers::length_of, crate::proofs::RowLaws::link_sized))]
 pub fn offset_at(job: &[u8], work: &[u8], k: usize) -> usize
     requires { k * row_size (link_size job.now) + row_size (link_size job.now) ≤ length work.now }
     ensures { Bounded result (offset_at (link_size job.now) work.now k) max_job }
 {
-    if Term::number_length(job) == Term::NUMBER_BYTES {
-        return offset_as::<{ Term::NUMBER_BYTES }>(work, k);
-    }
-    offset_as::<LONG_LINK_BYTES>(work, k)
+    offset_as(work, link_bytes(Term::number_length(job)), k)
 }

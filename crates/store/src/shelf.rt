@@ -4,7 +4,7 @@ ghost use Rattle.std.specs.Prelude.{◌≡◌, ◌+◌, ◌<◌};
 ghost use Rattle.theory.specs.Limit.{first_terms};
 ghost use Rattle.theory.specs.Depth.{depth};
 ghost use Rattle.theory.specs.Record.{number_length};
-ghost use Rattle.rows.specs.Layout.{Bounded, link_bytes, place_end};
+ghost use Rattle.rows.specs.Layout.{Bounded, place_end};
 ghost use Rattle.store.specs.Measure.{bool_depth};
 ghost use Rattle.theory.proofs.Facts.{kept_facts};
 ghost use Rattle.store.specs.Shelf.{Shelf};
@@ -12,7 +12,7 @@ ghost use Rattle.store.specs.Shelf.{Shelf};
 use super::gates::{FALSE, TRUE};
 use super::measures::{bool_in, depth_in, width_in};
 use rows::bytes::number;
-use rows::layout::LONG_LINK_BYTES;
+use table::{Long, Numbers, Short};
 use terms::{Item, Term};
 
 // A job's bytes, the memory it lends, and how many rows are kept in it: the terms that its records
@@ -66,30 +66,28 @@ impl<'a> Terms<'a> {
         term
     }
 
-    // What stands at row k, where the numbers of terms have N bytes, and links L.
-    fn row_as<const N: usize, const L: usize>(&self, k: usize) -> Row
+    // What stands at row k.
+    fn row_as<N: Numbers>(&self, k: usize) -> Row
         requires kept { k < self.now.rows }
-        requires own { N ≡ number_length self.now.job.now }
-        requires linked { L ≡ link_bytes N }
+        requires own { N.BYTES ≡ number_length self.now.job.now }
         ensures { Stands self.now k result }
     {
-        let at = rows::offset_as::<L>(self.work, k);
+        let len = N::LINK_BYTES;
+        let at = rows::offset_as(self.work, len, k);
         let kind = number(self.job, at + Term::NUMBER_BYTES, Term::NUMBER_BYTES);
-        let measure = rows::measure_as::<L>(self.work, k);
+        let measure = rows::measure_as(self.work, len, k);
         Row { at, kind, measure }
     }
 
-    // The width of row k's term, 0 for a Bool, where the numbers of terms have N bytes, and links
-    // L.
-    fn row_width_as<const N: usize, const L: usize>(&self, k: usize) -> usize
+    // The width of row k's term, 0 for a Bool.
+    fn row_width_as<N: Numbers>(&self, k: usize) -> usize
         requires kept { k < self.now.rows }
-        requires own { N ≡ number_length self.now.job.now }
-        requires linked { L ≡ link_bytes N }
+        requires own { N.BYTES ≡ number_length self.now.job.now }
         ensures { Bounded result (kept_width self.now (first_terms + k)) 256 }
     {
-        let row = self.row_as::<N, L>(k);
+        let row = self.row_as::<N>(k);
         let size = number(self.job, row.at, Term::NUMBER_BYTES);
-        width_in(N, row.kind, size, row.measure)
+        width_in(N::BYTES, row.kind, size, row.measure)
     }
 
     // The same in the job's own number length. A call for each of the two: each is then compiled
@@ -99,19 +97,18 @@ impl<'a> Terms<'a> {
         ensures { Bounded result (kept_width self.now (first_terms + k)) 256 }
     {
         if Term::number_length(self.job) == Term::NUMBER_BYTES {
-            return self.row_width_as::<{ Term::NUMBER_BYTES }, { Term::NUMBER_BYTES }>(k);
+            return self.row_width_as::<Short>(k);
         }
-        self.row_width_as::<{ Term::LONG_BYTES }, LONG_LINK_BYTES>(k)
+        self.row_width_as::<Long>(k)
     }
 
-    // The depth of row k's term, where the numbers of terms have N bytes, and links L.
-    fn row_depth_as<const N: usize, const L: usize>(&self, k: usize) -> usize
+    // The depth of row k's term.
+    fn row_depth_as<N: Numbers>(&self, k: usize) -> usize
         requires kept { k < self.now.rows }
-        requires own { N ≡ number_length self.now.job.now }
-        requires linked { L ≡ link_bytes N }
+        requires own { N.BYTES ≡ number_length self.now.job.now }
         ensures { Bounded result (depth (kept_term self.now (first_terms + k))) place_end }
     {
-        let row = self.row_as::<N, L>(k);
+        let row = self.row_as::<N>(k);
         depth_in(row.kind, row.measure)
     }
 
@@ -121,20 +118,18 @@ impl<'a> Terms<'a> {
         ensures { Bounded result (depth (kept_term self.now (first_terms + k))) place_end }
     {
         if Term::number_length(self.job) == Term::NUMBER_BYTES {
-            return self.row_depth_as::<{ Term::NUMBER_BYTES }, { Term::NUMBER_BYTES }>(k);
+            return self.row_depth_as::<Short>(k);
         }
-        self.row_depth_as::<{ Term::LONG_BYTES }, LONG_LINK_BYTES>(k)
+        self.row_depth_as::<Long>(k)
     }
 
-    // The depth of row k's term where it is a Bool, where the numbers of terms have N bytes, and
-    // links L.
-    fn bool_depth_as<const N: usize, const L: usize>(&self, k: usize) -> Option<u32>
+    // The depth of row k's term where it is a Bool.
+    fn bool_depth_as<N: Numbers>(&self, k: usize) -> Option<u32>
         requires kept { k < self.now.rows }
-        requires own { N ≡ number_length self.now.job.now }
-        requires linked { L ≡ link_bytes N }
+        requires own { N.BYTES ≡ number_length self.now.job.now }
         ensures { result ≡ bool_depth (kept_term self.now (first_terms + k)) }
     {
-        let row = self.row_as::<N, L>(k);
+        let row = self.row_as::<N>(k);
         bool_in(row.kind, row.measure)
     }
 
@@ -149,11 +144,9 @@ impl<'a> Terms<'a> {
             return Some(0);
         }
         if Term::number_length(self.job) == Term::NUMBER_BYTES {
-            return self.bool_depth_as::<{ Term::NUMBER_BYTES }, { Term::NUMBER_BYTES }>(
-                k - rows::FIRST_PLACE,
-            );
+            return self.bool_depth_as::<Short>(k - rows::FIRST_PLACE);
         }
-        self.bool_depth_as::<{ Term::LONG_BYTES }, LONG_LINK_BYTES>(k - rows::FIRST_PLACE)
+        self.bool_depth_as::<Long>(k - rows::FIRST_PLACE)
     }
 
     // The width of the term at a place, 0 for a Bool.

@@ -1,6 +1,7 @@
 -- Laws of the buckets: the newest row of each, and the walk through one. Assumes nothing.
-use mathlib.Core.Path.{◌≡◌, refl, sym, ap, ◌∙◌}
+use mathlib.Core.Path.{◌≡◌, refl, sym, ap, ap₂, ◌∙◌}
 use mathlib.Core.Bool.{Bool, true, false, cond}
+use mathlib.Core.List.{◌++◌}
 use Rattle.std.specs.Prelude.{Option, None as none, Some as some, unwrap_or}
 use Prim.Native.Nat.{ℕ, zero, suc, ◌+◌, ◌*◌, ◌-◌, ◌/◌, ◌%◌, ◌≤◌, ◌<◌}
 use native.Mathlib.Nat.{not-suc-le-zero, mod-lt}
@@ -8,14 +9,16 @@ use native.Mathlib.Decide.{dec_lt, dec_le, ℕ_discrete}
 use native.Mathlib.Numerals.{add-one}
 use native.Mathlib.Omega.{arith}
 use lib.Dec.{eqb, ltb}
-use lib.ListN.{drop, get_or, length}
-use lib.Seq.{drop-drop}
+use lib.ListN.{drop, get_or, length, length-append, length-drop, take}
+use lib.Seq.{drop_at, take_all}
+use Rattle.std.proofs.lemmas.List.{take-append-le}
 use borrow.Author.Tests.{eq-eqb, le-ltb, lt-ltb, ne_eqb}
-use Rattle.theory.specs.Record.{Bytes}
+use Rattle.theory.specs.Record.{Bytes, little_endian}
 use Rattle.terms.specs.Framing.{record_at}
-use Rattle.rows.specs.Layout.{link_at, missing, number_at, offset_at}
+use Rattle.rows.specs.Layout.{link_at, missing, number_at, offset_at, row_size}
 use Rattle.rows.specs.Rows.{kept_as, place_from, place_of, row_record}
 use Rattle.table.specs.Buckets.{Sought, TableOf, bucket_of, first_in, fold, hash_from, hash_of, head_at, multiplier, newest, row_bucket, seed_in, unless_missing}
+use Rattle.table.specs.Falls.{Falls}
 use Rattle.rows.proofs.RowLaws.{place_end, place_found, place_next, row_before, row_least}
 
 -- ---- the newest row
@@ -81,26 +84,30 @@ newest_same f g j (suc n) h = rw (h n (omega arith), newest_same f g j n (λ k l
 -- ---- the buckets
 
 -- a word more
-pub hash_turn : (m h i w : ℕ) (s : Bytes) → i + 2 ≤ length s → w ≡ number_at s i 2
-    → hash_from m ((length s - i) / 2) h (drop i s) ≡ hash_from m ((length s - (i + 2)) / 2) (fold ((h + w) * m)) (drop (i + 2) s)
+pub hash_turn : (m h w : ℕ) {s : Bytes} (x rest : Bytes) → s ≡ x ++ rest → length x ≡ 2 → w ≡ number_at x 0 2
+    → hash_from m (length s / 2) h s ≡ hash_from m (length rest / 2) (fold ((h + w) * m)) rest
 unfolding hash_from
-hash_turn m h i w s l e =
-    let q : (length s - i) / 2 ≡ suc ((length s - (i + 2)) / 2) = omega arith in
-    rw (q, e)
-    (ap (λ (x : Bytes). hash_from m ((length s - (i + 2)) / 2) (fold ((h + number_at s i 2) * m)) x) (drop-drop 2 i s))
+hash_turn m h w {s} x rest a l e =
+    let q : length s / 2 ≡ suc (length rest / 2) = omega (arith, ap length a, length-append x rest) in
+    let front : number_at s 0 2 ≡ w = ap (λ (y : Bytes). number_at y 0 2) a ∙ ap little_endian (take-append-le 2 x rest (omega arith)) ∙ sym e in
+    let left : drop 2 s ≡ rest = ap (drop 2) a ∙ drop_at x rest 2 l in
+    rw q (ap₂ (λ (v : ℕ) (y : Bytes). hash_from m (length rest / 2) (fold ((h + v) * m)) y) front left)
 
 pub hash_short : (m : ℕ) (s : Bytes) → length s < 4 → 0 ≡ hash_of m s
 unfolding hash_of
 hash_short m s h = sym (rw (lt-ltb (length s) 4 h))
 
-pub hash_start : (m : ℕ) (s : Bytes) {k : ℕ} → 4 ≤ length s → k ≡ get_or s 2 0 → hash_of m s ≡ hash_from m ((length s - 4) / 2) (k * 65536) (drop 4 s)
+pub hash_start : (m : ℕ) (s : Bytes) {k : ℕ} {rest : Bytes} → 4 ≤ length s → k ≡ get_or s 2 0 → rest ≡ take (length s - 4) (drop 4 s)
+    → hash_of m s ≡ hash_from m (length rest / 2) (k * 65536) rest
 unfolding hash_of
-hash_start m s h e = rw (le-ltb (length s) 4 h, e)
+hash_start m s {rest = rest} h e r =
+    let all : rest ≡ drop 4 s = r ∙ take_all (length s - 4) (drop 4 s) (omega (arith, length-drop 4 s)) in
+    rw (le-ltb (length s) 4 h, e, all, length-drop 4 s)
 
-pub hash_last : (m h i : ℕ) (s : Bytes) → length s < i + 2 → hash_from m ((length s - i) / 2) h (drop i s) ≡ h % 2147483648
+pub hash_last : (m h : ℕ) (s : Bytes) → length s < 2 → hash_from m (length s / 2) h s ≡ h % 2147483648
 unfolding hash_from
-hash_last m h i s l =
-    let q : (length s - i) / 2 ≡ 0 = omega arith in
+hash_last m h s l =
+    let q : length s / 2 ≡ 0 = omega arith in
     rw q
 
 -- the products of the hash fit, and what they are folded to stays small
@@ -230,6 +237,14 @@ module _ {l : ℕ} {job work : Bytes} {n : ℕ} {x : Bytes} where
   }
 
   module _ {held : ℕ} (s : Seeking l job work n x held) where
+    -- the rows from there on can be walked through
+    pub seek_falls : Falls l work held
+    seek_falls = record {
+      sized = s.table.rows.link_length;
+      inside = λ k h. let r : k * row_size l + row_size l ≤ n * row_size l = row_before (row_size l) (let z : k < n = omega (arith, s.low) in z) in omega (arith, s.table.rows.room);
+      earlier = λ k h. omega (arith, s.table.links k (omega (arith, s.low)), newest_low (row_bucket l job work s.c) (row_bucket l job work s.c k) k);
+    }
+
     pub seek_none : held ≡ 0 → place_of x (kept_as l job work n) ≡ missing
     seek_none z = place_none l job work n x (λ k h. s.passed k (omega arith) h)
 
@@ -269,11 +284,6 @@ module _ {l : ℕ} {job work : Bytes} {n : ℕ} {x : Bytes} where
           go f_is k a b q (no h) (no d) =
               let r : k ≡ held - 1 = omega (arith, more) in
               other (q ∙ ap (λ (o : ℕ). record_at job o) (ap (offset_at l work) r ∙ sym e))
-
-      -- the walk goes down
-      pub seek_falls : {next : ℕ} → next ≡ link_at l work (held - 1) → next < held
-      seek_falls {next} f =
-          omega (arith, more, f, s.table.links (held - 1) row_below, newest_low (row_bucket l job work s.c) (row_bucket l job work s.c (held - 1)) (held - 1))
 
 -- ---- a place as an Option
 

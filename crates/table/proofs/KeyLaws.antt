@@ -2,7 +2,7 @@
 use mathlib.Core.Path.{◌≡◌, refl, sym, ap, subst, ◌∙◌}
 use mathlib.Core.Bool.{Bool, true, false, ◌&&◌, and-false, cond}
 use mathlib.Core.List.{List, [], ◌∷◌, ◌++◌, append_assoc, append-nil}
-use Prim.Native.Nat.{ℕ, zero, suc, ◌+◌, ◌*◌, ◌≤◌, ◌<◌}
+use Prim.Native.Nat.{ℕ, zero, suc, ◌+◌, ◌*◌, ◌-◌, ◌%◌, ◌^◌, ◌≤◌, ◌<◌}
 use Rattle.std.specs.Prelude.{Option, None as none, Some as some}
 use native.Mathlib.Nat.{not-suc-le-zero, le_of_suc-le-suc, mul-le-mul_right}
 use native.Mathlib.Numerals.{add-one}
@@ -16,6 +16,7 @@ use Rattle.rows.specs.Layout.{missing}
 use Rattle.rows.specs.Rows.{place_of}
 use Rattle.table.specs.Keys.{few_arguments, list_bytes, key_bytes, Roomy, last_number, all_places, built_length, Built, words_bytes, place_constant, place_indexed, place_list, record_of}
 use Rattle.rows.proofs.RowLaws.{and_first, and_second, length_bytes}
+use Rattle.terms.specs.Bodies.{Length}
 use Rattle.theory.specs.Limit.{number_bytes, value_bytes, max_arguments, long_bytes}
 
 -- ---- the first `at` bytes of the array are p
@@ -51,6 +52,20 @@ written_own w = record { long = refl; bytes = w.bytes }
 
 pub roomy_own : {size b count : ℕ} {key p : Bytes} {at : ℕ} → Written size key p at → Roomy b count size → Roomy b count (length key)
 roomy_own {size} {b} {count} w r = subst (Roomy b count) (sym w.long) r
+
+-- ---- the last number
+
+last_small : (k : ℕ) → 0 < suc k → suc k ≤ 4 → 1 * 2 ^ (8 * suc k) % 18446744073709551616 - 1 ≡ last_number (suc k)
+unfolding last_number
+last_small zero a b = refl
+last_small (suc zero) a b = refl
+last_small (suc (suc zero)) a b = refl
+last_small (suc (suc (suc zero))) a b = refl
+last_small (suc (suc (suc (suc k)))) a b = absurd (omega arith)
+
+pub last_is : {b n : ℕ} → Length b → n ≡ b → 1 * 2 ^ (8 * n) % 18446744073709551616 - 1 ≡ last_number b
+last_is {b = zero} {n} l e = absurd (omega (arith, l.some_bytes))
+last_is {b = suc k} {n} l e = rw e (last_small k l.some_bytes l.few_bytes)
 
 -- ---- a list of numbers
 

@@ -5,3 +5,4 @@ pub mod Face
 pub mod AddLaws
 pub mod KeyLaws
 pub mod Sets
+mod SameLaws

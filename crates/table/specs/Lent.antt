@@ -8,6 +8,10 @@ use Rattle.rows.specs.Layout.{link_bytes}
 use Rattle.rows.specs.Rows.{kept_as, kept}
 use Rattle.table.specs.Keys.{place_list, place_indexed, place_constant}
 
+-- the kept records, where terms' numbers have b bytes
+abbrev pub kept_over : ℕ → Bytes → Bytes → ℕ → List Bytes
+kept_over b job work n = kept_as (link_bytes b) job work n
+
 module _ {X Y : Type 0} (job : Both (Bor Bytes) X) (work : Both (Bor Bytes) Y) (n : ℕ) where
   -- the kept records, where terms' numbers have b bytes
   abbrev pub records_as : ℕ → List Bytes

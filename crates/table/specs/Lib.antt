@@ -2,3 +2,5 @@ pub mod Buckets
 pub mod Promise
 pub mod Keys
 pub mod Lent
+pub mod Falls
+pub mod Walk

@@ -3,13 +3,13 @@
 // the hash in the last bytes of the work memory.
 ghost use Rattle.std.specs.Prelude.{◌≡◌, ◌+◌, ◌*◌, ◌-◌, ◌/◌, ◌≤◌, ◌<◌, length};
 ghost use Rattle.theory.specs.Limit.{term_bytes};
-ghost use Rattle.rows.specs.Layout.{Bounded, link_bytes};
-ghost use Rattle.terms.specs.Bodies.{Length};
+ghost use Rattle.rows.specs.Layout.{Bounded};
 ghost use Rattle.table.specs.Buckets.{most_rows, heads_start, most_heads, most_heads_of};
 ghost use Rattle.table.specs.Buckets.{head_count, seed_bytes, fold, hash_end, hash_of};
 ghost use Rattle.table.specs.Buckets.{bucket_of, first_in, first_of, stored_head};
 
-use rows::bytes::{number_of, put_number_of};
+use super::lengths::Numbers;
+use rows::bytes::{number, number_of, put_number};
 use rows::layout::{FIXED_BYTES, OFFSET_BYTES};
 use terms::Term;
 
@@ -35,39 +35,34 @@ const HASH_END: usize = 2147483648;
 // The bytes of the seed.
 pub const SEED_BYTES: usize = 4;
 
-// How many terms fit into a work memory of `len` bytes, where their numbers have B.
-fn terms_in<const B: usize>(len: usize) -> usize
-    requires { Length B }
-    ensures { result ≡ len / term_bytes B }
+// How many terms fit into a work memory of `len` bytes.
+fn terms_in<N: Numbers>(len: usize) -> usize
+    ensures { result ≡ len / term_bytes N.BYTES }
 {
-    len / (FIXED_BYTES + 2 * B)
+    len / (FIXED_BYTES + 2 * N::BYTES)
 }
 
 // How many rows it can ever hold.
 #[tactic(auto, unfolding(crate::specs::Buckets::most_rows))]
-fn most_rows<const B: usize>(len: usize) -> usize
-    requires { Length B }
-    ensures { result ≡ most_rows B len }
+fn most_rows<N: Numbers>(len: usize) -> usize
+    ensures { result ≡ most_rows N.BYTES len }
 {
-    terms_in::<B>(len).min(Term::max_terms(B))
+    terms_in::<N>(len).min(Term::max_terms(N::BYTES))
 }
 
 // Where the heads start in a work memory of `len` bytes: after as many rows as it can ever hold.
-// Numbers have B bytes here and below, and links L.
-fn heads_start<const B: usize, const L: usize>(len: usize) -> usize
-    requires sized { Length B }
-    requires linked { L ≡ link_bytes B }
-    ensures { (result ≡ heads_start B len) × (result ≤ len) }
+fn heads_start<N: Numbers>(len: usize) -> usize
+    ensures { (result ≡ heads_start N.BYTES len) × (result ≤ len) }
 {
-    most_rows::<B>(len) * (OFFSET_BYTES + 2 * L)
+    most_rows::<N>(len) * (OFFSET_BYTES + 2 * N::LINK_BYTES)
 }
 
 // The most heads of a table, by the bytes of a link.
 #[tactic(auto, using(std::proofs::lemmas::Bool::Decides::nat_tests), unfolding(crate::specs::Buckets::most_heads_of))]
-fn most_heads<const L: usize>() -> usize
-    ensures { result ≡ most_heads_of L }
+fn most_heads<N: Numbers>() -> usize
+    ensures { result ≡ most_heads_of N.LINK_BYTES }
 {
-    if L == Term::NUMBER_BYTES {
+    if N::LINK_BYTES == Term::NUMBER_BYTES {
         SHORT_HEADS
     } else {
         MOST_HEADS
@@ -75,17 +70,16 @@ fn most_heads<const L: usize>() -> usize
 }
 
 // How many heads there are.
-fn head_count<const L: usize>(len: usize, start: usize) -> usize
-    requires sized { Length L }
-    requires inside { start ≤ len }
-    ensures { result ≡ head_count L len start }
+fn head_count<N: Numbers>(len: usize, start: usize) -> usize
+    requires { start ≤ len }
+    ensures { result ≡ head_count N.LINK_BYTES len start }
 {
     let left = len - start;
     if left < SEED_BYTES {
         return 0;
     }
-    let heads = (left - SEED_BYTES) / L;
-    heads.min(most_heads::<L>())
+    let heads = (left - SEED_BYTES) / N::LINK_BYTES;
+    heads.min(most_heads::<N>())
 }
 
 // The same modulo 2 ^ 31 - 1, and not much above it: two shifts in place of a division.
@@ -106,8 +100,8 @@ fn hash(m: usize, s: &[u8]) -> usize
         return 0;
     }
     let mut h: usize = usize::from(s[KIND_AT]) * WORD_END;
-    for k in 0..(s.len() - BODY_AT) / WORD_BYTES {
-        h = fold((h + number_of::<WORD_BYTES>(s, BODY_AT + WORD_BYTES * k)) * m);
+    for word in s[BODY_AT..].chunks_exact(WORD_BYTES) {
+        h = fold((h + number_of::<WORD_BYTES>(word, 0)) * m);
     }
     h % HASH_END
 }
@@ -120,18 +114,16 @@ pub struct Heads {
 }
 
 impl Heads {
-    // Those of a work memory of `len` bytes, where numbers have B and links, and so heads, L.
-    pub fn of<const B: usize, const L: usize>(len: usize) -> Heads
-        requires sized { Length B }
-        requires linked { L ≡ link_bytes B }
-        ensures start { result.start ≡ heads_start B len }
-        ensures count { result.count ≡ head_count L len result.start }
+    // Those of a work memory of `len` bytes.
+    pub fn of<N: Numbers>(len: usize) -> Heads
+        ensures start { result.start ≡ heads_start N.BYTES len }
+        ensures count { result.count ≡ head_count N.LINK_BYTES len result.start }
         ensures inside { result.start ≤ len }
     {
-        let start = heads_start::<B, L>(len);
+        let start = heads_start::<N>(len);
         Heads {
             start,
-            count: head_count::<L>(len, start),
+            count: head_count::<N>(len, start),
         }
     }
 
@@ -149,36 +141,34 @@ impl Heads {
     }
 
     // One more than the newest row of bucket j, of n rows.
-    pub fn first_in<const L: usize>(self, work: &[u8], n: usize, j: usize) -> usize
-        requires sized { Length L }
-        requires inside { 0 < self.count → self.start + self.count * L ≤ length work.now }
-        ensures { result ≡ first_in L work.now n self.start self.count j }
+    pub fn first_in<N: Numbers>(self, work: &[u8], n: usize, j: usize) -> usize
+        requires { 0 < self.count → self.start + self.count * N.LINK_BYTES ≤ length work.now }
+        ensures { result ≡ first_in N.LINK_BYTES work.now n self.start self.count j }
     {
         if j < self.count {
-            return number_of::<L>(work, self.start + j * L);
+            let len = N::LINK_BYTES;
+            return number(work, self.start + j * len, len);
         }
         n
     }
 
     // Stores v in the head of bucket j, where there is one.
-    pub fn put<const L: usize>(self, work: &mut [u8], j: usize, v: usize)
-        requires sized { Length L }
-        requires inside { 0 < self.count → self.start + self.count * L ≤ length work.old }
-        ensures { work.new ≡ stored_head L work.old self.start self.count j v }
+    pub fn put<N: Numbers>(self, work: &mut [u8], j: usize, v: usize)
+        requires { 0 < self.count → self.start + self.count * N.LINK_BYTES ≤ length work.old }
+        ensures { work.new ≡ stored_head N.LINK_BYTES work.old self.start self.count j v }
     {
         if j < self.count {
-            put_number_of::<L>(work, self.start + j * L, v);
+            let len = N::LINK_BYTES;
+            put_number(work, self.start + j * len, len, v);
         }
     }
 }
 
 // One more than the newest row of a record's bucket, of n rows.
-pub fn first_of<const B: usize, const L: usize>(work: &[u8], n: usize, wanted: &[u8]) -> usize
-    requires sized { Length B }
-    requires linked { L ≡ link_bytes B }
-    ensures { result ≡ first_of B work.now n wanted.now }
+pub fn first_of<N: Numbers>(work: &[u8], n: usize, wanted: &[u8]) -> usize
+    ensures { result ≡ first_of N.BYTES work.now n wanted.now }
 {
-    let heads = Heads::of::<B, L>(work.len());
+    let heads = Heads::of::<N>(work.len());
     let j = heads.bucket(work, wanted);
-    heads.first_in::<L>(work, n, j)
+    heads.first_in::<N>(work, n, j)
 }

@@ -4,34 +4,64 @@ ghost use Rattle.theory.specs.Limit.{first_terms};
 ghost use Rattle.theory.specs.Record.{extent, number_length};
 ghost use Rattle.rows.specs.Layout.{link_bytes, row_size};
 ghost use Rattle.rows.specs.Rows.{kept, place_of};
-ghost use Rattle.terms.specs.Bodies.{Length};
-ghost use Rattle.table.specs.Lent.{records_as};
+ghost use Rattle.table.specs.Lent.{records_as, kept_over};
 ghost use Rattle.table.specs.Buckets.{TableAs, Table, TableOf};
 ghost use Rattle.table.specs.Buckets.{added_row, dropped_row, unless_missing};
 ghost use Rattle.table.specs.Promise.{TermLimit, room_for, Grown, Cut};
 
 use super::buckets::{Heads, first_of};
+use super::lengths::{Long, Numbers, Short};
 use super::walk::walk;
 use rows::bytes::number_of;
-use rows::layout::{FIRST_PLACE, FIXED_BYTES, LONG_LINK_BYTES};
+use rows::layout::{FIRST_PLACE, FIXED_BYTES};
 use rows::{link_at, offset_as, put_row};
+use std::marker::PhantomData;
 use terms::Term;
 
-// The place of the record `wanted` among n kept ones, where terms' numbers have B bytes, and links
-// L.
+// A job's bytes, the memory it lends, and how many rows are kept in it: the records that are looked
+// up, where numbers are as long as N says.
+#[derive(Drop)]
+pub struct Records<'a, N: Numbers> {
+    job: &'a [u8],
+    work: &'a [u8],
+    rows: usize,
+    numbers: PhantomData<N>,
+    ghost table: { TableAs N.BYTES job.now work.now rows },
+}
+
+impl<'a, N: Numbers> Records<'a, N> {
+    #[inline]
+    pub fn new(job: &'a [u8], work: &'a [u8], rows: usize) -> Records<'a, N>
+        requires { TableAs N.BYTES job.now work.now rows }
+        ensures { kept_over N.BYTES result.job.now result.work.now result.rows
+            ≡ kept_over N.BYTES job.now work.now rows }
+    {
+        Records {
+            job,
+            work,
+            rows,
+            numbers: PhantomData,
+        }
+    }
+
+    // The place of the record `wanted`.
+    #[inline]
+    pub fn find(&self, wanted: &[u8]) -> Option<u32>
+        ensures { result ≡ unless_missing (place_of wanted.now
+            (kept_over N.BYTES self.now.job.now self.now.work.now self.now.rows)) }
+    {
+        let first = first_of::<N>(self.work, self.rows, wanted);
+        walk::<N>(self.job, self.work, self.rows, first, wanted)
+    }
+}
+
+// The place of the record `wanted` among n kept ones.
 #[inline]
-pub fn find_record<const B: usize, const L: usize>(
-    job: &[u8],
-    work: &[u8],
-    n: usize,
-    wanted: &[u8],
-) -> Option<u32>
-    requires kept { TableAs B job.now work.now n }
-    requires linked { L ≡ link_bytes B }
-    ensures { result ≡ unless_missing (place_of wanted.now (records_as job work n B)) }
+pub fn find_record<N: Numbers>(job: &[u8], work: &[u8], n: usize, wanted: &[u8]) -> Option<u32>
+    requires { TableAs N.BYTES job.now work.now n }
+    ensures { result ≡ unless_missing (place_of wanted.now (records_as job work n N.BYTES)) }
 {
-    let first = first_of::<B, L>(work, n, wanted);
-    walk::<L>(job, work, n, first, wanted)
+    Records::<N>::new(job, work, n).find(wanted)
 }
 
 // What adding a record answers: the place of the kept record that equals it, or that of the new
@@ -43,27 +73,26 @@ pub enum Added {
 }
 
 // Is there memory and a place for one row more than n, where there may be `limit` terms?
-fn has_room<const B: usize>(n: usize, limit: usize, len: usize) -> bool
-    requires sized { Length B }
-    requires few { first_terms + n < 4294967296 }
-    ensures { result ≡ room_for B limit n len }
+fn has_room<N: Numbers>(n: usize, limit: usize, len: usize) -> bool
+    requires { first_terms + n < 4294967296 }
+    ensures { result ≡ room_for N.BYTES limit n len }
 {
-    if Term::max_terms(B) <= n + FIRST_PLACE {
+    if Term::max_terms(N::BYTES) <= n + FIRST_PLACE {
         return false;
     }
     if limit <= n + FIRST_PLACE {
         return false;
     }
-    let cost = FIXED_BYTES + 2 * B;
+    let cost = FIXED_BYTES + 2 * N::BYTES;
     n * cost + cost <= len
 }
 
 // Adds the record that stands at `at` in the job to n kept ones, with its measure, unless one of
 // them equals it; none where there is no room. There may be `limit` terms; above the rack's limit
-// it is the rack's. Terms' numbers have B bytes, and links L. Copied into its callers: its
-// arguments and its result then stay in registers (docs/PERFORMANCE.md).
+// it is the rack's. Copied into its callers: its arguments and its result then stay in registers
+// (docs/PERFORMANCE.md).
 #[inline(always)]
-pub fn add_record<const B: usize, const L: usize>(
+pub fn add_record<N: Numbers>(
     job: &[u8],
     work: &mut [u8],
     n: usize,
@@ -71,24 +100,23 @@ pub fn add_record<const B: usize, const L: usize>(
     at: usize,
     measure: usize,
 ) -> Option<Added>
-    requires kept { TableAs B job.now work.old n }
-    requires linked { L ≡ link_bytes B }
-    requires limited { TermLimit B }
+    requires kept { TableAs N.BYTES job.now work.old n }
+    requires limited { TermLimit N.BYTES }
     requires inside { at + extent (drop at job.now) ≤ length job.now }
-    requires measured { measure < 256 ^ link_bytes B }
-    ensures { Grown B job.now work.old work.new n limit at measure result }
+    requires measured { measure < 256 ^ link_bytes N.BYTES }
+    ensures { Grown N.BYTES job.now work.old work.new n limit at measure result }
 {
     let end = at + number_of::<{ Term::NUMBER_BYTES }>(job, at) + Term::NUMBER_BYTES;
-    let heads = Heads::of::<B, L>(work.len());
+    let heads = Heads::of::<N>(work.len());
     let j = heads.bucket(work, &job[at..end]);
-    let first = heads.first_in::<L>(work, n, j);
-    if let Some(place) = walk::<L>(job, work, n, first, &job[at..end]) {
+    let first = heads.first_in::<N>(work, n, j);
+    if let Some(place) = walk::<N>(job, work, n, first, &job[at..end]) {
         return Some(Added::Found(place));
     }
-    if !has_room::<B>(n, limit, work.len()) {
+    if !has_room::<N>(n, limit, work.len()) {
         return None;
     }
-    add_row::<L>(work, n, heads, j, at, measure, first);
+    add_row::<N>(work, n, heads, j, at, measure, first);
     Some(Added::New((n + FIRST_PLACE) as u32))
 }
 
@@ -109,15 +137,13 @@ pub fn add(
         n limit at measure result }
 {
     if Term::number_length(job) == Term::NUMBER_BYTES {
-        return add_record::<{ Term::NUMBER_BYTES }, { Term::NUMBER_BYTES }>(
-            job, work, n, limit, at, measure,
-        );
+        return add_record::<Short>(job, work, n, limit, at, measure);
     }
-    add_record::<{ Term::LONG_BYTES }, LONG_LINK_BYTES>(job, work, n, limit, at, measure)
+    add_record::<Long>(job, work, n, limit, at, measure)
 }
 
 // Stores row n before the row `first` of bucket j.
-fn add_row<const L: usize>(
+fn add_row<N: Numbers>(
     work: &mut [u8],
     n: usize,
     heads: Heads,
@@ -126,27 +152,27 @@ fn add_row<const L: usize>(
     measure: usize,
     first: usize,
 )
-    requires inside { n * row_size L + row_size L ≤ length work.old }
-    requires cells { 0 < heads.count → heads.start + heads.count * L ≤ length work.old }
-    requires sized { Length L }
+    requires inside { n * row_size N.LINK_BYTES + row_size N.LINK_BYTES ≤ length work.old }
+    requires cells { 0 < heads.count
+        → heads.start + heads.count * N.LINK_BYTES ≤ length work.old }
     requires few { n < 4294967296 }
-    ensures { work.new ≡ added_row L work.old n heads.start heads.count j offset measure first }
+    ensures { work.new
+        ≡ added_row N.LINK_BYTES work.old n heads.start heads.count j offset measure first }
 {
-    put_row::<L>(work, n, offset, measure, first);
-    heads.put::<L>(work, j, n + 1);
+    put_row(work, N::LINK_BYTES, n, offset, measure, first);
+    heads.put::<N>(work, j, n + 1);
 }
 
 // Drops the rows from m up: of n kept records the first m stay. The newest row first: it is the
 // head of its bucket, so that dropping it is one store.
-fn drop_rows_as<const B: usize, const L: usize>(job: &[u8], work: &mut [u8], n: usize, m: usize)
-    requires kept { TableAs B job.now work.old n }
-    requires linked { L ≡ link_bytes B }
+fn drop_rows_as<N: Numbers>(job: &[u8], work: &mut [u8], n: usize, m: usize)
+    requires kept { TableAs N.BYTES job.now work.old n }
     requires fewer { m ≤ n }
-    ensures { Cut B job.now work.old work.new n m }
+    ensures { Cut N.BYTES job.now work.old work.new n m }
 {
-    let heads = Heads::of::<B, L>(work.len());
+    let heads = Heads::of::<N>(work.len());
     for k in (m..n).rev() {
-        drop_row::<L>(job, work, k, heads);
+        drop_row::<N>(job, work, k, heads);
     }
 }
 
@@ -157,20 +183,20 @@ pub fn drop_rows(job: &[u8], work: &mut [u8], n: usize, m: usize)
     ensures { Cut (number_length job.now) job.now work.old work.new n m }
 {
     if Term::number_length(job) == Term::NUMBER_BYTES {
-        drop_rows_as::<{ Term::NUMBER_BYTES }, { Term::NUMBER_BYTES }>(job, work, n, m);
+        drop_rows_as::<Short>(job, work, n, m);
         return;
     }
-    drop_rows_as::<{ Term::LONG_BYTES }, LONG_LINK_BYTES>(job, work, n, m);
+    drop_rows_as::<Long>(job, work, n, m);
 }
 
 // Drops the last row, k: its bucket starts at the row before it.
-fn drop_row<const L: usize>(job: &[u8], work: &mut [u8], k: usize, heads: Heads)
-    requires { TableOf L job.now work.old (k + 1) heads.start heads.count }
-    ensures { work.new ≡ dropped_row L job.now work.old k heads.start heads.count }
+fn drop_row<N: Numbers>(job: &[u8], work: &mut [u8], k: usize, heads: Heads)
+    requires { TableOf N.LINK_BYTES job.now work.old (k + 1) heads.start heads.count }
+    ensures { work.new ≡ dropped_row N.LINK_BYTES job.now work.old k heads.start heads.count }
 {
-    let at = offset_as::<L>(work, k);
+    let at = offset_as(work, N::LINK_BYTES, k);
     let end = at + number_of::<{ Term::NUMBER_BYTES }>(job, at) + Term::NUMBER_BYTES;
     let j = heads.bucket(work, &job[at..end]);
-    let before = link_at::<L>(work, k);
-    heads.put::<L>(work, j, before);
+    let before = link_at(work, N::LINK_BYTES, k);
+    heads.put::<N>(work, j, before);
 }

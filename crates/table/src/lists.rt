@@ -1,31 +1,29 @@
 // Records that a caller names by their arguments: built in an array, and looked up.
 ghost use Rattle.std.specs.Prelude.{◌≡◌, [], ◌∷◌, ◌≤◌, length};
 ghost use Rattle.theory.specs.Limit.{max_arguments, long_bytes};
-ghost use Rattle.terms.specs.Bodies.{Length};
-ghost use Rattle.rows.specs.Layout.{link_bytes};
-ghost use Rattle.table.specs.Lent.{records_as, list_place};
+ghost use Rattle.table.specs.Lent.{records_as, kept_over, list_place};
 ghost use Rattle.table.specs.Buckets.{TableAs, Table, unless_missing};
 ghost use Rattle.table.specs.Keys.{list_bytes, Roomy, Built, place_list};
 
 use super::buckets::{BODY_AT, KIND_AT};
-use super::kept::find_record;
+use super::kept::Records;
 use super::keys::{KEY_BYTES, last_number};
-use rows::bytes::put_number_of;
-use rows::layout::{LONG_LINK_BYTES, MISSING};
+use super::lengths::{Long, Numbers, Short};
+use rows::bytes::{put_number, put_number_of};
+use rows::layout::MISSING;
 use terms::Term;
 
 // An array that is long enough for the most arguments.
 const LIST_BYTES: usize = BODY_AT + Term::LONG_BYTES * Term::MAX_ARGUMENTS;
 
-// Builds the record of a kind with arguments of B bytes in the array lent, and returns its length;
+// Builds the record of a kind with arguments in the array lent, and returns its length;
 // none where a number is none that these bytes hold, or the last of them, which is no place.
-fn build_key<const B: usize>(kind: u32, args: &[u32], key: &mut [u8]) -> Option<usize>
-    requires sized { Length B }
-    requires roomy { Roomy B (length args.now) (length key.old) }
-    ensures { Built B kind args.now (length key.old) key.new result }
+fn build_key<N: Numbers>(kind: u32, args: &[u32], key: &mut [u8]) -> Option<usize>
+    requires { Roomy N.BYTES (length args.now) (length key.old) }
+    ensures { Built N.BYTES kind args.now (length key.old) key.new result }
 {
-    let limit = last_number::<B>();
-    let len = Term::NUMBER_BYTES + args.len() * B;
+    let limit = last_number::<N>();
+    let len = Term::NUMBER_BYTES + args.len() * N::BYTES;
     put_number_of::<{ Term::NUMBER_BYTES }>(key, 0, len);
     put_number_of::<{ Term::NUMBER_BYTES }>(key, KIND_AT, kind as usize);
     let mut at = BODY_AT;
@@ -34,32 +32,27 @@ fn build_key<const B: usize>(kind: u32, args: &[u32], key: &mut [u8]) -> Option<
         if limit <= x {
             return None;
         }
-        put_number_of::<B>(key, at, x);
-        at += B;
+        put_number(key, at, N::BYTES, x);
+        at += N::BYTES;
     }
     Some(at)
 }
 
-// The place of the record of a kind with arguments of B bytes, which is built in an array of S
-// bytes. Each instance is compiled for its lengths: that of short numbers into the loops over a
-// circuit's gates, since steps look up little else.
-#[inline]
-fn find_built<const B: usize, const L: usize, const S: usize>(
-    job: &[u8],
-    work: &[u8],
-    n: usize,
-    kind: u32,
-    args: &[u32],
-) -> Option<u32>
-    requires kept { TableAs B job.now work.now n }
-    requires linked { L ≡ link_bytes B }
-    requires roomy { Roomy B (length args.now) S }
-    requires bounded { S ≤ list_bytes }
-    ensures { result ≡ unless_missing (place_list B kind args.now (records_as job work n B)) }
-{
-    let mut key = [0u8; S];
-    let end = build_key::<B>(kind, args, &mut key)?;
-    find_record::<B, L>(job, work, n, &key[..end])
+impl<'a, N: Numbers> Records<'a, N> {
+    // The place of the record of a kind with arguments, which is built in an array of S bytes. Each
+    // instance is compiled for its lengths: that of short numbers into the loops over a circuit's
+    // gates, since steps look up little else.
+    #[inline]
+    fn find_built<const S: usize>(&self, kind: u32, args: &[u32]) -> Option<u32>
+        requires roomy { Roomy N.BYTES (length args.now) S }
+        requires bounded { S ≤ list_bytes }
+        ensures { result ≡ unless_missing (place_list N.BYTES kind args.now
+            (kept_over N.BYTES self.now.job.now self.now.work.now self.now.rows)) }
+    {
+        let mut key = [0u8; S];
+        let end = build_key::<N>(kind, args, &mut key)?;
+        self.find(&key[..end])
+    }
 }
 
 // The place of the record of a kind with 0 to 64 arguments, of the job's own number length, or
@@ -82,23 +75,28 @@ fn find_arguments<const S: usize>(job: &[u8], work: &[u8], n: usize, kind: u32, 
     ensures { result ≡ list_place job work n kind args.now }
 {
     if Term::number_length(job) == Term::NUMBER_BYTES {
-        return find_built::<{ Term::NUMBER_BYTES }, { Term::NUMBER_BYTES }, S>(
-            job, work, n, kind, args,
-        ).unwrap_or(MISSING);
+        let place = Records::<Short>::new(job, work, n).find_built::<S>(kind, args);
+        return place.unwrap_or(MISSING);
     }
-    find_long::<S>(job, work, n, kind, args)
+    find_long::<S>(job, work, n, kind, args).unwrap_or(MISSING)
 }
 
 // The same where numbers are long. A function of its own: what is lent is then copied in it alone.
 #[inline(never)]
-fn find_long<const S: usize>(job: &[u8], work: &[u8], n: usize, kind: u32, args: &[u32]) -> u32
+fn find_long<const S: usize>(
+    job: &[u8],
+    work: &[u8],
+    n: usize,
+    kind: u32,
+    args: &[u32],
+) -> Option<u32>
     requires kept { TableAs long_bytes job.now work.now n }
     requires roomy { Roomy long_bytes (length args.now) S }
     requires bounded { S ≤ list_bytes }
-    ensures { result ≡ place_list long_bytes kind args.now (records_as job work n long_bytes) }
+    ensures { result ≡ unless_missing
+        (place_list long_bytes kind args.now (records_as job work n long_bytes)) }
 {
-    let place = find_built::<{ Term::LONG_BYTES }, LONG_LINK_BYTES, S>(job, work, n, kind, args);
-    place.unwrap_or(MISSING)
+    Records::<Long>::new(job, work, n).find_built::<S>(kind, args)
 }
 
 // The place of the record of a kind with one argument.

@@ -1,2 +1,3 @@
 -- What the contracts of `tally` cite.
 pub mod Counted
+pub mod Listed

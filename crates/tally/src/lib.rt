@@ -1,13 +1,12 @@
 // The tally that a host lends: what the jobs of its service came to, counted field by field.
 #![tactic(auto)]
 
-ghost use Rattle.std.specs.Prelude.{◌≡◌, cond, ◌+◌, ◌*◌, ◌≤◌, length, drop};
-ghost use Rattle.theory.specs.Answer.{decode_answer, decode_answers};
+ghost use Rattle.std.specs.Prelude.{◌≡◌, cond, ◌*◌, ◌≤◌, length};
 ghost use Rattle.theory.specs.Limit.{answer_bytes};
 ghost use Rattle.terms.specs.Bodies.{Length};
-ghost use Rattle.theory.specs.Tally.{up, how_many, tally_after};
-ghost use Rattle.tally.specs.Counted.{as_tally, class_of, belongs, depth_length, whole_answers};
-ghost use Rattle.tally.specs.Counted.{answers_in};
+ghost use Rattle.theory.proofs.Facts.{kept_facts};
+ghost use Rattle.theory.specs.Tally.{how_many, tally_after};
+ghost use Rattle.tally.specs.Counted.{as_tally, class_of, belongs, depth_length, answers_in};
 
 use terms::{CODE_AT, DEPTH_AT, Term};
 
@@ -49,10 +48,11 @@ impl Tally {
         ensures { as_tally self.new
             ≡ tally_after (as_tally self.old) (answers_in count answers.now) }
     {
+        let counted = Answers::whole(answers, count);
         self.jobs = self.jobs.saturating_add(1);
-        self.held = add_class(self.held, answers, count, Class::Held);
-        self.form_only = add_class(self.form_only, answers, count, Class::FormOnly);
-        self.refused = add_class(self.refused, answers, count, Class::Refused);
+        self.held = self.held.saturating_add(counted.of(Class::Held));
+        self.form_only = self.form_only.saturating_add(counted.of(Class::FormOnly));
+        self.refused = self.refused.saturating_add(counted.of(Class::Refused));
     }
 }
 
@@ -72,15 +72,6 @@ fn depth_length(answers: &[u8]) -> usize
     }
 }
 
-// The code of answer k, counted from 0.
-fn answer_code(answers: &[u8], bytes: usize, k: usize) -> u32
-    requires sized { Length bytes }
-    requires inside { k * answer_bytes bytes + answer_bytes bytes ≤ length answers.now }
-    ensures { result ≡ (decode_answer bytes (drop (k * answer_bytes bytes) answers.now)).code }
-{
-    Term::number(answers, k * (DEPTH_AT + bytes) + CODE_AT)
-}
-
 // 1 where the code is of the class, else 0.
 fn one_if(code: u32, class: Class) -> u64
     ensures one { result ≡ cond (belongs class code) 1 0 }
@@ -89,34 +80,41 @@ fn one_if(code: u32, class: Class) -> u64
     u64::from(Class::from(code) == class)
 }
 
-// How many of the first `count` answers have a code of the class.
-fn count_class(answers: &[u8], bytes: usize, count: usize, class: Class) -> u64
-    requires sized { Length bytes }
-    requires inside { count * answer_bytes bytes ≤ length answers.now }
-    ensures { result ≡ how_many (belongs class) (decode_answers bytes count answers.now) }
-{
-    let mut n: u64 = 0;
-    for k in 0..count {
-        n += one_if(answer_code(answers, bytes, k), class);
+// So many answers, which the memory has whole, each with a depth of so many bytes.
+#[derive(Clone, Copy)]
+struct Answers<'a> {
+    memory: &'a [u8],
+    bytes: usize,
+    count: usize,
+    ghost sized: { Length bytes } by { Prim.hlevel kept_facts },
+    ghost room: { count * answer_bytes bytes ≤ length memory.now } by { Prim.hlevel kept_facts },
+}
+
+impl<'a> Answers<'a> {
+    ghost use Rattle.tally.specs.Listed.{listed};
+
+    // The first `count`, or the whole ones where the memory is shorter.
+    fn whole(memory: &'a [u8], count: u32) -> Answers<'a>
+        ensures { listed result ≡ answers_in count memory.now }
+    {
+        let bytes = depth_length(memory);
+        let count = (count as usize).min(memory.len() / (DEPTH_AT + bytes));
+        Answers {
+            memory,
+            bytes,
+            count,
+        }
     }
-    n
-}
 
-// How many of `count` answers, whose depths have so many bytes, the memory has whole.
-fn whole_count(bytes: usize, size: usize, count: u32) -> usize
-    requires { Length bytes }
-    ensures { result ≡ whole_answers bytes size count }
-{
-    (count as usize).min(size / (DEPTH_AT + bytes))
-}
-
-// c, and one more for each answer of the class among the first `count`, or among the whole ones
-// where the memory is shorter; it saturates.
-fn add_class(c: u64, answers: &[u8], count: u32, class: Class) -> u64
-    ensures { result ≡ up c (how_many (belongs class) (answers_in count answers.now)) }
-{
-    let bytes = depth_length(answers);
-    let whole = whole_count(bytes, answers.len(), count);
-    let more = count_class(answers, bytes, whole, class);
-    c.saturating_add(more)
+    // How many have a code of the class.
+    fn of(&self, class: Class) -> u64
+        ensures { result ≡ how_many (belongs class) (listed self.now) }
+    {
+        let size = DEPTH_AT + self.bytes;
+        let mut n: u64 = 0;
+        for answer in self.memory.chunks_exact(size).take(self.count) {
+            n += one_if(Term::number(answer, CODE_AT), class);
+        }
+        n
+    }
 }

@@ -5,3 +5,4 @@ pub mod Arms
 pub mod Reading
 pub mod Lists
 pub mod Cases
+pub mod Heads

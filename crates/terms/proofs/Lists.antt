@@ -1,8 +1,8 @@
 -- Argument lists: the numbers in them, and the test that all are below a count.
-use mathlib.Core.Path.{◌≡◌, refl, sym, subst, ◌∙◌}
+use mathlib.Core.Path.{◌≡◌, refl, sym, ap, subst, ◌∙◌}
 use mathlib.Core.Bool.{true, false}
-use mathlib.Core.List.{List, ◌∷◌}
-use Prim.Native.Nat.{ℕ, zero, suc, ◌+◌, ◌*◌, ◌<◌, ◌≤◌}
+use mathlib.Core.List.{List, [], ◌∷◌, ◌++◌}
+use Prim.Native.Nat.{ℕ, zero, suc, ◌+◌, ◌-◌, ◌*◌, ◌<◌, ◌≤◌}
 use native.Mathlib.Numerals.{add-one}
 use native.Mathlib.Omega.{arith}
 use lib.ListN.{length, take, drop, get_or, drop_of_length-le}
@@ -31,31 +31,22 @@ argument_is job a i h e = e ∙ sym (words_at a.bytes a.count (drop a.at job) i 
 pub words_in_length : (job : Bytes) (a : Args) → length (words_in job a) ≡ a.count
 words_in_length job a = words_length a.bytes a.count (drop a.at job)
 
--- ---- one number is tested
-pub below_on : {n x : ℕ} (xs : List ℕ) → x < n → all_below n (x ∷ xs) ≡ all_below n xs
-below_on {n} {x} xs h = rw (lt-ltb x n h)
+pub words_few : (job : Bytes) (a : Args) → Inside job a → length (words_in job a) ≤ 64
+words_few job a h = omega (arith, words_in_length job a, h.few)
 
-pub below_off : {n x : ℕ} (xs : List ℕ) → n ≤ x → all_below n (x ∷ xs) ≡ false
-below_off {n} {x} xs h = rw (le-ltb x n h)
+-- ---- the last number stands after the others
+words_snoc : (b k : ℕ) (bs : Bytes) → words b (suc k) bs ≡ words b k bs ++ little_endian (take b (drop (b * k) bs)) ∷ []
+words_snoc b zero bs = let e : b * 0 ≡ 0 = omega arith in rw e
+words_snoc b (suc k) bs =
+    let e : b + b * k ≡ b * suc k = omega arith in
+    ap (λ (ks : List ℕ). little_endian (take b bs) ∷ ks) (words_snoc b k (drop b bs) ∙ rw (drop-drop, e))
 
--- ---- the loop: the test of the list is that of what is left from i on
-pub record Passing (n : ℕ) (xs : List ℕ) (i : ℕ) : Type 0 where
-  pub passed : i ≤ length xs
-  pub rest : all_below n xs ≡ all_below n (drop i xs)
-
-module _ {n : ℕ} {xs : List ℕ} where
-  pub pass_start : Passing n xs 0
-  pass_start = record { passed = omega arith; rest = refl }
-
-  pub pass_turn : {i : ℕ} → Passing n xs i → i < length xs → get_or xs i 0 < n → Passing n xs (i + 1)
-  pass_turn {i} p h l =
-      record { passed = omega arith; rest = p.rest ∙ rw (add-one, drop-cons xs i 0) (below_on (drop (suc i) xs) l) }
-
-  pub pass_fails : {i : ℕ} → Passing n xs i → i < length xs → n ≤ get_or xs i 0 → false ≡ all_below n xs
-  pass_fails {i} p h l = sym (p.rest ∙ rw (drop-cons xs i 0) (below_off (drop (suc i) xs) l))
-
-  pub pass_end : {i : ℕ} → Passing n xs i → length xs ≤ i → true ≡ all_below n xs
-  pass_end {i} p h = sym (p.rest ∙ rw (drop_of_length-le xs {i = i} h))
+pub last_of : (job : Bytes) (a : Args) → (a.count ≡ 0 → ⊥) → {x : ℕ} → x ≡ get_or (words_in job a) (a.count - 1) 0 → words_in job a ≡ words a.bytes (a.count - 1) (drop a.at job) ++ x ∷ []
+last_of job a h f =
+    let e : a.count ≡ suc (a.count - 1) = omega arith in
+    ap (λ (k : ℕ). words a.bytes k (drop a.at job)) e
+    ∙ words_snoc a.bytes (a.count - 1) (drop a.at job)
+    ∙ ap (λ (x : ℕ). words a.bytes (a.count - 1) (drop a.at job) ++ x ∷ []) (sym (f ∙ words_at a.bytes a.count (drop a.at job) (a.count - 1) (omega arith)))
 
 -- ---- the arguments of a term, once it is known which
 pub list_inside : (job : Bytes) (t : Term) {o : Operands} (a : Args) → o ≡ operands_of t → o ≡ Listed a → OperandsPlaced job (operands_of t) → Inside job a

@@ -1,10 +1,9 @@
 -- The body of a record: the length that its kind has, and what it says.
-use Rattle.std.specs.Prelude.{◌≡◌, Bool, true, ◌&&◌, [], ℕ, ◌+◌, ◌-◌, ◌/◌, ◌%◌, ◌<◌, ◌≤◌, leb, eqb, length}
+use Rattle.std.specs.Prelude.{Bool, ◌&&◌, [], ℕ, ◌-◌, ◌/◌, ◌%◌, ◌<◌, ◌≤◌, leb, eqb}
 use Rattle.theory.specs.Limit.{max_arguments, long_bytes}
 use Rattle.theory.specs.Kind.{Arity, exactly, many, arity, takes}
 use Rattle.theory.specs.Record.{Bytes, fits, arguments, Shape, front, make, Item, term}
 use Rattle.terms.specs.declared.kind.Form.{Form}
-use Rattle.terms.specs.Framing.{part}
 
 -- the bytes of a term's number: any number of them from one to four
 pub record Length (b : ℕ) : Type 0 where
@@ -38,10 +37,3 @@ fitting b s body = fits b (front s) (takes (arity (make s body))) body
 -- what a body that fits says
 abbrev pub made : ℕ → Shape → Bytes → Item
 made b s body = term (make s body) (arguments b (front s) body)
-
--- a body stands in the job, and has the length of its shape; `before` bytes stand before its arguments
-pub record Body (b : ℕ) (job : Bytes) (s : Shape) (body size before : ℕ) : Type 0 where
-  pub length_b : Length b
-  pub end : body + size ≤ length job
-  pub fit : fitting b s (part job body size) ≡ true
-  pub front_is : before ≡ front s

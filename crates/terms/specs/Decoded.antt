@@ -14,9 +14,11 @@ use Rattle.terms.specs.declared.Operands.TheVariants.{None, One, Two, Three, Lis
 use Rattle.terms.specs.declared.Item.{Item}
 use Rattle.terms.specs.declared.Fault.{Fault}
 use Rattle.terms.specs.declared.Term.TheVariants as D
+use Rattle.terms.specs.declared.Head.TheVariants as H
 use Rattle.terms.specs.declared.Item.TheVariants as I
 use Rattle.terms.specs.declared.Fault.TheVariants as F
 use Rattle.terms.specs.Bodies.{Length}
+use Rattle.terms.specs.Numbered.{number_of}
 
 -- ---- argument lists
 -- the numbers of a list
@@ -69,9 +71,15 @@ op_of (D.RotateLeft k x) = K.RotateLeft k
 op_of (D.RotateRight k x) = K.RotateRight k
 op_of (D.Repeat k x) = K.Repeat k
 
--- that kind by its number and the numbers in it
-abbrev pub head_of : Term → Head
-head_of t = record { kind = K.kind (op_of t); first = nth 0 (K.indices (op_of t)); second = nth 1 (K.indices (op_of t)) }
+-- that kind by its number, and the numbers in it
+abbrev pub head_of : Term → ℕ × (ℕ × ℕ)
+head_of t = (K.kind (op_of t), (nth 0 (K.indices (op_of t)), nth 1 (K.indices (op_of t))))
+
+-- the same of a head
+abbrev pub told_head : Head → ℕ × (ℕ × ℕ)
+told_head H.True = (K.kind K.True, (0, 0))
+told_head H.False = (K.kind K.False, (0, 0))
+told_head (H.Of k x y) = (number_of k, (x, y))
 
 -- its arguments
 abbrev pub operands_of : Term → Operands

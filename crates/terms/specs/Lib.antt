@@ -3,3 +3,5 @@ pub mod Framing
 pub mod Decoded
 pub mod Bodies
 pub mod Numbered
+pub mod Records
+pub mod Numbers

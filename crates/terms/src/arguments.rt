@@ -2,7 +2,7 @@
 ghost use Rattle.std.specs.Prelude.{◌≡◌, ◌<◌, get_or};
 ghost use Rattle.theory.specs.Codes.{all_below};
 ghost use Rattle.terms.specs.Decoded.{Inside, OperandsPlaced, words_in};
-ghost use Rattle.terms.specs.Decoded.{head_of, operands_of, arguments_of};
+ghost use Rattle.terms.specs.Decoded.{head_of, told_head, operands_of, arguments_of};
 
 use super::kind::Kind;
 use super::{Args, Head, Operands, Term};
@@ -38,8 +38,8 @@ impl Term {
         requires { Inside job.now list }
         ensures { result ≡ all_below n (words_in job.now list) }
     {
-        for i in 0..list.count {
-            if n <= Term::argument(job, list, i) {
+        for x in list.numbers(job) {
+            if n <= x {
                 return false;
             }
         }
@@ -72,55 +72,47 @@ impl Term {
         }
     }
 
-    // The kind of a term.
+    // The kind of a term, and the numbers in it.
     pub fn head(self) -> Head
-        ensures { result ≡ head_of self }
+        ensures { told_head result ≡ head_of self }
     {
         match self {
-            Term::True => Head {
-                kind: 0,
-                first: 0,
-                second: 0,
-            },
-            Term::False => Head {
-                kind: 1,
-                first: 0,
-                second: 0,
-            },
-            Term::BoolVar(x) => Head::new(Kind::BoolVar, x, 0),
-            Term::BvVar(n, x) => Head::new(Kind::BvVar, n, u64::from(x)),
-            Term::Const(n, v) => Head::new(Kind::Const, n, v),
-            Term::Not(_) => Head::new(Kind::Not, 0, 0),
-            Term::And(_) => Head::new(Kind::And, 0, 0),
-            Term::Or(_) => Head::new(Kind::Or, 0, 0),
-            Term::Xor(_, _) => Head::new(Kind::Xor, 0, 0),
-            Term::Equals(_, _) => Head::new(Kind::Equals, 0, 0),
-            Term::Ite(_, _, _) => Head::new(Kind::Ite, 0, 0),
-            Term::BvBitOf(i, _) => Head::new(Kind::BvBitOf, i, 0),
-            Term::BvBbTerm(_) => Head::new(Kind::BvBbTerm, 0, 0),
-            Term::BvNot(_) => Head::new(Kind::BvNot, 0, 0),
-            Term::BvNeg(_) => Head::new(Kind::BvNeg, 0, 0),
-            Term::BvAnd(_) => Head::new(Kind::BvAnd, 0, 0),
-            Term::BvOr(_) => Head::new(Kind::BvOr, 0, 0),
-            Term::BvXor(_) => Head::new(Kind::BvXor, 0, 0),
-            Term::BvAdd(_) => Head::new(Kind::BvAdd, 0, 0),
-            Term::BvMul(_) => Head::new(Kind::BvMul, 0, 0),
-            Term::BvXNor(_, _) => Head::new(Kind::BvXNor, 0, 0),
-            Term::BvComp(_, _) => Head::new(Kind::BvComp, 0, 0),
-            Term::BvULt(_, _) => Head::new(Kind::BvULt, 0, 0),
-            Term::BvSLt(_, _) => Head::new(Kind::BvSLt, 0, 0),
-            Term::BvShl(_, _) => Head::new(Kind::BvShl, 0, 0),
-            Term::BvLShr(_, _) => Head::new(Kind::BvLShr, 0, 0),
-            Term::BvAShr(_, _) => Head::new(Kind::BvAShr, 0, 0),
-            Term::BvUDiv(_, _) => Head::new(Kind::BvUDiv, 0, 0),
-            Term::BvURem(_, _) => Head::new(Kind::BvURem, 0, 0),
-            Term::BvConcat(_) => Head::new(Kind::BvConcat, 0, 0),
-            Term::BvExtract(i, j, _) => Head::new(Kind::BvExtract, i, u64::from(j)),
-            Term::SignExtend(k, _) => Head::new(Kind::SignExtend, k, 0),
-            Term::ZeroExtend(k, _) => Head::new(Kind::ZeroExtend, k, 0),
-            Term::RotateLeft(k, _) => Head::new(Kind::RotateLeft, k, 0),
-            Term::RotateRight(k, _) => Head::new(Kind::RotateRight, k, 0),
-            Term::Repeat(k, _) => Head::new(Kind::Repeat, k, 0),
+            Term::True => Head::True,
+            Term::False => Head::False,
+            Term::BoolVar(x) => Head::Of(Kind::BoolVar, x, 0),
+            Term::BvVar(n, x) => Head::Of(Kind::BvVar, n, u64::from(x)),
+            Term::Const(n, v) => Head::Of(Kind::Const, n, v),
+            Term::Not(_) => Head::Of(Kind::Not, 0, 0),
+            Term::And(_) => Head::Of(Kind::And, 0, 0),
+            Term::Or(_) => Head::Of(Kind::Or, 0, 0),
+            Term::Xor(_, _) => Head::Of(Kind::Xor, 0, 0),
+            Term::Equals(_, _) => Head::Of(Kind::Equals, 0, 0),
+            Term::Ite(_, _, _) => Head::Of(Kind::Ite, 0, 0),
+            Term::BvBitOf(i, _) => Head::Of(Kind::BvBitOf, i, 0),
+            Term::BvBbTerm(_) => Head::Of(Kind::BvBbTerm, 0, 0),
+            Term::BvNot(_) => Head::Of(Kind::BvNot, 0, 0),
+            Term::BvNeg(_) => Head::Of(Kind::BvNeg, 0, 0),
+            Term::BvAnd(_) => Head::Of(Kind::BvAnd, 0, 0),
+            Term::BvOr(_) => Head::Of(Kind::BvOr, 0, 0),
+            Term::BvXor(_) => Head::Of(Kind::BvXor, 0, 0),
+            Term::BvAdd(_) => Head::Of(Kind::BvAdd, 0, 0),
+            Term::BvMul(_) => Head::Of(Kind::BvMul, 0, 0),
+            Term::BvXNor(_, _) => Head::Of(Kind::BvXNor, 0, 0),
+            Term::BvComp(_, _) => Head::Of(Kind::BvComp, 0, 0),
+            Term::BvULt(_, _) => Head::Of(Kind::BvULt, 0, 0),
+            Term::BvSLt(_, _) => Head::Of(Kind::BvSLt, 0, 0),
+            Term::BvShl(_, _) => Head::Of(Kind::BvShl, 0, 0),
+            Term::BvLShr(_, _) => Head::Of(Kind::BvLShr, 0, 0),
+            Term::BvAShr(_, _) => Head::Of(Kind::BvAShr, 0, 0),
+            Term::BvUDiv(_, _) => Head::Of(Kind::BvUDiv, 0, 0),
+            Term::BvURem(_, _) => Head::Of(Kind::BvURem, 0, 0),
+            Term::BvConcat(_) => Head::Of(Kind::BvConcat, 0, 0),
+            Term::BvExtract(i, j, _) => Head::Of(Kind::BvExtract, i, u64::from(j)),
+            Term::SignExtend(k, _) => Head::Of(Kind::SignExtend, k, 0),
+            Term::ZeroExtend(k, _) => Head::Of(Kind::ZeroExtend, k, 0),
+            Term::RotateLeft(k, _) => Head::Of(Kind::RotateLeft, k, 0),
+            Term::RotateRight(k, _) => Head::Of(Kind::RotateRight, k, 0),
+            Term::Repeat(k, _) => Head::Of(Kind::Repeat, k, 0),
         }
     }
 

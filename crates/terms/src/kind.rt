@@ -51,22 +51,24 @@ pub struct UnknownKind(pub u32);
 // The body of a record: so many bytes of numbers in front, then from a least to a greatest number
 // of arguments.
 #[derive(Clone, Copy)]
-pub(crate) struct Form {
-    pub(crate) front: usize,
-    pub(crate) least: usize,
-    pub(crate) most: usize,
+pub struct Form {
+    pub front: usize,
+    pub least: usize,
+    pub most: usize,
+}
+
+// Its number in a job.
+impl From<Kind> for u32 {
+    ghost from_gives = { λ kind number. number ≡ number_of kind };
+
+    fn from(kind: Kind) -> Self {
+        kind as u32
+    }
 }
 
 impl Kind {
-    // Its number in a job.
-    pub fn number(self) -> u32
-        ensures { result ≡ number_of self }
-    {
-        self as u32
-    }
-
     // The form of its body, by document 01's table of kinds.
-    pub(crate) fn form(self) -> Form
+    pub fn form(self) -> Form
         ensures { result ≡ form_of (shape self) }
     {
         let number = Term::NUMBER_BYTES;
@@ -139,6 +141,7 @@ impl TryFrom<u32> for Kind {
 
     ghost try_from_gives = { Decodes };
 
+    #[inline]
     fn try_from(number: u32) -> Result<Self, UnknownKind> {
         match number {
             10 => Ok(Kind::BoolVar),

@@ -4,12 +4,12 @@
 mod arguments;
 mod bytes;
 pub mod kind;
+pub mod list;
 mod records;
 pub mod refusal;
 pub mod stop;
 
 ghost use Rattle.std.specs.Prelude.{◌≡◌};
-ghost use Rattle.terms.specs.Numbered.{number_of};
 ghost use Rattle.terms.specs.declared.Fault.TheVariants as F;
 
 use kind::{Kind, UnknownKind};
@@ -97,25 +97,13 @@ pub enum Operands {
     List(Args),
 }
 
-// A term's kind: its number, and the numbers in it, 0 where there is none.
+// A term's kind, and the numbers in it, 0 where there is none. No record says `True` or `False`, so
+// that they have no `Kind`.
 #[derive(Clone, Copy, PartialEq, Eq)]
-pub struct Head {
-    pub kind: u32,
-    pub first: u32,
-    pub second: u64,
-}
-
-impl Head {
-    // Of a kind that a record says.
-    fn new(kind: Kind, first: u32, second: u64) -> Head
-        ensures { result ≡ record { kind = number_of kind; first = first; second = second } }
-    {
-        Head {
-            kind: kind.number(),
-            first,
-            second,
-        }
-    }
+pub enum Head {
+    True,
+    False,
+    Of(Kind, u32, u64),
 }
 
 // What a record says: a term, a step's rule and literals, a chain's rule, premises and literal, or

@@ -1,42 +1,90 @@
 // What a record says: a term, a step, a chain or a back.
-ghost use Rattle.std.specs.Prelude.{◌≡◌, true, ◌+◌, ◌≤◌, length, drop};
-ghost use Rattle.theory.specs.Record.{whole, shape_of, number_length};
-ghost use Rattle.theory.specs.Record.{read, read_term, read_step, read_chain, read_back};
-ghost use Rattle.terms.specs.Framing.{part, record_at};
+ghost use Rattle.std.specs.Prelude.{◌≡◌, true, ◌+◌, ◌*◌, ◌/◌, ◌≤◌, ◌<◌, length, take, drop};
+ghost use Rattle.theory.specs.Limit.{number_bytes, value_bytes};
+ghost use Rattle.theory.specs.Record.{whole, word, little_endian, shape_of, number_length};
+ghost use Rattle.theory.specs.Record.{front, read, read_term, read_step, read_chain, read_back};
+ghost use Rattle.terms.specs.Framing.{record_at};
 ghost use Rattle.terms.specs.Decoded.{PlacedIn, Says, SaysTerm, read_of};
-ghost use Rattle.terms.specs.Bodies.{Body, Length, made};
+ghost use Rattle.terms.specs.Bodies.{Length, fitting, made};
 ghost use Rattle.terms.specs.Numbered.{shape};
 
 use super::kind::{Form, Kind};
 use super::{Args, Fault, Item, Term};
 
-impl Term {
-    // A term of a kind, from a body that fits it: `front` bytes of indices, then arguments. Past
-    // the end a byte is 0.
-    fn of_kind(job: &[u8], kind: Kind, body: usize, size: usize, front: usize, bytes: usize) -> Term
-        requires { Body bytes job.now (shape kind) body size front }
-        ensures { SaysTerm job.now result (made bytes (shape kind) (part job.now body size)) }
+// The body of a record: `size` bytes of a job from `at` on, in which a term's number has so many.
+#[derive(Clone, Copy)]
+struct Body<'a> {
+    job: &'a [u8],
+    at: usize,
+    size: usize,
+    bytes: usize,
+    ghost inside: { at + size ≤ length job.now },
+    ghost sized: { Length bytes },
+}
+
+impl Body<'_> {
+    ghost use Rattle.terms.specs.Records.{bytes_of, argument_at};
+
+    // Number i of those in front of the arguments. Past the end a byte is 0, here and below.
+    fn index(&self, i: usize) -> u32
+        requires { i < 2 }
+        ensures { result ≡ word (drop (self.now.at + number_bytes * i) self.now.job.now) }
     {
-        let second = body + Term::NUMBER_BYTES;
-        let first = body + front;
-        let x = Term::place(job, first, bytes);
-        let y = Term::place(job, first + bytes, bytes);
-        let list = Args {
-            at: body,
-            count: Form::count_in(size, bytes),
-            bytes,
-        };
+        Term::number(self.job, self.at + Term::NUMBER_BYTES * i)
+    }
+
+    // The value after the first of them.
+    fn value(&self) -> u64
+        ensures { result
+            ≡ little_endian (take value_bytes (drop (self.now.at + number_bytes) self.now.job.now)) }
+    {
+        Term::value(self.job, self.at + Term::NUMBER_BYTES)
+    }
+
+    // Argument i, after `before` bytes of such numbers.
+    fn argument(&self, before: usize, i: usize) -> u32
+        requires front { self.now.at + before ≤ length self.now.job.now }
+        requires few { i < 3 }
+        ensures { result ≡ argument_at self.now before i }
+    {
+        Term::place(self.job, self.at + before + self.bytes * i, self.bytes)
+    }
+
+    // The arguments, where there is nothing in front of them.
+    fn arguments(&self) -> Args
+        ensures { result ≡ record {
+          at = self.now.at;
+          count = self.now.size / self.now.bytes;
+          bytes = self.now.bytes;
+        } }
+    {
+        Args {
+            at: self.at,
+            count: Form::count_in(self.size, self.bytes),
+            bytes: self.bytes,
+        }
+    }
+
+    // The term of a kind whose form it has: `before` bytes of indices, then arguments.
+    fn term(&self, kind: Kind, before: usize) -> Term
+        requires fits { fitting self.now.bytes (shape kind) (bytes_of self.now) ≡ true }
+        requires front { before ≡ front (shape kind) }
+        ensures { SaysTerm self.now.job.now result
+            (made self.now.bytes (shape kind) (bytes_of self.now)) }
+    {
+        let (x, y) = (self.argument(before, 0), self.argument(before, 1));
+        let list = self.arguments();
         match kind {
-            Kind::BoolVar => Term::BoolVar(Term::number(job, body)),
-            Kind::BvVar => Term::BvVar(Term::number(job, body), Term::number(job, second)),
-            Kind::Const => Term::Const(Term::number(job, body), Term::value(job, second)),
+            Kind::BoolVar => Term::BoolVar(self.index(0)),
+            Kind::BvVar => Term::BvVar(self.index(0), self.index(1)),
+            Kind::Const => Term::Const(self.index(0), self.value()),
             Kind::Not => Term::Not(x),
             Kind::And => Term::And(list),
             Kind::Or => Term::Or(list),
             Kind::Xor => Term::Xor(x, y),
             Kind::Equals => Term::Equals(x, y),
-            Kind::Ite => Term::Ite(x, y, Term::place(job, first + 2 * bytes, bytes)),
-            Kind::BvBitOf => Term::BvBitOf(Term::number(job, body), x),
+            Kind::Ite => Term::Ite(x, y, self.argument(before, 2)),
+            Kind::BvBitOf => Term::BvBitOf(self.index(0), x),
             Kind::BvBbTerm => Term::BvBbTerm(list),
             Kind::BvNot => Term::BvNot(x),
             Kind::BvNeg => Term::BvNeg(x),
@@ -55,76 +103,60 @@ impl Term {
             Kind::BvUDiv => Term::BvUDiv(x, y),
             Kind::BvURem => Term::BvURem(x, y),
             Kind::BvConcat => Term::BvConcat(list),
-            Kind::BvExtract => Term::BvExtract(
-                Term::number(job, body),
-                Term::number(job, second),
-                x,
-            ),
-            Kind::SignExtend => Term::SignExtend(Term::number(job, body), x),
-            Kind::ZeroExtend => Term::ZeroExtend(Term::number(job, body), x),
-            Kind::RotateLeft => Term::RotateLeft(Term::number(job, body), x),
-            Kind::RotateRight => Term::RotateRight(Term::number(job, body), x),
-            Kind::Repeat => Term::Repeat(Term::number(job, body), x),
+            Kind::BvExtract => Term::BvExtract(self.index(0), self.index(1), x),
+            Kind::SignExtend => Term::SignExtend(self.index(0), x),
+            Kind::ZeroExtend => Term::ZeroExtend(self.index(0), x),
+            Kind::RotateLeft => Term::RotateLeft(self.index(0), x),
+            Kind::RotateRight => Term::RotateRight(self.index(0), x),
+            Kind::Repeat => Term::Repeat(self.index(0), x),
         }
     }
 
-    // What a record says whose kind has that number, and is no step's, no chain's and no back's.
-    // Its body is the `size` bytes from `body` on.
-    fn read_term(
-        job: &[u8],
-        number: u32,
-        body: usize,
-        size: usize,
-        bytes: usize,
-    ) -> Result<Item, Fault>
-        requires inside { body + size ≤ length job.now }
-        requires sized { Length bytes }
-        ensures { Says job.now result
-            (read_term bytes (shape_of number) (part job.now body size)) }
+    // What a record with that body says whose kind has that number, which is no step's, no chain's
+    // and no back's.
+    fn read_term(&self, number: u32) -> Result<Item, Fault>
+        ensures { Says self.now.job.now result
+            (read_term self.now.bytes (shape_of number) (bytes_of self.now)) }
     {
         let kind = Kind::try_from(number)?;
         let form = kind.form();
-        if !form.fits(size, bytes) {
+        if !form.fits(self.size, self.bytes) {
             return Err(Fault::Misfit);
         }
-        Ok(Item::Term(Term::of_kind(job, kind, body, size, form.front, bytes)))
+        Ok(Item::Term(self.term(kind, form.front)))
     }
 
     // What a step with that body says.
-    fn read_step(job: &[u8], body: usize, size: usize, bytes: usize) -> Result<Item, Fault>
-        requires inside { body + size ≤ length job.now }
-        requires sized { Length bytes }
-        ensures { Says job.now result (read_step bytes (part job.now body size)) }
+    fn read_step(&self) -> Result<Item, Fault>
+        ensures { Says self.now.job.now result (read_step self.now.bytes (bytes_of self.now)) }
     {
         let form = Form {
             front: Term::NUMBER_BYTES,
             least: 0,
             most: Term::MAX_ARGUMENTS,
         };
-        if !form.fits(size, bytes) {
+        if !form.fits(self.size, self.bytes) {
             return Err(Fault::Misfit);
         }
-        let rule = Term::number(job, body);
+        let rule = Term::number(self.job, self.at);
         let literals = Args {
-            at: body + Term::NUMBER_BYTES,
-            count: (size - Term::NUMBER_BYTES) / bytes,
-            bytes,
+            at: self.at + Term::NUMBER_BYTES,
+            count: (self.size - Term::NUMBER_BYTES) / self.bytes,
+            bytes: self.bytes,
         };
         Ok(Item::Step(rule, literals))
     }
 
     // What a chain with that body says: its rule, the number of its premises, from 1 to 64, the
     // premises, which are places of steps and so numbers of two bytes, and one literal.
-    fn read_chain(job: &[u8], body: usize, size: usize, bytes: usize) -> Result<Item, Fault>
-        requires inside { body + size ≤ length job.now }
-        requires sized { Length bytes }
-        ensures { Says job.now result (read_chain bytes (part job.now body size)) }
+    fn read_chain(&self) -> Result<Item, Fault>
+        ensures { Says self.now.job.now result (read_chain self.now.bytes (bytes_of self.now)) }
     {
-        if size < 2 * Term::NUMBER_BYTES {
+        if self.size < 2 * Term::NUMBER_BYTES {
             return Err(Fault::Misfit);
         }
-        let rule = Term::number(job, body);
-        let count = Term::number(job, body + Term::NUMBER_BYTES) as usize;
+        let rule = Term::number(self.job, self.at);
+        let count = Term::number(self.job, self.at + Term::NUMBER_BYTES) as usize;
         if count < 1 {
             return Err(Fault::Misfit);
         }
@@ -132,29 +164,30 @@ impl Term {
             return Err(Fault::Misfit);
         }
         let end = 2 * Term::NUMBER_BYTES + Term::NUMBER_BYTES * count;
-        if size != end + bytes {
+        if self.size != end + self.bytes {
             return Err(Fault::Misfit);
         }
         let premises = Args {
-            at: body + 2 * Term::NUMBER_BYTES,
+            at: self.at + 2 * Term::NUMBER_BYTES,
             count,
             bytes: Term::NUMBER_BYTES,
         };
-        Ok(Item::Chain(rule, premises, Term::place(job, body + end, bytes)))
+        let literal = Term::place(self.job, self.at + end, self.bytes);
+        Ok(Item::Chain(rule, premises, literal))
     }
 
     // What a back with that body says.
-    fn read_back(job: &[u8], body: usize, size: usize, bytes: usize) -> Result<Item, Fault>
-        requires inside { body + size ≤ length job.now }
-        requires sized { Length bytes }
-        ensures { Says job.now result (read_back bytes (part job.now body size)) }
+    fn read_back(&self) -> Result<Item, Fault>
+        ensures { Says self.now.job.now result (read_back self.now.bytes (bytes_of self.now)) }
     {
-        if size != bytes {
+        if self.size != self.bytes {
             return Err(Fault::Misfit);
         }
-        Ok(Item::Back(Term::place(job, body, bytes)))
+        Ok(Item::Back(Term::place(self.job, self.at, self.bytes)))
     }
+}
 
+impl Term {
     // What the whole record at `at` says, where the numbers of terms have so many bytes: 100 is a
     // step, 101 a back, 104 a chain, and any other kind a term or unknown.
     pub fn read_as(job: &[u8], at: usize, bytes: usize) -> Result<Item, Fault>
@@ -163,14 +196,17 @@ impl Term {
         ensures says { read_of job.now result ≡ read bytes (record_at job.now at) }
         ensures placed { PlacedIn job.now result }
     {
-        let size = Term::number(job, at) as usize - Term::NUMBER_BYTES;
-        let kind = Term::number(job, at + Term::NUMBER_BYTES);
-        let body = at + 2 * Term::NUMBER_BYTES;
-        match kind {
-            Term::STEP_KIND => Term::read_step(job, body, size, bytes),
-            Term::BACK_KIND => Term::read_back(job, body, size, bytes),
-            Term::CHAIN_KIND => Term::read_chain(job, body, size, bytes),
-            _ => Term::read_term(job, kind, body, size, bytes),
+        let body = Body {
+            job,
+            at: at + 2 * Term::NUMBER_BYTES,
+            size: Term::number(job, at) as usize - Term::NUMBER_BYTES,
+            bytes,
+        };
+        match Term::number(job, at + Term::NUMBER_BYTES) {
+            Term::STEP_KIND => body.read_step(),
+            Term::BACK_KIND => body.read_back(),
+            Term::CHAIN_KIND => body.read_chain(),
+            kind => body.read_term(kind),
         }
     }
 

@@ -15,11 +15,11 @@ pub enum Refusal {
     NotDerived = 23,
 }
 
-impl Refusal {
-    // Its code.
-    pub fn number(self) -> u32
-        ensures { result ≡ refusal_code self }
-    {
-        self as u32
+// Its code.
+impl From<Refusal> for u32 {
+    ghost from_gives = { λ refusal code. code ≡ refusal_code refusal };
+
+    fn from(refusal: Refusal) -> Self {
+        refusal as u32
     }
 }

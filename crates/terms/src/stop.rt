@@ -28,11 +28,11 @@ pub enum Stop {
     NoRoom = 19,
 }
 
-impl Stop {
-    // Its code.
-    pub fn number(self) -> u32
-        ensures { result ≡ stop_code self }
-    {
-        self as u32
+// Its code.
+impl From<Stop> for u32 {
+    ghost from_gives = { λ stop code. code ≡ stop_code stop };
+
+    fn from(stop: Stop) -> Self {
+        stop as u32
     }
 }

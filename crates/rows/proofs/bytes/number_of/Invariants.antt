@@ -1,6 +1,5 @@
-use lib.ListN.{drop}
-use Rattle.terms.proofs.Numbers.{Summing}
+use Rattle.rows.proofs.RowLaws.{Reading}
 use Rattle.rows.proofs.bytes.number_of.Given as goal
 
-abbrev pub invariant-loop-i : goal.invariant-loop-i
-invariant-loop-i g l = Summing (drop l.at l.s) g.row.N l.x l.i
+abbrev pub invariant-loop-byte : goal.invariant-loop-byte
+invariant-loop-byte g l = Reading l.initial.byte-iterator.iter.rest.now l.byte-iterator.iter.rest.now l.x

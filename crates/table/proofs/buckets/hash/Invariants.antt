@@ -1,8 +1,11 @@
 use mathlib.Core.Path.{◌≡◌}
-use Prim.Native.Nat.{◌+◌, ◌*◌, ◌/◌, ◌≤◌, ◌-◌}
-use lib.ListN.{drop, length}
+use Prim.Native.Nat.{◌/◌, ◌≤◌}
+use lib.ListN.{length}
+use Rattle.std.specs.Slice.Iter.{chunks_exact_rest, chunks_exact_size}
 use Rattle.table.specs.Buckets.{hash_from, hash_of}
 use Rattle.table.proofs.buckets.hash.Given as goal
 
-abbrev pub invariant-loop-k : goal.invariant-loop-k
-invariant-loop-k l = (l.h ≤ 4295032832) × (hash_of l.m l.s ≡ hash_from l.m ((length l.s - (4 + 2 * l.k)) / 2) l.h (drop (4 + 2 * l.k) l.s))
+abbrev pub invariant-loop-word : goal.invariant-loop-word
+invariant-loop-word l =
+    let rest = chunks_exact_rest l.word-iterator in
+    (l.h ≤ 4295032832) × ((chunks_exact_size l.word-iterator ≡ 2) × (hash_of l.m l.s ≡ hash_from l.m (length rest / 2) l.h rest))

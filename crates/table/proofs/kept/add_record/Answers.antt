@@ -2,7 +2,7 @@ use mathlib.Core.Path.{sym, ap, ◌∙◌}
 use native.Mathlib.Omega.{arith}
 use lib.ListN.{length}
 use Rattle.theory.specs.Record.{Bytes}
-use Rattle.rows.proofs.RowLaws.{link_back, rows_small}
+use Rattle.rows.proofs.RowLaws.{rows_small}
 use Rattle.table.specs.Buckets.{bucket_of}
 use Rattle.table.proofs.BucketLaws.{sought_from, told_missing}
 use Rattle.table.proofs.MemoryLaws.{framed, row_memory}
@@ -10,25 +10,24 @@ use Rattle.table.proofs.AddLaws.{grown_found, grown_new, grown_spent, part_recor
 use Rattle.table.proofs.kept.add_record.Goals as goal
 
 pub walk-requires : goal.walk-requires
-walk-requires g c = sought_from _ (framed g.row.B c.requires.linked c.of-heads.ensures.start c.of-heads.ensures.count c.requires.kept) c.bucket-j.ensures c.first_in-first.ensures
+walk-requires g c = sought_from _ (framed g.N.Numbers.BYTES g.N.Numbers.linked c.of-heads.ensures.start c.of-heads.ensures.count c.requires.kept) c.bucket-j.ensures c.first_in-first.ensures
 
 pub returns-in-Some : goal.returns-in-Some
-returns-in-Some g c = grown_found _ _ _ _ _ _ _ c.requires.kept (walk_told g.row.B _ _ _ _ _ c.requires.linked c.number_of.ensures.value c.walk.ensures) c.in-Some.is
+returns-in-Some g c = grown_found _ _ _ _ _ _ _ c.requires.kept (walk_told g.N.Numbers.BYTES _ _ _ _ _ g.N.Numbers.linked c.number_of.ensures.value c.walk.ensures) c.in-Some.is
 
 pub has_room-requires : goal.has_room-requires
-has_room-requires g c = let t = c.requires.kept in record { sized = link_back t.rows.link_length; few = rows_small t.rows }
+has_room-requires g c = rows_small c.requires.kept.rows
 
 pub returns-then-not-has_room : goal.returns-then-not-has_room
-returns-then-not-has_room g c = grown_spent _ _ _ _ _ _ _ c.requires.kept (told_missing (walk_told g.row.B _ _ _ _ _ c.requires.linked c.number_of.ensures.value c.walk.ensures) c.in_default.is)
+returns-then-not-has_room g c = grown_spent _ _ _ _ _ _ _ c.requires.kept (told_missing (walk_told g.N.Numbers.BYTES _ _ _ _ _ g.N.Numbers.linked c.number_of.ensures.value c.walk.ensures) c.in_default.is)
     (sym c.has_room.ensures ∙ c.if-not-has_room.true)
 
 pub add_row-requires : goal.add_row-requires
-add_row-requires g c = let t = (framed g.row.B c.requires.linked c.of-heads.ensures.start c.of-heads.ensures.count c.requires.kept) in
-    let r = room_true g.row.B c.args.limit c.args.n (length c.args.work.now) (sym c.has_room.ensures ∙ c.if-not-has_room.false) in
+add_row-requires g c = let t = (framed g.N.Numbers.BYTES g.N.Numbers.linked c.of-heads.ensures.start c.of-heads.ensures.count c.requires.kept) in
+    let r = room_true g.N.Numbers.BYTES c.args.limit c.args.n (length c.args.work.now) (sym c.has_room.ensures ∙ c.if-not-has_room.false) in
     record {
-      inside = row_memory g.row.B c.args.n (length c.args.work.now) c.requires.linked r.1 (let m = r.0 in omega arith);
+      inside = row_memory g.N.Numbers.BYTES c.args.n (length c.args.work.now) g.N.Numbers.linked r.1 (let m = r.0 in omega arith);
       cells = λ h. omega (arith, t.cells h);
-      sized = t.rows.link_length;
       few = let s = rows_small t.rows in omega arith;
     }
 
@@ -38,8 +37,8 @@ overflow_cast-result g c = let r = rows_small c.requires.kept.rows in omega arit
 pub returns : goal.returns
 returns g c = let p = c.requires in
     let a = c.args in
-    grown_new _ _ _ _ _ _ _ p.kept p.limited p.inside p.measured (told_missing (walk_told g.row.B _ _ _ _ _ c.requires.linked c.number_of.ensures.value c.walk.ensures) c.in_default.is)
+    grown_new _ _ _ _ _ _ _ p.kept p.limited p.inside p.measured (told_missing (walk_told g.N.Numbers.BYTES _ _ _ _ _ g.N.Numbers.linked c.number_of.ensures.value c.walk.ensures) c.in_default.is)
     (sym c.has_room.ensures ∙ c.if-not-has_room.false)
-    p.linked c.of-heads.ensures.start c.of-heads.ensures.count
+    g.N.Numbers.linked c.of-heads.ensures.start c.of-heads.ensures.count
     (c.bucket-j.ensures ∙ ap (λ (x : Bytes). bucket_of a.work.now c.of-heads.result.count x) (part_record a.job.now a.at c.number_of.result c.number_of.ensures.value))
     c.first_in-first.ensures c.add_row.ensures

@@ -6,5 +6,5 @@ use Rattle.table.proofs.MemoryLaws.{Unmoved}
 use Rattle.table.proofs.kept.drop_rows_as.Given as goal
 
 abbrev pub invariant-loop-k : goal.invariant-loop-k
-invariant-loop-k g l = (l.m ≤ l.k) × TableOf g.row.L l.job l.work l.k l.heads.start l.heads.count × (length l.work ≡ length l.initial.work) × Unmoved g.row.L l.initial.work l.work l.k
-    × (dropped_from g.row.L l.job l.initial.work l.heads.start l.heads.count l.m (l.n - l.m) ≡ dropped_from g.row.L l.job l.work l.heads.start l.heads.count l.m (l.k - l.m))
+invariant-loop-k g l = (l.m ≤ l.k) × TableOf g.N.Numbers.LINK_BYTES l.job l.work l.k l.heads.start l.heads.count × (length l.work ≡ length l.initial.work) × Unmoved g.N.Numbers.LINK_BYTES l.initial.work l.work l.k
+    × (dropped_from g.N.Numbers.LINK_BYTES l.job l.initial.work l.heads.start l.heads.count l.m (l.n - l.m) ≡ dropped_from g.N.Numbers.LINK_BYTES l.job l.work l.heads.start l.heads.count l.m (l.k - l.m))

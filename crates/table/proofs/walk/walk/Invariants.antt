@@ -1,8 +1,8 @@
+use mathlib.Core.Path.{◌≡◌}
 use Rattle.table.proofs.BucketLaws.{Seeking}
 use Rattle.table.proofs.walk.walk.Given as goal
 
-abbrev pub invariant-loop-held : goal.invariant-loop-held
-invariant-loop-held g l = Seeking g.row.L l.job l.work l.n l.wanted l.held
-
-abbrev pub decreases-loop-held : goal.decreases-loop-held
-decreases-loop-held g l = l.held
+abbrev pub invariant-loop-row : goal.invariant-loop-row
+invariant-loop-row g l =
+    let s = l.row-iterator in
+    (s.work.now ≡ l.work) × ((s.link_bytes ≡ g.N.Numbers.LINK_BYTES) × Seeking g.N.Numbers.LINK_BYTES l.job l.work l.n l.wanted s.held)

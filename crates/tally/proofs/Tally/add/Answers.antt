@@ -5,4 +5,13 @@ use Rattle.tally.proofs.Tally.add.Goals as goal
 
 pub returns : goal.returns
 unfolding tally_after
-returns c = rw (c.saturating_add-self.ensures, c.add_class-self.ensures, c.add_class-self-2.ensures, c.add_class-self-3.ensures) refl
+returns c = rw (
+  c.saturating_add-self.ensures,
+  c.saturating_add-self-2.ensures,
+  c.saturating_add-self-3.ensures,
+  c.saturating_add-self-4.ensures,
+  c.of.ensures,
+  c.of-2.ensures,
+  c.of-3.ensures,
+  c.whole-counted.ensures,
+) refl

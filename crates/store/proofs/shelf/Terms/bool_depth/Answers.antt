@@ -1,6 +1,5 @@
 -- `bool_depth`: `true` and `false` are Bools of depth 0; of a row, the job's number length, and the depth for any.
 use native.Mathlib.Omega.{arith}
-use Rattle.rows.proofs.RowLaws.{link_short, link_long}
 use Rattle.terms.proofs.Numbers.{short_length, long_length}
 use Rattle.store.proofs.Sorting.{low_bool}
 use Rattle.store.proofs.shelf.Terms.bool_depth.Goals as goal
@@ -11,9 +10,9 @@ returns-then-k-lt-FIRST_PLACE c = low_bool c.args.self.now.shelf c.args.place c.
 pub bool_depth_as-requires : goal.bool_depth_as-requires
 bool_depth_as-requires c = let h = c.if-k-lt-FIRST_PLACE.false in
     let l = c.requires in
-    record { kept = omega arith; own = short_length _ c.number_length.ensures c.if-number_length-eq-NUMBER_BYTES.true; linked = link_short }
+    record { kept = omega arith; own = short_length _ c.number_length.ensures c.if-number_length-eq-NUMBER_BYTES.true }
 
 pub bool_depth_as-requires-2 : goal.bool_depth_as-requires-2
 bool_depth_as-requires-2 c = let h = c.if-k-lt-FIRST_PLACE.false in
     let l = c.requires in
-    record { kept = omega arith; own = long_length _ c.number_length.ensures c.if-number_length-eq-NUMBER_BYTES.false; linked = link_long }
+    record { kept = omega arith; own = long_length _ c.number_length.ensures c.if-number_length-eq-NUMBER_BYTES.false }

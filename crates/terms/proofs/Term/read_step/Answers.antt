@@ -1,9 +1,0 @@
--- `Term::read_step`: the test of length is that of a step.
-use mathlib.Core.Path.{sym, ◌∙◌}
-use Rattle.terms.proofs.Reading.{step_sizes, step_end, step_fits}
-use Rattle.terms.proofs.Term.read_step.Goals as goal
-
-pub returns : goal.returns
-returns c = let e = sym c.fits.ensures ∙ c.if-not-fits.false in
-    let p = step_sizes c.args.bytes c.args.job.now c.args.body c.args.size c.requires.inside e in
-    record { says = step_fits _ _ _ _ c.requires.inside e c.number-rule.ensures.value; placed = record { end = step_end c.args.bytes c.args.job.now c.args.body c.args.size c.requires.inside e; few = p.1; sized = c.requires.sized } }
