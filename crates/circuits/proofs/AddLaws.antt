@@ -2,7 +2,7 @@
 use mathlib.Core.Path.{◌≡◌, refl, sym, ap, ◌∙◌}
 use mathlib.Core.List.{List, [], ◌∷◌, ◌++◌}
 use mathlib.Core.Logic.{◌⊎◌, inl, inr}
-use Prim.Native.Nat.{ℕ, ◌≤◌}
+use Prim.Native.Nat.{ℕ, suc, ◌≤◌}
 use native.Mathlib.Omega.{arith}
 use lib.ListN.{length}
 use Rattle.std.proofs.lemmas.List.{nil_from_length}
@@ -30,6 +30,12 @@ module _ (g : Gates ℕ) where
   adder_shorter c [] ys = omega arith
   adder_shorter c (x ∷ xs) [] = omega arith
   adder_shorter c (x ∷ xs) (y ∷ ys) = omega (arith, adder_shorter (next_carry g x y c) xs ys)
+
+  pub adder_length : (c : ℕ) (xs ys : List ℕ) → length xs ≤ length ys → length (ripple_carry_adder g c xs ys) ≡ length xs
+  unfolding ripple_carry_adder
+  adder_length c [] ys h = refl
+  adder_length c (x ∷ xs) [] h = absurd (omega arith)
+  adder_length c (x ∷ xs) (y ∷ ys) h = ap suc (adder_length (next_carry g x y c) xs ys (omega arith))
 
   out_next : (c : ℕ) {x y c' : ℕ} {xs ys xs' ys' : List ℕ} → (xs ≡ x ∷ xs') × (ys ≡ y ∷ ys') → c' ≡ next_carry g x y c → carry_out g c' xs' ys' ≡ carry_out g c xs ys
   unfolding carry_out

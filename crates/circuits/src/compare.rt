@@ -20,22 +20,28 @@ pub fn sign_bit(lookup: &Lookup, x: u32, y: u32) -> u32
     lookup.and2(x, lookup.not1(y))
 }
 
-// bitblast_ult, one more bit, where `below` is what the bits below say: equal and below, or x 0 and
-// y 1.
+// One more bit, where `below` is what the bits below say: equal and below, or `here`, which is what
+// this bit says alone.
+fn step(lookup: &Lookup, x: u32, y: u32, below: u32, here: u32) -> u32
+    ensures { result ≡ (gates lookup.now).or_gate
+        ((gates lookup.now).and_gate ((gates lookup.now).eq_gate x y) below) here }
+{
+    let equal = lookup.and2(lookup.eq2(x, y), below);
+    lookup.or2(equal, here)
+}
+
+// bitblast_ult, one more bit: equal and below, or x 0 and y 1.
 pub fn less_step(lookup: &Lookup, x: u32, y: u32, below: u32) -> u32
     ensures { result ≡ less_step (gates lookup.now) x y below }
 {
-    let equal = lookup.and2(lookup.eq2(x, y), below);
-    lookup.or2(equal, less_bit(lookup, x, y))
+    step(lookup, x, y, below, less_bit(lookup, x, y))
 }
 
-// slt, the sign bit, where `below` is what the bits below say: equal and below, or x negative and y
-// not.
+// slt, the sign bit: equal and below, or x negative and y not.
 pub fn sign_step(lookup: &Lookup, x: u32, y: u32, below: u32) -> u32
     ensures { result ≡ sign_step (gates lookup.now) x y below }
 {
-    let equal = lookup.and2(lookup.eq2(x, y), below);
-    lookup.or2(equal, sign_bit(lookup, x, y))
+    step(lookup, x, y, below, sign_bit(lookup, x, y))
 }
 
 // bitblast_ult: x < y, from bit 0 up.

@@ -1,5 +1,5 @@
 -- What a check knows of its argument list: each argument, the common width, and the expected term.
-use mathlib.Core.Path.{◌≡◌, sym, subst, ◌∙◌}
+use mathlib.Core.Path.{◌≡◌, sym, ◌∙◌}
 use mathlib.Core.List.{List, [], ◌∷◌, map, foldl}
 use Prim.Native.Nat.{ℕ, suc, ◌<◌, ◌≤◌}
 use native.Mathlib.Omega.{arith}
@@ -16,10 +16,6 @@ use Rattle.operand_rules.proofs.Numbers.{few, there}
 use Rattle.list_rules.specs.Lists.{Alike, Many, argument, next_bits, folded_bits}
 
 module _ {k : Kept} {w : ℕ} {a : Args} (given : Alike k a w) where
-  -- argument i
-  pub operand_at : (i : ℕ) → i < a.count → {x : ℕ} → x ≡ argument k a i → Operand k x w
-  operand_at i h e = subst (λ (x : ℕ). Operand k x w) (sym e) (given.each i h)
-
   -- there is a first one
   pub first_of : Operand k (argument k a 0) w
   first_of = given.each 0 given.some

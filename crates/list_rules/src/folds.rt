@@ -1,8 +1,7 @@
 // The rule of an operation on an argument list: its circuit, applied to the arguments' bits from
 // the left.
 ghost use mathlib.Core.List.{foldl};
-ghost use Rattle.std.specs.Prelude.{◌≡◌, List, [], ◌∷◌, ℕ, suc, length, map, ◌+◌, ◌<◌, ◌≤◌};
-ghost use Rattle.theory.specs.Limit.{first_terms};
+ghost use Rattle.std.specs.Prelude.{◌≡◌, List, [], ◌∷◌, ℕ, suc, length, map, ◌<◌, ◌≤◌};
 ghost use Rattle.theory.specs.Kind.{Op, arity, many};
 ghost use Rattle.theory.specs.Term.{Term as Tree};
 ghost use Rattle.theory.specs.Sort.{Sort, alike, fitting};
@@ -10,11 +9,13 @@ ghost use Rattle.theory.specs.Bits.{bb, get_term_bits};
 ghost use Rattle.theory.specs.Verdict.{held};
 ghost use Rattle.theory.specs.Rule.{compare};
 ghost use Rattle.store.specs.Kept.{kept_number, kept_term, kept_arguments};
+ghost use Rattle.operand_rules.specs.Literal.{literal_term};
 ghost use Rattle.operand_rules.specs.Rules.{verdict_of};
 ghost use Rattle.list_rules.specs.Lists.{ArgumentsOf, Alike, Many, next_bits, folded_bits, by_list};
 
 use circuits::bits::Bits;
 use operand_rules::bits::{compare_bits, get_term_bits, width_at};
+use operand_rules::literal::Literal;
 use operand_rules::{Verdict, compare};
 use store::gates::Kept;
 use terms::{Args, Term};
@@ -69,9 +70,10 @@ fn fold_arguments<O: Operation>(kept: &Kept, list: Args, w: usize) -> Bits
     ensures { result.items
         ≡ map (kept_number kept.now) (folded_bits O.circuit (kept_arguments kept.now list)) }
 {
-    let mut bits = get_term_bits(kept, Term::argument(kept.lookup.job, list, 0), w);
-    for i in 1..list.count {
-        let next = get_term_bits(kept, Term::argument(kept.lookup.job, list, i), w);
+    let (first, others) = list.split_first(kept.lookup.job);
+    let mut bits = get_term_bits(kept, first, w);
+    for x in others.numbers(kept.lookup.job) {
+        let next = get_term_bits(kept, x, w);
         bits = O::combine(kept, &bits, &next);
     }
     bits
@@ -93,11 +95,11 @@ fn folded_check<O: Operation>(kept: &Kept, list: Args, claim: u32) -> Verdict
 }
 
 // The rule: (= (op x ..) claim).
-pub fn rule<O: Operation>(kept: &Kept, literal: u32) -> Verdict
-    requires { literal < first_terms + kept.now.lookup.rows }
-    ensures { verdict_of result ≡ by_list O.kind O.expected (kept_term kept.now literal) }
+pub fn rule<O: Operation>(literal: &Literal) -> Verdict
+    ensures { verdict_of result ≡ by_list O.kind O.expected (literal_term literal.now) }
 {
-    let Term::Equals(l, r) = kept.term_at(literal) else {
+    let kept = &literal.kept;
+    let Term::Equals(l, r) = kept.term_at(literal.place) else {
         return Verdict::WrongForm;
     };
     let Some(list) = O::arguments(kept.term_at(l)) else {

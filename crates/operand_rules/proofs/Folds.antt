@@ -1,27 +1,16 @@
--- Lists that a loop appends to, and folds of terms from the left. These laws of folds are ghost members of list_rules'
--- operations, and stand here since no source cites proofs of its own crate.
-use mathlib.Core.Path.{◌≡◌, refl, sym, ap, ap₂, ◌∙◌}
-use mathlib.Core.List.{List, [], ◌∷◌, ◌++◌, foldl}
-use Prim.Native.Nat.{ℕ, suc, ◌+◌, ◌<◌, ◌≤◌}
-use native.Mathlib.Numerals.{add-one}
+-- Folds of terms from the left. These laws are ghost members of list_rules' operations, and stand here since no source
+-- cites proofs of its own crate.
+use mathlib.Core.Path.{◌≡◌, refl, ap, ◌∙◌}
+use mathlib.Core.List.{List, [], ◌∷◌, foldl}
+use Prim.Native.Nat.{suc, ◌<◌, ◌≤◌}
 use native.Mathlib.Omega.{arith}
-use lib.ListN.{length, take, get_or}
-use lib.Seq.{take-suc, take-length}
+use lib.ListN.{length}
 use Rattle.theory.specs.Kind.{False}
 use Rattle.theory.specs.Term.{Term, node, nil}
 use Rattle.theory.specs.Gates.{term_gates}
 use Rattle.theory.specs.Circuit.{ripple_carry_adder}
 use Rattle.theory.specs.Bits.{get_term_bits, bb, fold_terms, add_bits}
 use Rattle.operand_rules.proofs.Numbers.{bb_bits}
-
--- ---- a list of which the first i items are there, and one more
-pub appended : (ks : List ℕ) {out more : List ℕ} {i x : ℕ} → out ≡ take i ks → x ≡ get_or ks i 0 → i < length ks → more ≡ out ++ x ∷ [] → more ≡ take (i + 1) ks
-appended ks {i = i} inv e h m =
-    m ∙ ap₂ (λ (us : List ℕ) (y : ℕ). us ++ y ∷ []) inv e ∙ sym (take-suc ks i 0 h) ∙ ap (λ (j : ℕ). take j ks) (sym (add-one i))
-
--- none is left
-pub all_appended : (ks : List ℕ) {out : List ℕ} {i : ℕ} → out ≡ take i ks → i ≡ length ks → out ≡ ks
-all_appended ks inv h = inv ∙ ap (λ (j : ℕ). take j ks) h ∙ take-length ks
 
 -- ---- an operation's circuit, from the left
 module _ (circuit : List Term → List Term → List Term) where

@@ -3,3 +3,4 @@ pub mod Forms
 pub mod Numbers
 pub mod Sorts
 pub mod Tests
+pub mod Literals

@@ -26,7 +26,6 @@ use Rattle.store.proofs.Keeping.{store_of}
 use Rattle.store.specs.Sorts.{sort_read}
 use Rattle.store.specs.declared.sorts.Sort.{Sort}
 use Rattle.store.specs.declared.sorts.Sort.TheVariants.{Bv}
-use Rattle.store.specs.contracts.sorts.Sort as E
 use Rattle.store.proofs.Lookup.{bit_hom, constant_hom}
 use Rattle.operand_rules.specs.Rules.{Operand, width_bits}
 use Rattle.operand_rules.proofs.Numbers.{few}

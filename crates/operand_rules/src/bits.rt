@@ -23,13 +23,14 @@ pub fn width_at(kept: &Kept, place: u32) -> usize
 }
 
 // The numbers of an argument list.
+#[tactic(auto, using(terms::proofs::Lists::words_few))]
 fn argument_bits(job: &[u8], list: Args) -> Bits
     requires { Inside job.now list }
     ensures { result.items ≡ words_in job.now list }
 {
     let mut out = Bits::new();
-    for i in 0..list.count {
-        out.push(Term::argument(job, list, i));
+    for x in list.numbers(job) {
+        out.push(x);
     }
     out
 }

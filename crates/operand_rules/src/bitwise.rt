@@ -1,21 +1,21 @@
 // Rules of bits: xnor, not and neg.
-ghost use Rattle.std.specs.Prelude.{◌≡◌, map, ◌+◌, ◌<◌, refl};
+ghost use Rattle.std.specs.Prelude.{◌≡◌, map, refl};
 ghost use Rattle.theory.specs.Sort.{is_bv_sort};
 ghost use Rattle.theory.specs.Bits.{bb, get_term_bits, zipped};
 ghost use Rattle.theory.specs.Verdict.{held};
 ghost use Rattle.theory.specs.Term.{two};
 ghost use Rattle.theory.specs.Kind.{Equals, BvNot, BvNeg, BvXNor, kind as kind_number};
-ghost use Rattle.theory.specs.Limit.{first_terms};
 ghost use Rattle.theory.specs.Gates.{term_gates};
 ghost use Rattle.theory.specs.Circuit.{negate};
 ghost use Rattle.theory.specs.RuleTable.{by_xnor, by_not, by_neg};
 ghost use Rattle.theory.specs.Rule.{compare, verdict};
-ghost use Rattle.store.specs.Kept.{kept_term};
+ghost use Rattle.operand_rules.specs.Literal.{literal_term};
 ghost use Rattle.operand_rules.specs.Rules.{verdict_of};
 ghost use lib.Ieee.Fits.{and_l};
 
 use crate::Verdict;
 use crate::bits::{compare_bits, get_term_bits, width_at};
+use crate::literal::Literal;
 use crate::operation::{Binary, Unary, binary_rule, unary_rule};
 use circuits::adder::negate;
 use circuits::bits::{eqs, nots};
@@ -49,11 +49,10 @@ impl Binary for Equivalence {
 }
 
 // xnor: (= (bvxnor x y) claim).
-pub fn xnor(kept: &Kept, literal: u32) -> Verdict
-    requires { literal < first_terms + kept.now.lookup.rows }
-    ensures { verdict_of result ≡ verdict by_xnor (kept_term kept.now literal) }
+pub fn xnor(literal: &Literal) -> Verdict
+    ensures { verdict_of result ≡ verdict by_xnor (literal_term literal.now) }
 {
-    binary_rule(Equivalence, kept, literal)
+    binary_rule(Equivalence, literal)
 }
 
 #[derive(Clone, Copy)]
@@ -87,11 +86,10 @@ impl Unary for Complement {
 }
 
 // not: (= (bvnot x) claim).
-pub fn not(kept: &Kept, literal: u32) -> Verdict
-    requires { literal < first_terms + kept.now.lookup.rows }
-    ensures { verdict_of result ≡ verdict by_not (kept_term kept.now literal) }
+pub fn not(literal: &Literal) -> Verdict
+    ensures { verdict_of result ≡ verdict by_not (literal_term literal.now) }
 {
-    unary_rule::<Complement>(kept, literal)
+    unary_rule::<Complement>(literal)
 }
 
 #[derive(Clone, Copy)]
@@ -125,9 +123,8 @@ impl Unary for Negation {
 }
 
 // neg: (= (bvneg x) claim).
-pub fn neg(kept: &Kept, literal: u32) -> Verdict
-    requires { literal < first_terms + kept.now.lookup.rows }
-    ensures { verdict_of result ≡ verdict by_neg (kept_term kept.now literal) }
+pub fn neg(literal: &Literal) -> Verdict
+    ensures { verdict_of result ≡ verdict by_neg (literal_term literal.now) }
 {
-    unary_rule::<Negation>(kept, literal)
+    unary_rule::<Negation>(literal)
 }

@@ -1,18 +1,18 @@
 // The rules ult and slt.
-ghost use Rattle.std.specs.Prelude.{◌≡◌, ◌+◌, ◌<◌, refl};
+ghost use Rattle.std.specs.Prelude.{◌≡◌, refl};
 ghost use Rattle.theory.specs.Kind.{BvULt, BvSLt};
 ghost use Rattle.theory.specs.Bits.{get_term_bits};
 ghost use Rattle.theory.specs.Verdict.{held};
-ghost use Rattle.theory.specs.Limit.{first_terms};
 ghost use Rattle.theory.specs.Gates.{term_gates};
 ghost use Rattle.theory.specs.Circuit.{bitblast_ult, slt};
 ghost use Rattle.theory.specs.RuleTable.{by_ult, by_slt};
 ghost use Rattle.theory.specs.Rule.{compare, verdict};
-ghost use Rattle.store.specs.Kept.{kept_term};
+ghost use Rattle.operand_rules.specs.Literal.{literal_term};
 ghost use Rattle.operand_rules.specs.Rules.{verdict_of};
 
 use crate::Verdict;
 use crate::bits::{get_term_bits, width_at};
+use crate::literal::Literal;
 use crate::operation::{Binary, binary_rule};
 use circuits::compare::bitblast_ult;
 use store::gates::Kept;
@@ -46,11 +46,10 @@ impl Binary for Less {
 }
 
 // ult: (= (bvult x y) claim).
-pub fn ult(kept: &Kept, literal: u32) -> Verdict
-    requires { literal < first_terms + kept.now.lookup.rows }
-    ensures { verdict_of result ≡ verdict by_ult (kept_term kept.now literal) }
+pub fn ult(literal: &Literal) -> Verdict
+    ensures { verdict_of result ≡ verdict by_ult (literal_term literal.now) }
 {
-    binary_rule(Less, kept, literal)
+    binary_rule(Less, literal)
 }
 
 #[derive(Clone, Copy)]
@@ -81,9 +80,8 @@ impl Binary for SignedLess {
 }
 
 // slt: (= (bvslt x y) claim).
-pub fn slt(kept: &Kept, literal: u32) -> Verdict
-    requires { literal < first_terms + kept.now.lookup.rows }
-    ensures { verdict_of result ≡ verdict by_slt (kept_term kept.now literal) }
+pub fn slt(literal: &Literal) -> Verdict
+    ensures { verdict_of result ≡ verdict by_slt (literal_term literal.now) }
 {
-    binary_rule(SignedLess, kept, literal)
+    binary_rule(SignedLess, literal)
 }

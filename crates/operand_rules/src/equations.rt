@@ -1,18 +1,19 @@
 // The rules of equations: comp and equality.
-ghost use Rattle.std.specs.Prelude.{◌≡◌, ◌∷◌, [], ◌+◌, ◌<◌, refl};
+ghost use Rattle.std.specs.Prelude.{◌≡◌, ◌∷◌, [], refl};
 ghost use Rattle.theory.specs.Kind.{BvComp};
 ghost use Rattle.theory.specs.Bits.{bb, get_term_bits};
 ghost use Rattle.theory.specs.Verdict.{held};
-ghost use Rattle.theory.specs.Limit.{first_terms};
 ghost use Rattle.theory.specs.Gates.{term_gates};
 ghost use Rattle.theory.specs.Circuit.{equality};
 ghost use Rattle.theory.specs.RuleTable.{by_comp, by_equality};
 ghost use Rattle.theory.specs.Rule.{compare, of_bits, verdict};
 ghost use Rattle.store.specs.Kept.{kept_term, kept_bits};
+ghost use Rattle.operand_rules.specs.Literal.{literal_term};
 ghost use Rattle.operand_rules.specs.Rules.{Same, verdict_of};
 
 use crate::Verdict;
 use crate::bits::{get_term_bits, width_at};
+use crate::literal::Literal;
 use crate::operation::{Binary, binary_rule};
 use store::gates::Kept;
 use store::sorts::Sort;
@@ -47,11 +48,10 @@ impl Binary for Comparison {
 }
 
 // comp: (= (bvcomp x y) claim).
-pub fn comp(kept: &Kept, literal: u32) -> Verdict
-    requires { literal < first_terms + kept.now.lookup.rows }
-    ensures { verdict_of result ≡ verdict by_comp (kept_term kept.now literal) }
+pub fn comp(literal: &Literal) -> Verdict
+    ensures { verdict_of result ≡ verdict by_comp (literal_term literal.now) }
 {
-    binary_rule(Comparison, kept, literal)
+    binary_rule(Comparison, literal)
 }
 
 // The claim is whether all bits of x and y are equal.
@@ -71,11 +71,11 @@ fn equality_check(kept: &Kept, x: u32, y: u32, claim: u32) -> Verdict
 }
 
 // equality: (= (= x y) claim).
-pub fn equality(kept: &Kept, literal: u32) -> Verdict
-    requires { literal < first_terms + kept.now.lookup.rows }
-    ensures { verdict_of result ≡ verdict by_equality (kept_term kept.now literal) }
+pub fn equality(literal: &Literal) -> Verdict
+    ensures { verdict_of result ≡ verdict by_equality (literal_term literal.now) }
 {
-    let Term::Equals(l, r) = kept.term_at(literal) else {
+    let kept = &literal.kept;
+    let Term::Equals(l, r) = kept.term_at(literal.place) else {
         return Verdict::WrongForm;
     };
     let Term::Equals(x, y) = kept.term_at(l) else {

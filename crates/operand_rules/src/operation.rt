@@ -1,16 +1,17 @@
 // The rule of an operation of one or two bit-vectors: its literal is (= (op x ..) claim).
-ghost use Rattle.std.specs.Prelude.{◌≡◌, List, [], ◌∷◌, ℕ, T, ◌+◌, ◌<◌};
+ghost use Rattle.std.specs.Prelude.{◌≡◌, List, [], ◌∷◌, ℕ, T};
 ghost use Rattle.theory.specs.Kind.{Op, indices, kind as kind_number};
 ghost use Rattle.theory.specs.Term.{Term as Tree};
 ghost use Rattle.theory.specs.Sort.{Sort, is_bv_sort, alike, fitting};
-ghost use Rattle.theory.specs.Limit.{first_terms};
 ghost use Rattle.theory.specs.Verdict.{Verdict as Said};
 ghost use Rattle.theory.specs.Rule.{nth};
 ghost use Rattle.store.specs.Kept.{kept_term};
+ghost use Rattle.operand_rules.specs.Literal.{literal_term};
 ghost use Rattle.operand_rules.specs.Rules.{OneFits, Two, verdict_of};
 ghost use Rattle.operand_rules.specs.Operations.{OperandOf, OperandsOf, by_unary, by_binary};
 
 use crate::Verdict;
+use crate::literal::Literal;
 use store::gates::Kept;
 use terms::Term;
 
@@ -44,11 +45,11 @@ pub trait Unary: Sized {
 }
 
 // The rule: (= (op x) claim).
-pub fn unary_rule<U: Unary>(kept: &Kept, literal: u32) -> Verdict
-    requires { literal < first_terms + kept.now.lookup.rows }
-    ensures { verdict_of result ≡ by_unary U.number U.verdict (kept_term kept.now literal) }
+pub fn unary_rule<U: Unary>(literal: &Literal) -> Verdict
+    ensures { verdict_of result ≡ by_unary U.number U.verdict (literal_term literal.now) }
 {
-    let Term::Equals(l, r) = kept.term_at(literal) else {
+    let kept = &literal.kept;
+    let Term::Equals(l, r) = kept.term_at(literal.place) else {
         return Verdict::WrongForm;
     };
     let Some((operation, x)) = U::of(kept.term_at(l)) else {
@@ -80,12 +81,12 @@ pub trait Binary: Copy {
 }
 
 // The rule: (= (op x y) claim).
-pub fn binary_rule<B: Binary>(operation: B, kept: &Kept, literal: u32) -> Verdict
-    requires { literal < first_terms + kept.now.lookup.rows }
+pub fn binary_rule<B: Binary>(operation: B, literal: &Literal) -> Verdict
     ensures { verdict_of result
-        ≡ by_binary B.kind (B.verdict operation) (kept_term kept.now literal) }
+        ≡ by_binary B.kind (B.verdict operation) (literal_term literal.now) }
 {
-    let Term::Equals(l, r) = kept.term_at(literal) else {
+    let kept = &literal.kept;
+    let Term::Equals(l, r) = kept.term_at(literal.place) else {
         return Verdict::WrongForm;
     };
     let Some((x, y)) = B::operands(kept.term_at(l)) else {

@@ -6,10 +6,12 @@ ghost use Rattle.theory.specs.Limit.{first_terms};
 ghost use Rattle.theory.specs.RuleTable.{by_var};
 ghost use Rattle.theory.specs.Rule.{compare, of_bits, verdict};
 ghost use Rattle.store.specs.Kept.{kept_term, kept_bits};
+ghost use Rattle.operand_rules.specs.Literal.{literal_term};
 ghost use Rattle.operand_rules.specs.Rules.{verdict_of};
 
 use crate::Verdict;
 use crate::bits::{compare_bits, get_term_bits};
+use crate::literal::Literal;
 use store::gates::Kept;
 use store::sorts::Sort;
 use terms::Term;
@@ -28,11 +30,11 @@ fn var_check(kept: &Kept, x: u32, claim: u32) -> Verdict
 }
 
 // var: (= x claim).
-pub fn var(kept: &Kept, literal: u32) -> Verdict
-    requires { literal < first_terms + kept.now.lookup.rows }
-    ensures { verdict_of result ≡ verdict by_var (kept_term kept.now literal) }
+pub fn var(literal: &Literal) -> Verdict
+    ensures { verdict_of result ≡ verdict by_var (literal_term literal.now) }
 {
-    let Term::Equals(l, r) = kept.term_at(literal) else {
+    let kept = &literal.kept;
+    let Term::Equals(l, r) = kept.term_at(literal.place) else {
         return Verdict::WrongForm;
     };
     var_check(kept, l, r)

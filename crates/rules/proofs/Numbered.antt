@@ -1,16 +1,11 @@
 -- A number that the match on the rules takes by none of its arms is no rule's.
-use mathlib.Core.Path.{◌≡◌, refl, sym, ap, subst, ◌∙◌}
-use mathlib.Core.Bool.{true, false, true≢false}
+use mathlib.Core.Path.{◌≡◌, refl, subst}
 use mathlib.Core.List.{List, [], ◌∷◌}
-use Rattle.std.specs.Prelude.{None as none, Some as some}
+use Rattle.std.specs.Prelude.{None as none}
 use Prim.Native.Nat.{ℕ, zero, suc, ◌+◌}
 use native.Mathlib.Omega.{arith}
 use Rattle.std.specs.Prelude.{slice_get as get_elem?}
-use Rattle.theory.specs.Term.{Term}
-use Rattle.theory.specs.Optional.{is_some}
-use Rattle.theory.specs.Verdict.{Verdict}
-use Rattle.theory.specs.RuleTable.{Rule, rules, rule_at}
-use Rattle.theory.specs.Rule.{verdict}
+use Rattle.theory.specs.RuleTable.{rules, rule_at}
 
 -- n is not a, not a + 1, and so on, as many as the list is long
 abbrev pub Past : {A : Type 0} → ℕ → ℕ → List A → Type 0
@@ -22,11 +17,7 @@ past_none [] a k p = refl
 past_none (x ∷ xs) a zero p = absurd (p.0 (omega arith))
 past_none (x ∷ xs) a (suc k) p = past_none xs (suc a) k (subst (λ (n : ℕ). Past n (suc a) xs) (let e : a + suc k ≡ suc a + k = omega arith in e) p.1)
 
-no_rule : (n : ℕ) → Past n 1 rules → rule_at n ≡ none
+-- no other number is a rule's
+pub no_rule : (n : ℕ) → Past n 1 rules → rule_at n ≡ none
 no_rule zero p = refl
 no_rule (suc k) p = past_none rules 1 k (subst (λ (n : ℕ). Past n 1 rules) (let e : suc k ≡ 1 + k = omega arith in e) p)
-
-module _ (literal : Term) {v : Verdict} {n : ℕ} where
-  -- no other number is a rule's
-  pub by_none : Past n 1 rules → is_some (rule_at n) ≡ true → (by : Rule) → rule_at n ≡ some by → v ≡ verdict by literal
-  by_none p s = absurd (let z : false ≡ true = sym (ap is_some (no_rule n p)) ∙ s in true≢false (sym z))

@@ -1,15 +1,16 @@
 -- Division: the test for `false`, a step, and the three ways of the recursion.
 use mathlib.Core.Path.{◌≡◌, refl, sym, ap, ap₂, ◌∙◌}
-use mathlib.Core.Bool.{Bool, true, false, ◌&&◌}
+use mathlib.Core.Bool.{Bool, true, false, cond, ◌&&◌}
 use mathlib.Core.List.{List, [], ◌∷◌, ◌++◌, map}
 use Prim.Native.Nat.{ℕ, zero, suc, ◌-◌, ◌≤◌}
 use native.Mathlib.Omega.{arith}
-use lib.ListN.{length, drop, get_or}
+use lib.ListN.{length, drop, get_or, replicate, length-map}
 use lib.Seq.{length-take-le, drop-cons}
 use Rattle.std.specs.List.{list_all}
 use Rattle.theory.specs.Gates.{Gates}
-use Rattle.theory.specs.Circuit.{drop_top, next_remainder, all_false, falses, choose, no_carry, reduced, divide_step, bitblast_udiv_urem_rec, is_zero, udiv, urem}
-use Rattle.circuits.proofs.AddLaws.{adder_shorter}
+use Rattle.theory.specs.Circuit.{ripple_carry_adder, last_carry, carry_out, drop_top, next_remainder, all_false, falses, choose, no_carry, reduced, divide_step, bitblast_udiv_urem_rec, is_zero, udiv, urem}
+use Rattle.circuits.proofs.AddLaws.{adder_shorter, adder_length}
+use Rattle.circuits.proofs.AppendLaws.{filled}
 
 -- ---- the test of every bit
 all_listed : (g : Gates ℕ) (p : ℕ → Bool) (xs : List ℕ) → all_false g p xs ≡ list_all p xs
@@ -18,12 +19,31 @@ all_listed g p (x ∷ xs) = ap (λ (t : Bool). p x && t) (all_listed g p xs)
 
 -- ---- a step
 -- the next remainder has as many bits, or one
-pub remainder_fits : (g : Gates ℕ) (low : ℕ) (r : List ℕ) {r1 : List ℕ} (n : ℕ) → r1 ≡ next_remainder g low r → length r ≤ n → 1 ≤ n → length r1 ≤ n
+remainder_fits : (g : Gates ℕ) (low : ℕ) (r : List ℕ) {r1 : List ℕ} (n : ℕ) → r1 ≡ next_remainder g low r → length r ≤ n → 1 ≤ n → length r1 ≤ n
 remainder_fits g low r n e h k = rw e (omega (arith, by r h, adder_shorter g (g.ite_gate (g.eq_gate low g.true_gate) g.true_gate g.false_gate) (g.false_gate ∷ drop_top r) (falses g (low ∷ drop_top r))))
   where
     by : (xs : List ℕ) → length xs ≤ n → length (g.false_gate ∷ drop_top xs) ≤ n
     by [] h = k
     by (x ∷ xs) h = omega (arith, h, length-take-le (length xs) (x ∷ xs) (omega arith))
+
+-- so that it fits beside the inverted bits of y
+pub remainder_beside : (g : Gates ℕ) (low : ℕ) (r x ys : List ℕ) {r1 inverted : List ℕ} → r1 ≡ next_remainder g low r → inverted ≡ map g.not_gate ys
+    → 1 ≤ length x → length x ≤ length ys → length r ≤ length x → length r1 ≤ length inverted
+remainder_beside g low r x ys {inverted = inverted} e n some beside smaller =
+    let long : length inverted ≡ length ys = ap length n ∙ length-map ys g.not_gate in
+    remainder_fits g low r (length inverted) e (omega (arith, smaller, beside, long)) (omega (arith, some, beside, long))
+
+-- the sum that is x - y, whose second bits `inverted` are those of y
+module _ (g : Gates ℕ) (standard : Bool) (x ys : List ℕ) {inverted : List ℕ} (n : inverted ≡ map g.not_gate ys) where
+  pub sum_no_carry : {out carry sign : ℕ} → out ≡ carry_out g g.true_gate x inverted → carry ≡ last_carry g g.true_gate x inverted
+      → sign ≡ g.not_gate (cond standard out carry) → sign ≡ no_carry g standard x ys
+  sum_no_carry a b e = rw (e, a, b, n) refl
+
+  pub sum_reduced : {bits less : List ℕ} → length x ≤ length inverted → bits ≡ ripple_carry_adder g g.true_gate x inverted
+      → less ≡ cond standard bits (replicate (length bits) g.true_gate) → less ≡ reduced g standard x ys
+  sum_reduced h b e =
+      e ∙ ap₂ (cond standard) (b ∙ ap (ripple_carry_adder g g.true_gate x) n)
+      (filled g.true_gate x refl (ap length b ∙ adder_length g g.true_gate x inverted h))
 
 module _ (g : Gates ℕ) (standard : Bool) (x ys q r : List ℕ) where
   pub stepped : {sign low below : ℕ} {r1 q1 less r2 quot rem : List ℕ} → 1 ≤ length x → r1 ≡ next_remainder g (get_or x 0 0) r → sign ≡ no_carry g standard r1 ys

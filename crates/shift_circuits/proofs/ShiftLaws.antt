@@ -1,13 +1,19 @@
 -- The loops of the shifts: along a stage, and over the stages.
-use mathlib.Core.Path.{◌≡◌, refl, sym, ap, ◌∙◌}
+use mathlib.Core.Path.{◌≡◌, refl, sym, ap, ap₂, ◌∙◌}
 use mathlib.Core.Bool.{Bool, cond, false, true}
 use mathlib.Core.List.{List, [], ◌∷◌, ◌++◌}
-use Prim.Native.Nat.{ℕ, zero, suc, ◌+◌, ◌-◌, ◌^◌, ◌<◌, ◌≤◌}
+use mathlib.Core.Logic.{◌⊎◌, inl, inr}
+use Prim.Native.Nat.{ℕ, zero, suc, ◌+◌, ◌-◌, ◌^◌, ◌<◌, ◌≤◌, min}
 use native.Mathlib.Numerals.{add-one}
 use native.Mathlib.Omega.{arith}
-use lib.ListN.{length, take, drop, get_or, replicate, length-append, drop_of_length-le}
-use lib.Seq.{length-take-le, take-suc, drop-cons}
+use lib.ListN.{length, take, drop, get_or, replicate, length-append, length-drop, drop_of_length-le}
+use lib.Seq.{drop-cons}
 use lib.Dec.{leb}
+use Rattle.std.proofs.Common.{Iter, Some, None, take_all}
+use Rattle.std.proofs.lemmas.List.{nil_from_length}
+use Rattle.std.proofs.iter.Yields.{nat_range_steps}
+use Rattle.std.specs.Slice.Iter.{iter_rest, iter_steps}
+use Rattle.std.specs.declared.ops.Range.{Range}
 use Rattle.theory.specs.Gates.{Gates}
 use Rattle.theory.specs.Circuit.{clog2_from, clog2, last, shl_bits, shl_stage, shl_stages, shr_bits, shr_stage, shr_stages, bounded, shl, lshr, ashr}
 use Rattle.shift_circuits.specs.Stages.{staged}
@@ -47,32 +53,36 @@ module _ {g : Gates ℕ} {s t y : ℕ} {ps : List ℕ} where
   unfolding shl_bits
   left_end {i} inv h = append_end inv.filled (ap (λ (l : List ℕ). shl_bits g y l (drop i (replicate (2 ^ s) g.false_gate ++ ps))) (drop_of_length-le ps h))
 
--- ---- a stage to the right, t being 2 ^ s, and `stays` not y
-pub record ShrStage (g : Gates ℕ) (fill s t y stays : ℕ) (ps out : List ℕ) (i : ℕ) : Type 0 where
-  pub places : t ≡ 2 ^ s
-  pub small : t ≤ 9223372036854775808
-  pub flips : stays ≡ g.not_gate y
-  pub filled : Appending out (shr_bits g fill y (drop i ps) (drop (i + t) ps)) (shr_stage g fill s y ps) (length (drop i ps))
+-- ---- a stage to the right: the bits above are those from bit 2 ^ s on, as a slice has them
+from_bit : (t : ℕ) (ps : List ℕ) → take (length ps - min t (length ps)) (drop (min t (length ps)) ps) ≡ drop t ps
+from_bit t ps = take_all (length ps - min t (length ps)) (drop (min t (length ps)) ps) (omega (arith, length-drop (min t (length ps)) ps)) ∙ by t ps
+  where
+    by : (t : ℕ) (ps : List ℕ) → drop (min t (length ps)) ps ≡ drop t ps
+    by zero ps = let z : min 0 (length ps) ≡ 0 = omega arith in ap (λ (n : ℕ). drop n ps) z
+    by (suc t) [] = let z : min (suc t) 0 ≡ 0 = omega arith in ap (λ (n : ℕ). drop {A = ℕ} n []) z
+    by (suc t) (p ∷ ps) = let z : min (suc t) (suc (length ps)) ≡ suc (min t (length ps)) = omega arith in ap (λ (n : ℕ). drop n (p ∷ ps)) z ∙ by t ps
 
-module _ {g : Gates ℕ} {fill s t y stays : ℕ} {ps : List ℕ} where
-  module _ {out out' : List ℕ} {i v : ℕ} (inv : ShrStage g fill s t y stays ps out i) (o : out' ≡ out ++ v ∷ []) (h : i < length ps) where
-    turn : shr_bits g fill y (drop i ps) (drop (i + t) ps) ≡ v ∷ shr_bits g fill y (drop (i + 1) ps) (drop (i + 1 + t) ps) → ShrStage g fill s t y stays ps out' (i + 1)
-    turn e = record { places = inv.places; small = inv.small; flips = inv.flips; filled = append_turn inv.filled o e (drop_next ps i h) }
+-- what is next at bit i beside the bits qs
+pub record ShrStage (g : Gates ℕ) (fill s y : ℕ) (ps out : List ℕ) (i : ℕ) (qs : List ℕ) : Type 0 where
+  pub filled : Appending out (shr_bits g fill y (drop i ps) qs) (shr_stage g fill s y ps) (length (drop i ps))
 
-    pub right_in : v ≡ g.ite_gate stays (get_or ps i 0) (get_or ps (i + t) 0) → i + t < length ps → ShrStage g fill s t y stays ps out' (i + 1)
+module _ {g : Gates ℕ} {fill s y : ℕ} {ps : List ℕ} where
+  pub right_start : {out qs : List ℕ} → out ≡ [] → qs ≡ take (length ps - min (2 ^ s) (length ps)) (drop (min (2 ^ s) (length ps)) ps) → length ps ≤ 64
+      → ShrStage g fill s y ps out 0 qs
+  right_start e f h = rw (e, f, from_bit (2 ^ s) ps) record { filled = record { says = refl; room = omega (arith, h) } }
+
+  module _ {out out' : List ℕ} {i v : ℕ} {qs qs' : List ℕ} (inv : ShrStage g fill s y ps out i qs) (o : out' ≡ out ++ v ∷ []) (h : i < length ps) where
+    pub right_in : {q stays : ℕ} → qs ≡ q ∷ qs' → stays ≡ g.not_gate y → v ≡ g.ite_gate stays (get_or ps i 0) q → ShrStage g fill s y ps out' (i + 1) qs'
     unfolding shr_bits
-    right_in e b = let next : i + 1 + t ≡ suc (i + t) = omega arith in turn (rw (drop-cons ps i 0 h, drop-cons ps (i + t) 0 b, next, add-one, e, inv.flips) refl)
+    right_in a n e = record { filled = append_turn inv.filled o (rw (drop-cons ps i 0 h, add-one, a, e, n) refl) (drop_next ps i h) }
 
-    pub right_out : v ≡ g.ite_gate y fill (get_or ps i 0) → length ps ≤ i + t → ShrStage g fill s t y stays ps out' (i + 1)
+    pub right_out : length qs ≡ 0 → qs' ≡ qs → v ≡ g.ite_gate y fill (get_or ps i 0) → ShrStage g fill s y ps out' (i + 1) qs'
     unfolding shr_bits
-    right_out e b =
-        let next : i + 1 + t ≡ suc (i + t) = omega arith in
-        let after : length ps ≤ suc (i + t) = omega (arith, b) in
-        turn (rw (drop-cons ps i 0 h, drop_of_length-le ps b, next, drop_of_length-le ps after, add-one, e) refl)
+    right_out a b e = record { filled = append_turn inv.filled o (rw (b, nil_from_length qs a, drop-cons ps i 0 h, add-one, e) refl) (drop_next ps i h) }
 
-  pub right_end : {out : List ℕ} {i : ℕ} → ShrStage g fill s t y stays ps out i → length ps ≤ i → out ≡ shr_stage g fill s y ps
+  pub right_end : {out : List ℕ} {i : ℕ} {qs : List ℕ} → ShrStage g fill s y ps out i qs → length ps ≤ i → out ≡ shr_stage g fill s y ps
   unfolding shr_bits
-  right_end {i} inv h = append_end inv.filled (ap (λ (l : List ℕ). shr_bits g fill y l (drop (i + t) ps)) (drop_of_length-le ps h))
+  right_end {qs = qs} inv h = append_end inv.filled (ap (λ (l : List ℕ). shr_bits g fill y l qs) (drop_of_length-le ps h))
 
 -- ---- over the stages
 stages_from : (fuel k n : ℕ) → clog2_from fuel k n ≤ k + fuel
@@ -87,42 +97,46 @@ stages_few : (n : ℕ) → clog2 n ≤ n
 unfolding clog2
 stages_few n = omega (arith, stages_from n 0 n)
 
--- one stage more
-staged_snoc : (f : ℕ → ℕ → List ℕ → List ℕ) (s : ℕ) (ys : List ℕ) (y : ℕ) (xs : List ℕ) → staged f s (ys ++ (y ∷ [])) xs ≡ f (s + length ys) y (staged f s ys xs)
-unfolding staged
-staged_snoc f s [] y xs = let z : s ≡ s + 0 = omega arith in ap (λ (k : ℕ). f k y xs) z
-staged_snoc f s (z ∷ ys) y xs =
-    let e : suc s + length ys ≡ s + suc (length ys) = omega arith in
-    staged_snoc f (suc s) ys y (f s z xs) ∙ ap (λ (k : ℕ). f k y (staged f (suc s) ys (f s z xs))) e
+-- the stages of `left` are left, over the bits bs
+pub record Staging (f : ℕ → ℕ → List ℕ → List ℕ) (xs ys res : List ℕ) (left : Range ℕ) (bs : List ℕ) : Type 0 where
+  pub few : left.end ≤ length xs
+  pub says : staged f left.start (take (left.end - left.start) bs) res ≡ staged f 0 (take (clog2 (length xs)) ys) xs
 
-staged_none : (f : ℕ → ℕ → List ℕ → List ℕ) (xs : List ℕ) → staged f 0 [] xs ≡ xs
-unfolding staged
-staged_none f xs = refl
+module _ {f : ℕ → ℕ → List ℕ → List ℕ} {xs ys res : List ℕ} {left : Range ℕ} where
+  pub stages_start : {stages : ℕ} {bs : List ℕ} → stages ≡ clog2 (length xs) → res ≡ xs → left ≡ record { start = 0; end = stages } → bs ≡ ys → Staging f xs ys res left bs
+  stages_start {stages} e h a b =
+      let n : stages - 0 ≡ clog2 (length xs) = omega (arith, e) in
+      rw (h, a, b) record { few = rw e (stages_few (length xs)); says = ap (λ (k : ℕ). staged f 0 (take k ys) xs) n }
 
--- s stages are done
-pub record Staging (f : ℕ → ℕ → List ℕ → List ℕ) (xs ys : List ℕ) (stages : ℕ) (res : List ℕ) (s : ℕ) : Type 0 where
-  pub few : stages ≤ length xs
-  pub passed : s ≤ stages
-  pub says : res ≡ staged f 0 (take s ys) xs
+  module _ {bs : List ℕ} (inv : Staging f xs ys res left bs) where
+    pub stages_low : {left' : Range ℕ} (s : ℕ) → nat_range_steps left (Some s) left' → length xs ≤ 64 → s ≤ 63
+    stages_low s h n = omega (arith, h.1.0, h.1.1, inv.few, n)
 
-module _ {f : ℕ → ℕ → List ℕ → List ℕ} {xs ys : List ℕ} {stages : ℕ} where
-  pub stages_start : {res : List ℕ} → stages ≡ clog2 (length xs) → res ≡ xs → Staging f xs ys stages res 0
-  stages_start e h = record { few = rw e (stages_few (length xs)); passed = omega arith; says = h ∙ sym (staged_none f xs) }
+    pub stages_turn : {res' bs' : List ℕ} {left' : Range ℕ} (s b : ℕ) → nat_range_steps left (Some s) left' → bs ≡ b ∷ bs' → res' ≡ f s b res → Staging f xs ys res' left' bs'
+    unfolding staged
+    stages_turn {res'} {bs'} {left'} s b h e r =
+        let n : left.end - left.start ≡ suc (left'.end - left'.start) = omega (arith, h.0, h.1.0, h.1.2) in
+        record {
+          few = rw (h.0) inv.few;
+          says = ap (λ (k : ℕ). staged f k (take (left'.end - left'.start) bs') res') (h.1.2 ∙ add-one left.start)
+              ∙ ap (staged f (suc left.start) (take (left'.end - left'.start) bs')) (r ∙ ap (λ (k : ℕ). f k b res) h.1.1)
+              ∙ sym (ap₂ (λ (k : ℕ) (l : List ℕ). staged f left.start (take k l) res) n e)
+              ∙ inv.says;
+        }
 
-  pub stages_turn : {res res' : List ℕ} {s : ℕ} → Staging f xs ys stages res s → res' ≡ f s (get_or ys s 0) res → s < stages → length xs ≤ length ys
-      → Staging f xs ys stages res' (s + 1)
-  stages_turn {res} {res'} {s} inv e h l =
-      let below : s < length ys = omega (arith, inv.few) in
-      let count : 0 + length (take s ys) ≡ s = omega (arith, length-take-le s ys (omega arith)) in
-      record {
-        few = inv.few;
-        passed = omega arith;
-        says = rw add-one
-            (e ∙ ap (f s (get_or ys s 0)) inv.says
-            ∙ sym (ap (λ (k : List ℕ). staged f 0 k xs) (take-suc ys s 0 below)
-            ∙ staged_snoc f 0 (take s ys) (get_or ys s 0) xs
-            ∙ ap (λ (k : ℕ). f k (get_or ys s 0) (staged f 0 (take s ys) xs)) count));
-      }
+    stages_done : (left.end - left.start ≡ 0) ⊎ (length bs ≡ 0) → res ≡ staged f 0 (take (clog2 (length xs)) ys) xs
+    unfolding staged
+    stages_done (inl e) = ap (λ (k : ℕ). staged f left.start (take k bs) res) (sym e) ∙ inv.says
+    stages_done (inr e) = ap (λ (l : List ℕ). staged f left.start l res) (sym (none (left.end - left.start)) ∙ ap (take (left.end - left.start)) (sym (nil_from_length bs e))) ∙ inv.says
+      where
+        none : (n : ℕ) → take {A = ℕ} n [] ≡ []
+        none zero = refl
+        none (suc n) = refl
+
+  pub stages_end : (i : Iter ℕ) → Staging f xs ys res left (iter_rest i) → ((u : Range ℕ) × nat_range_steps left None u) ⊎ ((u : Iter ℕ) × iter_steps i None u)
+      → res ≡ staged f 0 (take (clog2 (length xs)) ys) xs
+  stages_end i inv (inl h) = stages_done inv (inl h.1.1.0)
+  stages_end i inv (inr h) = stages_done inv (inr h.1.0)
 
 -- the stages of each direction
 module _ (g : Gates ℕ) where

@@ -1,13 +1,13 @@
 // Division, bit by bit; `standard` is false for the circuit as Rust has it, and true for the
 // standard's division.
-ghost use Rattle.std.specs.Prelude.{◌≡◌, List, [], ◌∷◌, ◌++◌, ◌≤◌, ℕ, length, map, drop, get_or};
+ghost use Rattle.std.specs.Prelude.{◌≡◌, cond, [], ◌∷◌, ◌++◌, ◌≤◌, length, drop, replicate, get_or};
 ghost use Rattle.std.specs.List.{list_all};
-ghost use Rattle.theory.specs.Circuit.{drop_top, next_remainder, no_carry, reduced, divide_step};
+ghost use Rattle.theory.specs.Circuit.{drop_top, next_remainder, divide_step};
 ghost use Rattle.theory.specs.Circuit.{bitblast_udiv_urem_rec, is_zero, udiv, urem};
-ghost use Rattle.store.specs.Numbers.{false_number, is_false_number};
+ghost use Rattle.store.specs.Numbers.{false_number, true_number, is_false_number};
 ghost use Rattle.store.specs.Lookup.{gates};
 
-use circuits::adder::ripple_carry_adder;
+use circuits::adder::{Sum, ripple_carry_adder};
 use circuits::bits::{Bits, append, eqs, ites, nots, same_bits};
 use store::gates::{FALSE, Lookup, TRUE};
 
@@ -53,31 +53,25 @@ fn next_remainder(lookup: &Lookup, low: u32, r: &Bits) -> Bits
     sum.bits
 }
 
-// bitblast_udiv_urem_rec: whether x is below y, which Rust takes from the carry into the top bit of
-// x - y, and the standard from the one out of it: there is none. Here and below, `not_y` are y's
-// bits inverted.
-fn no_carry(lookup: &Lookup, x: &Bits, not_y: &Bits, standard: bool) -> u32
-    requires beside { length x.now.items ≤ length not_y.now.items }
-    ensures { (y : List ℕ) → not_y.now.items ≡ map (gates lookup.now).not_gate y
-        → result ≡ no_carry (gates lookup.now) standard x.now.items y }
+// bitblast_udiv_urem_rec: whether x is below y, by the sum that is x - y: it has no carry then. Rust
+// takes the carry into the top bit, and the standard the one out of it.
+fn no_carry(lookup: &Lookup, sum: &Sum, standard: bool) -> u32
+    ensures { result ≡ (gates lookup.now).not_gate (cond standard sum.now.out sum.now.carry) }
 {
-    let sum = ripple_carry_adder(lookup, x, not_y, TRUE);
     let carry = if standard { sum.out } else { sum.carry };
     lookup.not1(carry)
 }
 
-// bitblast_udiv_urem_rec: the remainder r where it is not below y. Rust does not subtract y: it
-// makes every bit `true`.
-fn reduced(lookup: &Lookup, r: &Bits, not_y: &Bits, standard: bool) -> Bits
-    requires beside { length r.now.items ≤ length not_y.now.items }
-    ensures { (y : List ℕ) → not_y.now.items ≡ map (gates lookup.now).not_gate y
-        → result.items ≡ reduced (gates lookup.now) standard r.now.items y }
+// bitblast_udiv_urem_rec: the remainder where it is not below y, by the sum that is the remainder
+// less y. Rust does not subtract y: it makes every bit `true`.
+fn reduced(sum: Sum, standard: bool) -> Bits
+    ensures { result.items ≡ cond standard sum.bits.items
+        (replicate (length sum.bits.items) true_number) }
 {
     if standard {
-        let sum = ripple_carry_adder(lookup, r, not_y, TRUE);
         return sum.bits;
     }
-    same_bits(TRUE, r.len())
+    same_bits(TRUE, sum.bits.len())
 }
 
 // A quotient and a remainder.
@@ -100,12 +94,14 @@ fn divide_step(lookup: &Lookup, x: &Bits, y: &Bits, half: &Division, standard: b
 {
     let r1 = next_remainder(lookup, x[0], &half.rem);
     let not_y = nots(lookup, y);
-    let sign = no_carry(lookup, &r1, &not_y, standard);
+    let r1_less_y = ripple_carry_adder(lookup, &r1, &not_y, TRUE);
+    let sign = no_carry(lookup, &r1_less_y, standard);
     let low = lookup.ite3(sign, FALSE, TRUE);
     let q1 = shift_left(&half.quot, low);
-    let less = reduced(lookup, &r1, &not_y, standard);
+    let less = reduced(r1_less_y, standard);
     let r2 = ites(lookup, sign, &r1, &less);
-    let below = no_carry(lookup, x, &not_y, standard);
+    let x_less_y = ripple_carry_adder(lookup, x, &not_y, TRUE);
+    let below = no_carry(lookup, &x_less_y, standard);
     let falses = same_bits(FALSE, q1.len());
     let quot = ites(lookup, below, &falses, &q1);
     let rem = ites(lookup, below, x, &r2);

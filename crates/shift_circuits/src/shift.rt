@@ -32,9 +32,9 @@ impl Direction for Left {
         let thresh = 1usize << s;
         let bits = p.as_slice();
         let mut out = Bits::new();
-        for i in 0..bits.len() {
+        for (i, &bit) in bits.iter().enumerate() {
             let from = if i < thresh { FALSE } else { bits[i - thresh] };
-            out.push(lookup.ite3(y, from, bits[i]));
+            out.push(lookup.ite3(y, from, bit));
         }
         out
     }
@@ -55,13 +55,14 @@ impl Direction for Right {
         let thresh = 1usize << s;
         let stays = lookup.not1(y);
         let bits = p.as_slice();
+        let mut above = bits[thresh.min(bits.len())..].iter();
         let mut out = Bits::new();
-        for i in 0..bits.len() {
-            let bit = match bits.get(i + thresh) {
-                Some(&from) => lookup.ite3(stays, bits[i], from),
-                None => lookup.ite3(y, self.fill, bits[i]),
+        for &bit in bits {
+            let shifted = match above.next() {
+                Some(&from) => lookup.ite3(stays, bit, from),
+                None => lookup.ite3(y, self.fill, bit),
             };
-            out.push(bit);
+            out.push(shifted);
         }
         out
     }
@@ -77,8 +78,8 @@ fn stages<D: Direction>(direction: &D, lookup: &Lookup, x: &Bits, y: &Bits) -> B
     let stages = shift_stages(x.len() as u64);
     let mut res = Bits::new();
     append(&mut res, x.as_slice());
-    for s in 0..stages {
-        res = direction.stage(lookup, s, y[s as usize], &res);
+    for (s, &bit) in (0..stages).zip(y.as_slice()) {
+        res = direction.stage(lookup, s, bit, &res);
     }
     res
 }

@@ -1,19 +1,19 @@
 // The rules udiv and urem, accepted for their form only; and the two by the standard, which are
 // held.
-ghost use Rattle.std.specs.Prelude.{◌≡◌, ◌+◌, ◌<◌, refl};
+ghost use Rattle.std.specs.Prelude.{◌≡◌, refl};
 ghost use Rattle.theory.specs.Kind.{BvUDiv, BvURem};
 ghost use Rattle.theory.specs.Bits.{literally_false};
-ghost use Rattle.theory.specs.Limit.{first_terms};
 ghost use Rattle.theory.specs.Gates.{term_gates};
 ghost use Rattle.theory.specs.Circuit.{udiv, urem};
 ghost use Rattle.theory.specs.RuleTable.{by_udiv, by_urem, by_udiv_standard, by_urem_standard};
 ghost use Rattle.theory.specs.Rule.{verdict};
-ghost use Rattle.store.specs.Kept.{kept_term};
+ghost use Rattle.operand_rules.specs.Literal.{literal_term};
 ghost use Rattle.operand_rules.specs.Rules.{verdict_of};
 
 use crate::operation::{Operation, rule};
 use circuits::bits::Bits;
 use operand_rules::Verdict;
+use operand_rules::literal::Literal;
 use shift_circuits::divider;
 use store::gates::Kept;
 use terms::Term;
@@ -81,33 +81,29 @@ impl Operation for Remainder {
 }
 
 // udiv: (= (bvudiv x y) claim).
-pub fn udiv(kept: &Kept, literal: u32) -> Verdict
-    requires { literal < first_terms + kept.now.lookup.rows }
-    ensures { verdict_of result ≡ verdict by_udiv (kept_term kept.now literal) }
+pub fn udiv(literal: &Literal) -> Verdict
+    ensures { verdict_of result ≡ verdict by_udiv (literal_term literal.now) }
 {
-    rule(Quotient { standard: false }, kept, literal)
+    rule(Quotient { standard: false }, literal)
 }
 
 // The same by the standard.
-pub fn udiv_standard(kept: &Kept, literal: u32) -> Verdict
-    requires { literal < first_terms + kept.now.lookup.rows }
-    ensures { verdict_of result ≡ verdict by_udiv_standard (kept_term kept.now literal) }
+pub fn udiv_standard(literal: &Literal) -> Verdict
+    ensures { verdict_of result ≡ verdict by_udiv_standard (literal_term literal.now) }
 {
-    rule(Quotient { standard: true }, kept, literal)
+    rule(Quotient { standard: true }, literal)
 }
 
 // urem: (= (bvurem x y) claim).
-pub fn urem(kept: &Kept, literal: u32) -> Verdict
-    requires { literal < first_terms + kept.now.lookup.rows }
-    ensures { verdict_of result ≡ verdict by_urem (kept_term kept.now literal) }
+pub fn urem(literal: &Literal) -> Verdict
+    ensures { verdict_of result ≡ verdict by_urem (literal_term literal.now) }
 {
-    rule(Remainder { standard: false }, kept, literal)
+    rule(Remainder { standard: false }, literal)
 }
 
 // The same by the standard.
-pub fn urem_standard(kept: &Kept, literal: u32) -> Verdict
-    requires { literal < first_terms + kept.now.lookup.rows }
-    ensures { verdict_of result ≡ verdict by_urem_standard (kept_term kept.now literal) }
+pub fn urem_standard(literal: &Literal) -> Verdict
+    ensures { verdict_of result ≡ verdict by_urem_standard (literal_term literal.now) }
 {
-    rule(Remainder { standard: true }, kept, literal)
+    rule(Remainder { standard: true }, literal)
 }

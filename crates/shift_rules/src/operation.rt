@@ -1,12 +1,12 @@
 // The rule of an operation of two bit-vectors that is bit-blasted by a circuit.
-ghost use Rattle.std.specs.Prelude.{◌≡◌, map, Bool, List, ℕ, ◌+◌, ◌<◌, ◌≤◌, length};
+ghost use Rattle.std.specs.Prelude.{◌≡◌, map, Bool, List, ℕ, ◌≤◌, length};
 ghost use Rattle.theory.specs.Kind.{Op};
 ghost use Rattle.theory.specs.Term.{Term as Tree};
 ghost use Rattle.theory.specs.Sort.{Sort, alike, fitting};
-ghost use Rattle.theory.specs.Limit.{first_terms};
 ghost use Rattle.theory.specs.Bits.{get_term_bits};
 ghost use Rattle.store.specs.declared.gates.Kept.{Kept};
-ghost use Rattle.store.specs.Kept.{kept_number, kept_term};
+ghost use Rattle.store.specs.Kept.{kept_number};
+ghost use Rattle.operand_rules.specs.Literal.{literal_term};
 ghost use Rattle.operand_rules.specs.Rules.{verdict_of};
 ghost use Rattle.operand_rules.specs.Operations.{OperandsOf, by_binary};
 ghost use Rattle.shift_rules.specs.Operations.{by_circuit};
@@ -14,6 +14,7 @@ ghost use Rattle.shift_rules.specs.Operations.{by_circuit};
 use circuits::bits::Bits;
 use operand_rules::Verdict;
 use operand_rules::bits::{compare_bits_as, get_term_bits, width_at};
+use operand_rules::literal::Literal;
 use operand_rules::operation::{Binary, binary_rule};
 use store::gates::Kept;
 use terms::Term;
@@ -84,11 +85,10 @@ impl<O: Operation> Binary for ByCircuit<O> {
 }
 
 // The rule: (= (op x y) claim).
-pub(crate) fn rule<O: Operation>(operation: O, kept: &Kept, literal: u32) -> Verdict
-    requires { literal < first_terms + kept.now.lookup.rows }
+pub(crate) fn rule<O: Operation>(operation: O, literal: &Literal) -> Verdict
     ensures { verdict_of result
         ≡ by_binary O.kind (by_circuit (O.holds operation) (O.circuit operation))
-        (kept_term kept.now literal) }
+        (literal_term literal.now) }
 {
-    binary_rule(ByCircuit { operation }, kept, literal)
+    binary_rule(ByCircuit { operation }, literal)
 }

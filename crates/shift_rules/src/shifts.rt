@@ -1,18 +1,19 @@
 // The rules shl, lshr and ashr; ashr is accepted for its form only, unless the shifted term ends in
 // `false`; by the standard it is held.
-ghost use Rattle.std.specs.Prelude.{◌≡◌, true, cond, map, length, ◌≤◌, ◌+◌, ◌<◌, refl};
+ghost use Rattle.std.specs.Prelude.{◌≡◌, true, cond, map, length, ◌≤◌, refl};
 ghost use Rattle.theory.specs.Kind.{BvShl, BvLShr, BvAShr};
-ghost use Rattle.theory.specs.Limit.{first_terms};
 ghost use Rattle.theory.specs.Gates.{term_gates};
 ghost use Rattle.theory.specs.Circuit.{shl, lshr, ashr};
 ghost use Rattle.theory.specs.RuleTable.{by_shl, by_lshr, by_ashr, by_ashr_standard};
 ghost use Rattle.theory.specs.Rule.{ends_in_false, verdict};
-ghost use Rattle.store.specs.Kept.{kept_number, kept_term};
+ghost use Rattle.store.specs.Kept.{kept_number};
+ghost use Rattle.operand_rules.specs.Literal.{literal_term};
 ghost use Rattle.operand_rules.specs.Rules.{width_bits, verdict_of};
 
 use crate::operation::{Operation, rule};
 use circuits::bits::{Bits, select_bits};
 use operand_rules::Verdict;
+use operand_rules::literal::Literal;
 use shift_circuits::shift;
 use store::gates::{FALSE, Kept, TRUE};
 use terms::Term;
@@ -118,33 +119,29 @@ impl Operation for SignedRight {
 }
 
 // shl: (= (bvshl x y) claim).
-pub fn shl(kept: &Kept, literal: u32) -> Verdict
-    requires { literal < first_terms + kept.now.lookup.rows }
-    ensures { verdict_of result ≡ verdict by_shl (kept_term kept.now literal) }
+pub fn shl(literal: &Literal) -> Verdict
+    ensures { verdict_of result ≡ verdict by_shl (literal_term literal.now) }
 {
-    rule(Left, kept, literal)
+    rule(Left, literal)
 }
 
 // lshr: (= (bvlshr x y) claim).
-pub fn lshr(kept: &Kept, literal: u32) -> Verdict
-    requires { literal < first_terms + kept.now.lookup.rows }
-    ensures { verdict_of result ≡ verdict by_lshr (kept_term kept.now literal) }
+pub fn lshr(literal: &Literal) -> Verdict
+    ensures { verdict_of result ≡ verdict by_lshr (literal_term literal.now) }
 {
-    rule(Right, kept, literal)
+    rule(Right, literal)
 }
 
 // ashr: (= (bvashr x y) claim).
-pub fn ashr(kept: &Kept, literal: u32) -> Verdict
-    requires { literal < first_terms + kept.now.lookup.rows }
-    ensures { verdict_of result ≡ verdict by_ashr (kept_term kept.now literal) }
+pub fn ashr(literal: &Literal) -> Verdict
+    ensures { verdict_of result ≡ verdict by_ashr (literal_term literal.now) }
 {
-    rule(SignedRight { standard: false }, kept, literal)
+    rule(SignedRight { standard: false }, literal)
 }
 
 // ashr by the standard: (= (bvashr x y) claim).
-pub fn ashr_standard(kept: &Kept, literal: u32) -> Verdict
-    requires { literal < first_terms + kept.now.lookup.rows }
-    ensures { verdict_of result ≡ verdict by_ashr_standard (kept_term kept.now literal) }
+pub fn ashr_standard(literal: &Literal) -> Verdict
+    ensures { verdict_of result ≡ verdict by_ashr_standard (literal_term literal.now) }
 {
-    rule(SignedRight { standard: true }, kept, literal)
+    rule(SignedRight { standard: true }, literal)
 }

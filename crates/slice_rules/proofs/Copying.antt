@@ -1,24 +1,25 @@
 -- The numbers of the bits that extract, sign_extend and concat expect.
 use mathlib.Core.Path.{◌≡◌, refl, sym, ap, ap₂, subst, ◌∙◌}
-use mathlib.Core.List.{List, [], ◌∷◌, ◌++◌, map}
+use mathlib.Core.List.{List, [], ◌∷◌, ◌++◌, map, append-nil}
+use Rattle.std.proofs.lemmas.List.{append_assoc}
 use Prim.Native.Nat.{ℕ, zero, suc, ◌+◌, ◌-◌, ◌<◌, ◌≤◌}
 use native.Mathlib.Omega.{arith}
-use lib.Dec.{T}
+use lib.Dec.{T, ltb, ltb→lt}
 use lib.Ieee.Fits.{and_l, and_r}
 use lib.ListN.{length, take, drop, get_or, replicate, length-append}
-use lib.Seq.{drop-cons, drop-length}
+use Rattle.theory.specs.Limit.{first_terms}
+use Rattle.theory.specs.Codes.{all_below}
 use Rattle.theory.specs.Sort.{is_bv_sort, all_bv, sum_widths, sort_of}
 use Rattle.theory.specs.Bits.{get_term_bits, concat_bits}
 use Rattle.theory.specs.Circuit.{last}
 use Rattle.theory.proofs.Slices.{map_append, map_drop, map_take, last_map}
 use Rattle.theory.proofs.Sorts.{is_bv}
 use Rattle.terms.specs.declared.Args.{Args}
-use Rattle.terms.specs.declared.Operands.TheVariants.{List as Listed}
-use Rattle.store.proofs.Arguments.{count_length, operand_below}
 use Rattle.store.specs.declared.gates.Kept.{Kept}
 use Rattle.store.specs.Kept.{kept_term, kept_number, kept_width, words_of}
 use Rattle.operand_rules.specs.Rules.{Operand}
 use Rattle.slice_rules.specs.Given.{Concat, sorts_in}
+use Rattle.theory.proofs.Basics.{true_T}
 
 -- the top bit
 top_bit : (xs : List ℕ) (n d : ℕ) → length xs ≡ suc n → get_or xs n 0 ≡ last d xs
@@ -46,68 +47,64 @@ module _ {A : Type 0} (h : A → ℕ) (ts : List A) where
       ap₂ (λ (us : List ℕ) (b : ℕ). us ++ replicate k b) e top ∙ ap (λ (us : List ℕ). map h ts ++ us) (map_replicate k (last z ts))
       ∙ sym (map_append h ts (replicate k (last z ts)))
 
--- ---- from the last argument on: i - 1 comes after i
-pub one_back : (ks : List ℕ) {i x : ℕ} → 0 < i → i ≤ length ks → x ≡ get_or ks (i - 1) 0 → drop (i - 1) ks ≡ x ∷ drop i ks
-one_back ks {i} h l e = let z : suc (i - 1) ≡ i = omega arith in drop-cons ks (i - 1) 0 (omega arith) ∙ ap₂ (λ (k j : ℕ). k ∷ drop j ks) (sym e) z
-
--- ---- concat: the arguments from the last on
-pub record Joining (k : Kept) (ks out : List ℕ) (i : ℕ) : Type 0 where
-  pub passed : i ≤ length ks
-  pub width : length out ≡ sum_widths (sorts_in k (drop i ks))
-  pub sofar : out ≡ map (kept_number k) (concat_bits (map (kept_term k) (drop i ks)))
+-- ---- concat: the arguments from the last on, those after the rest are joined
+pub record Joining (k : Kept) (ks out rest : List ℕ) : Type 0 where
+  pub done : List ℕ
+  pub whole : rest ++ done ≡ ks
+  pub width : length out ≡ sum_widths (sorts_in k done)
+  pub sofar : out ≡ map (kept_number k) (concat_bits (map (kept_term k) done))
 
 module _ (k : Kept) where
   -- the widths of some are no more than those of all
-  fewer : (ks : List ℕ) (i : ℕ) → sum_widths (sorts_in k (drop i ks)) ≤ sum_widths (sorts_in k ks)
-  fewer ks zero = omega arith
-  fewer [] (suc i) = omega arith
-  fewer (x ∷ ks) (suc i) = omega (arith, fewer ks i)
+  fewer : (ls ms : List ℕ) → sum_widths (sorts_in k ms) ≤ sum_widths (sorts_in k (ls ++ ms))
+  fewer [] ms = omega arith
+  fewer (l ∷ ls) ms = omega (arith, fewer ls ms)
 
-  -- argument i of bit-vectors is one
-  bit_vector_at : (ks : List ℕ) (i : ℕ) → T (all_bv (sorts_in k ks)) → i < length ks → T (is_bv_sort (sort_of (kept_term k (get_or ks i 0))))
-  bit_vector_at [] i h l = absurd (omega arith)
-  bit_vector_at (x ∷ ks) zero h l = and_l (is_bv_sort (sort_of (kept_term k x))) _ h
-  bit_vector_at (x ∷ ks) (suc i) h l = bit_vector_at ks i (and_r (is_bv_sort (sort_of (kept_term k x))) _ h) (omega arith)
+  -- one of bit-vectors is one, and one of kept terms is kept
+  bit_vector : (ls : List ℕ) (x : ℕ) (ms : List ℕ) → T (all_bv (sorts_in k (ls ++ x ∷ ms))) → T (is_bv_sort (sort_of (kept_term k x)))
+  bit_vector [] x ms h = and_l (is_bv_sort (sort_of (kept_term k x))) _ h
+  bit_vector (l ∷ ls) x ms h = bit_vector ls x ms (and_r (is_bv_sort (sort_of (kept_term k l))) _ h)
 
-module _ {k : Kept} where
-  pub argument_operand : {a : Args} {claim : ℕ} → Concat k a claim → (i : ℕ) → i < a.count → {x : ℕ} → x ≡ get_or (words_of k a) i 0
-      → Operand k x (kept_width k x)
-  argument_operand {a} c i h {x} e =
-      let l = count_length k.lookup.job.now (Listed a) in
-      let b = subst (λ (y : ℕ). T (is_bv_sort (sort_of (kept_term k y)))) (sym e) (bit_vector_at k (words_of k a) i c.bit_vectors (omega arith)) in
-      record { there = operand_below c.arguments i h e; sort = is_bv (sort_of (kept_term k x)) b }
+  one_below : (ls : List ℕ) (x : ℕ) (ms : List ℕ) → T (all_below (first_terms + k.lookup.rows) (ls ++ x ∷ ms)) → x < first_terms + k.lookup.rows
+  one_below [] x ms h = ltb→lt x (first_terms + k.lookup.rows) (and_l (ltb x (first_terms + k.lookup.rows)) _ h)
+  one_below (l ∷ ls) x ms h = one_below ls x ms (and_r (ltb l (first_terms + k.lookup.rows)) _ h)
 
-  module _ {ks : List ℕ} where
-    pub join_start : {out : List ℕ} → out ≡ [] → Joining k ks out (length ks)
-    unfolding concat_bits
-    join_start e = record { passed = omega arith; width = rw (e, drop-length ks) refl; sofar = rw (e, drop-length ks) refl }
+module _ {k : Kept} {ks out rest : List ℕ} where
+  pub join_start : rest ≡ ks → out ≡ [] → Joining k ks out rest
+  unfolding concat_bits
+  join_start d e = record { done = []; whole = append-nil rest ∙ d; width = ap length e; sofar = e }
 
-    -- argument i - 1 comes next
-    module _ {out : List ℕ} {i : ℕ} (inv : Joining k ks out i) (h : 0 < i) {x : ℕ} (e : x ≡ get_or ks (i - 1) 0) where
-      next : drop (i - 1) ks ≡ x ∷ drop i ks
-      next = one_back ks h inv.passed e
+  module _ (inv : Joining k ks out rest) where
+    pub join_end : rest ≡ [] → out ≡ map (kept_number k) (concat_bits (map (kept_term k) ks))
+    join_end e = inv.sofar ∙ ap (λ (ls : List ℕ). map (kept_number k) (concat_bits (map (kept_term k) ls))) (ap (λ (ls : List ℕ). ls ++ inv.done) (sym e) ∙ inv.whole)
 
-      wider : (xs : List ℕ) → length xs ≡ kept_width k x → length out + length xs ≡ sum_widths (sorts_in k (drop (i - 1) ks))
-      wider xs l =
-          let p = inv.width in
-          let q : sum_widths (sorts_in k (drop (i - 1) ks)) ≡ kept_width k x + sum_widths (sorts_in k (drop i ks))
-          = ap (λ (js : List ℕ). sum_widths (sorts_in k js)) next in
-          omega arith
+    -- the argument before those comes next
+    module _ (x : ℕ) (others : List ℕ) (e : rest ≡ others ++ x ∷ []) where
+      next : others ++ x ∷ inv.done ≡ ks
+      next = sym (append_assoc others (x ∷ []) inv.done) ∙ ap (λ (ls : List ℕ). ls ++ inv.done) (sym e) ∙ inv.whole
 
-      pub join_fits : (xs : List ℕ) → length xs ≡ kept_width k x → sum_widths (sorts_in k ks) ≤ 64 → length out + length xs ≤ 64
-      join_fits xs l g = omega (arith, wider xs l, fewer k ks (i - 1))
-
-      pub join_turn : (xs : List ℕ) → length xs ≡ kept_width k x → xs ≡ map (kept_number k) (get_term_bits (kept_term k x)) → {more : List ℕ} → more ≡ out ++ xs → Joining k ks more (i - 1)
-      unfolding concat_bits
-      join_turn xs l b {more} d =
-          let p = inv.passed in
+      pub join_operand : {list : Args} {claim : ℕ} → Concat k list claim → words_of k list ≡ ks → Operand k x (kept_width k x)
+      join_operand {list} c d =
+          let same = d ∙ sym next in
           record {
-            passed = omega arith;
-            width = ap length d ∙ length-append out xs ∙ wider xs l;
-            sofar = d ∙ ap₂ (λ (us vs : List ℕ). us ++ vs) inv.sofar b
-                ∙ sym (ap (λ (js : List ℕ). map (kept_number k) (concat_bits (map (kept_term k) js))) next
-                ∙ map_append (kept_number k) (concat_bits (map (kept_term k) (drop i ks))) (get_term_bits (kept_term k x)));
+            there = one_below k others x inv.done (subst (λ (ls : List ℕ). T (all_below (first_terms + k.lookup.rows) ls)) same (true_T _ c.arguments.below));
+            sort = is_bv (sort_of (kept_term k x)) (bit_vector k others x inv.done (subst (λ (ls : List ℕ). T (all_bv (sorts_in k ls))) same c.bit_vectors));
           }
 
-    pub join_end : {out : List ℕ} {i : ℕ} → Joining k ks out i → i ≤ 0 → out ≡ map (kept_number k) (concat_bits (map (kept_term k) ks))
-    join_end {i = i} inv h = let z : i ≡ 0 = omega arith in inv.sofar ∙ ap (λ (j : ℕ). map (kept_number k) (concat_bits (map (kept_term k) (drop j ks)))) z
+      wider : (xs : List ℕ) → length xs ≡ kept_width k x → length out + length xs ≡ sum_widths (sorts_in k (x ∷ inv.done))
+      wider xs l = omega (arith, inv.width)
+
+      pub join_fits : (xs : List ℕ) → length xs ≡ kept_width k x → sum_widths (sorts_in k ks) ≤ 64 → length out + length xs ≤ 64
+      join_fits xs l g =
+          let all : sum_widths (sorts_in k (others ++ x ∷ inv.done)) ≡ sum_widths (sorts_in k ks) = ap (λ (js : List ℕ). sum_widths (sorts_in k js)) next in
+          omega (arith, wider xs l, fewer k others (x ∷ inv.done))
+
+      pub join_turn : (xs : List ℕ) → length xs ≡ kept_width k x → xs ≡ map (kept_number k) (get_term_bits (kept_term k x)) → {more : List ℕ} → more ≡ out ++ xs → Joining k ks more others
+      unfolding concat_bits
+      join_turn xs l b {more} d = record {
+        done = x ∷ inv.done;
+        whole = next;
+        width = ap length d ∙ length-append out xs ∙ wider xs l;
+        sofar = d ∙ ap₂ (λ (us vs : List ℕ). us ++ vs) inv.sofar b
+            ∙ sym (map_append (kept_number k) (concat_bits (map (kept_term k) inv.done)) (get_term_bits (kept_term k x)));
+      }

@@ -1,18 +1,17 @@
 -- The rule value: bits that are literally `true` or `false`, and the number that they make.
 use mathlib.Core.Path.{◌≡◌, refl, sym, ap, ap₂, ◌∙◌}
 use mathlib.Core.Bool.{Bool, true, false, cond}
-use mathlib.Core.List.{List, [], ◌∷◌, map}
+use mathlib.Core.List.{List, [], ◌∷◌, ◌++◌, map, append-nil}
+use Rattle.std.proofs.lemmas.List.{append_assoc}
 use Rattle.std.specs.Prelude.{Option, None as none, Some as some}
-use Prim.Native.Nat.{ℕ, zero, suc, ◌+◌, ◌-◌, ◌*◌, ◌^◌, ◌<◌, ◌≤◌}
+use Prim.Native.Nat.{ℕ, ◌+◌, ◌*◌, ◌^◌, ◌<◌, ◌≤◌}
 use native.Mathlib.Omega.{arith}
 use borrow.Enum.Refused.{Among}
 use denote.Enum.Declared.{tag_of}
 use lib.Dec.{T, ltb, ltb→lt}
 use lib.Ieee.Fits.{and_l, and_r}
-use lib.ListN.{length, drop, get_or}
+use lib.ListN.{length, length-append}
 use lib.Pow.{pow_mono}
-use lib.Seq.{drop-length}
-use borrow.Author.Tests.{ne_eqb}
 use Rattle.theory.specs.Limit.{first_terms}
 use Rattle.theory.specs.Kind.{Const}
 use Rattle.theory.specs.Term.{Term, same_term}
@@ -34,7 +33,6 @@ use Rattle.store.specs.Kept.{KeptArguments, kept_terms, kept_term, words_of}
 use Rattle.store.specs.Terms.{TermAt}
 use Rattle.operand_rules.proofs.Forms.{tree, others, index_is}
 use Rattle.slice_rules.specs.Given.{literal_number}
-use Rattle.slice_rules.proofs.Copying.{one_back}
 use Rattle.slice_rules.proofs.Fitting.{same_place, args_are, args_not}
 use Rattle.theory.proofs.Basics.{true_T}
 
@@ -65,69 +63,64 @@ pub numbers_literal : (k : Kept) {a : Args} → KeptArguments k (Listed a) → c
 unfolding literal_bits
 numbers_literal k {a} g = ap collect (sym (each_literal k (words_of k a) (true_T _ g.below)))
 
--- a number that is literal, and one that is none
-literal : (x : ℕ) → x ≤ 1 → (b : Bool) × (literal_number x ≡ some b) × (bit b ≡ 1 - x)
-literal zero h = (true, refl, refl)
-literal (suc zero) h = (false, refl, refl)
-literal (suc (suc x)) h = absurd (omega arith)
-
-no_literal : (x : ℕ) → 1 < x → literal_number x ≡ none
-no_literal x h = ap₂ (λ (a b : Bool). cond a (some true) (cond b (some false) none)) (ne_eqb x 0 (λ e. omega arith)) (ne_eqb x 1 (λ e. omega arith))
-
 -- where one is none, there are no bits
-lost : (ks : List ℕ) (i : ℕ) → i < length ks → literal_number (get_or ks i 0) ≡ none → collect (map literal_number ks) ≡ none
-lost [] i h e = absurd (omega arith)
-lost (k ∷ ks) zero h e = ap (λ (p : Option Bool). cons_some p (collect (map literal_number ks))) e
-lost (k ∷ ks) (suc i) h e = ap (cons_some (literal_number k)) (lost ks i (omega arith) e) ∙ none_after (literal_number k)
+lost : (ls : List ℕ) (x : ℕ) (ms : List ℕ) → literal_number x ≡ none → collect (map literal_number (ls ++ x ∷ ms)) ≡ none
+lost [] x ms e = ap (λ (p : Option Bool). cons_some p (collect (map literal_number ms))) e
+lost (l ∷ ls) x ms e = ap (cons_some (literal_number l)) (lost ls x ms e) ∙ none_after (literal_number l)
   where
     none_after : (p : Option Bool) → cons_some p none ≡ none
     none_after none = refl
     none_after (some b) = refl
 
--- ---- from the last bit on: those from i on are literal, and have the value `sum`
-pub record Summing (ks : List ℕ) (sum i : ℕ) : Type 0 where
-  pub passed : i ≤ length ks
+-- ---- from the last bit on: those after the rest are literal, and have the value `sum`
+pub record Summing (ks : List ℕ) (sum : ℕ) (rest : List ℕ) : Type 0 where
+  pub done : List ℕ
+  pub whole : rest ++ done ≡ ks
   pub few : length ks ≤ 64
   pub bits : List Bool
-  pub literal_are : collect (map literal_number (drop i ks)) ≡ some bits
-  pub size : length bits + i ≡ length ks
+  pub literal_are : collect (map literal_number done) ≡ some bits
+  pub size : length bits ≡ length done
   pub value : sum ≡ to_number bits
 
-module _ {ks : List ℕ} where
-  pub sum_start : length ks ≤ 64 → Summing ks 0 (length ks)
-  sum_start h = record { passed = omega arith; few = h; bits = []; literal_are = rw (drop-length ks); size = omega arith; value = refl }
+module _ {ks rest : List ℕ} where
+  pub sum_start : rest ≡ ks → length ks ≤ 64 → Summing ks 0 rest
+  sum_start e h = record { done = []; whole = append-nil rest ∙ e; few = h; bits = []; literal_are = refl; size = refl; value = refl }
 
-  module _ {sum i : ℕ} (inv : Summing ks sum i) where
-    -- one more bit fits
-    pub sum_small : 0 < i → 2 * sum + 1 < 18446744073709551616
-    sum_small h =
-        let f = inv.few in
-        let z = inv.size in
-        let v = inv.value in
-        let l : length inv.bits ≤ 63 = omega arith in
-        let m : 2 ^ length inv.bits ≤ 9223372036854775808 = pow_mono l in
-        omega (arith, to_number_lt inv.bits)
+  module _ {sum : ℕ} (inv : Summing ks sum rest) where
+    -- the bit before those
+    module _ (x : ℕ) (others : List ℕ) (e : rest ≡ others ++ x ∷ []) where
+      next : others ++ x ∷ inv.done ≡ ks
+      next = sym (append_assoc others (x ∷ []) inv.done) ∙ ap (λ (ls : List ℕ). ls ++ inv.done) (sym e) ∙ inv.whole
 
-    module _ (h : 0 < i) {x : ℕ} (e : x ≡ get_or ks (i - 1) 0) where
-      -- bit i - 1 is literal
-      pub sum_turn : x ≤ 1 → {y : ℕ} → y ≡ 1 - x → Summing ks (2 * sum + y) (i - 1)
-      sum_turn l y_is =
-          let q = literal x l in
-          let p = inv.passed in
+      -- one more bit fits
+      pub sum_small : 2 * sum + 1 < 18446744073709551616
+      sum_small =
+          let f = inv.few in
           let z = inv.size in
           let v = inv.value in
-          let w : bit q.0 ≡ 1 - x = q.2 in
+          let l : length inv.bits ≤ 63 = omega (arith, sym (length-append others (x ∷ inv.done)), ap length next) in
+          let m : 2 ^ length inv.bits ≤ 9223372036854775808 = pow_mono l in
+          omega (arith, to_number_lt inv.bits)
+
+      pub bit_fits : (b : Bool) {y : ℕ} → y ≡ bit b → 2 * sum + y < 18446744073709551616
+      bit_fits false e = omega (arith, sum_small)
+      bit_fits true e = omega (arith, sum_small)
+
+      -- it is literal
+      pub sum_turn : {b : Bool} → literal_number x ≡ some b → {y : ℕ} → y ≡ bit b → Summing ks (2 * sum + y) others
+      sum_turn {b} f y_is =
+          let z = inv.size in
+          let v = inv.value in
           record {
-            passed = omega arith;
+            done = x ∷ inv.done;
+            whole = next;
             few = inv.few;
-            bits = q.0 ∷ inv.bits;
-            literal_are = ap (λ (js : List ℕ). collect (map literal_number js)) (one_back ks h p e) ∙ ap₂ cons_some q.1 inv.literal_are;
+            bits = b ∷ inv.bits;
+            literal_are = ap₂ cons_some f inv.literal_are;
             size = omega arith;
             value = omega arith;
           }
 
       -- it is not
-      pub sum_lost : (value : ℕ) → 1 < x → bit_not_literal ≡ value_bits value (collect (map literal_number ks))
-      sum_lost value l =
-          let p = inv.passed in
-          sym (ap (value_bits value) (lost ks (i - 1) (omega arith) (ap literal_number (sym e) ∙ no_literal x l)))
+      pub sum_lost : (value : ℕ) → literal_number x ≡ none → bit_not_literal ≡ value_bits value (collect (map literal_number ks))
+      sum_lost value f = sym (ap (value_bits value) (ap (λ (ls : List ℕ). collect (map literal_number ls)) (sym next) ∙ lost others x inv.done f))

@@ -1,9 +1,8 @@
 -- Moved bits of an array are the numbers of moved bits of terms.
 use mathlib.Core.Path.{◌≡◌, refl, sym, ◌∙◌}
 use mathlib.Core.List.{List, [], ◌∷◌, map}
-use Prim.Native.Nat.{ℕ, zero, suc, ◌<◌, ◌≤◌}
-use native.Mathlib.Omega.{arith}
-use lib.ListN.{length, get_or}
+use Prim.Native.Nat.{ℕ, zero, suc}
+use lib.ListN.{get_or}
 use Rattle.theory.specs.Move.{bits, bit_of}
 use Rattle.theory.proofs.Indexed.{bits_same, map_bits}
 

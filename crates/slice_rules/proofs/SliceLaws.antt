@@ -3,18 +3,19 @@ use mathlib.Core.Path.{◌≡◌, refl, sym, ap, ap₂, subst, ◌∙◌}
 use mathlib.Core.Bool.{Bool, ◌&&◌, not, cond}
 use mathlib.Core.List.{List, [], ◌∷◌, map}
 use Rattle.std.specs.Prelude.{Option, None as none, Some as some, Result, Ok as ok, Err as err}
-use Prim.Native.Nat.{ℕ, suc, ◌+◌, ◌<◌, ◌≤◌}
+use Prim.Native.Nat.{ℕ, suc, ◌+◌, ◌<◌}
 use native.Mathlib.Numerals.{add-one}
 use native.Mathlib.Omega.{arith}
 use borrow.Enum.Refused.{Among}
 use denote.Enum.Declared.{tag_of}
-use lib.Dec.{eqb}
-use lib.ListN.{length, drop, get_or, length-map, drop_of_length-le}
-use lib.Seq.{drop-cons}
+use lib.Dec.{T, eqb, ltb, ltb→lt}
+use lib.Ieee.Fits.{and_l, and_r}
+use lib.ListN.{length, get_or, length-map}
 use Rattle.theory.specs.Limit.{first_terms}
 use Rattle.theory.specs.Kind.{BvAnd, BvExtract, kind}
 use Rattle.theory.specs.Term.{Term, same_term}
 use Rattle.theory.specs.Optional.{either}
+use Rattle.theory.specs.Codes.{all_below}
 use Rattle.theory.specs.Verdict.{Verdict, held, wrong_form, terms_differ, index_not_next}
 use Rattle.theory.specs.Rule.{args_of, two_of, index_of, form, unary, binary, extract_kind, slice_verdict, slices_verdict, parts_verdict}
 use Rattle.terms.specs.declared.Term.{Term as Decoded}
@@ -121,33 +122,38 @@ module _ (kept : Kept) {p q : ℕ} {t u : Decoded} (s : IsTermAt kept p t) (r : 
 abbrev pub slices_in : Kept → (a c done : ℕ) → List ℕ → Verdict
 slices_in k a c done ks = slices_verdict (kept_term k a) (kept_term k c) done (map (kept_term k) ks)
 
--- what is left from i on
-pub record Slicing (k : Kept) (a c : ℕ) (ks : List ℕ) (done i : ℕ) : Type 0 where
-  pub passed : i ≤ length ks
-  pub rest : slices_in k a c (kept_width k c) ks ≡ slices_in k a c done (drop i ks)
+-- what is left of them
+pub record Slicing (k : Kept) (a c : ℕ) (ks : List ℕ) (done : ℕ) (left : List ℕ) : Type 0 where
+  pub below : T (all_below (first_terms + k.lookup.rows) left)
+  pub rest : slices_in k a c (kept_width k c) ks ≡ slices_in k a c done left
 
-module _ {k : Kept} {a c : ℕ} {ks : List ℕ} where
-  module _ {done i : ℕ} (inv : Slicing k a c ks done i) where
-    module _ (h : i < length ks) {x : ℕ} (e : x ≡ get_or ks i 0) (r : Result ℕ R.Verdict) (f : Answers r (slice_verdict done (kept_term k a) (kept_term k c) (kept_term k x))) where
-      -- the next slice
-      next : after r (λ j. slices_in k a c j (drop (suc i) ks)) ≡ slices_in k a c (kept_width k c) ks
-      unfolding slices_verdict
-      next =
-          f (λ j. slices_in k a c j (drop (suc i) ks))
-          ∙ sym (inv.rest ∙ ap (slices_in k a c done) (drop-cons ks i 0 h ∙ ap (λ (y : ℕ). y ∷ drop (suc i) ks) (sym e)))
+module _ {k : Kept} {a c : ℕ} where
+  module _ {ks : List ℕ} {done : ℕ} {left : List ℕ} (inv : Slicing k a c ks done left) where
+    module _ {x : ℕ} {others : List ℕ} (e : left ≡ x ∷ others) where
+      here : T (all_below (first_terms + k.lookup.rows) (x ∷ others))
+      here = subst (λ (ls : List ℕ). T (all_below (first_terms + k.lookup.rows) ls)) e inv.below
 
-      -- it is as it should be
-      pub slices_turn : {j : ℕ} → r ≡ ok j → Slicing k a c ks j (i + 1)
-      slices_turn {j} d = record {
-        passed = omega arith;
-        rest = sym next ∙ ap (λ (q : Result ℕ R.Verdict). after q (λ m. slices_in k a c m (drop (suc i) ks))) d ∙ ap (λ (m : ℕ). slices_in k a c j (drop m ks)) (sym (add-one i));
-      }
+      pub slice_below : x < first_terms + k.lookup.rows
+      slice_below = ltb→lt x (first_terms + k.lookup.rows) (and_l (ltb x (first_terms + k.lookup.rows)) _ here)
 
-      -- it is refused
-      pub slices_refused : {v : R.Verdict} → r ≡ err v → verdict_of v ≡ slices_in k a c (kept_width k c) ks
-      slices_refused d = sym (ap (λ (q : Result ℕ R.Verdict). after q (λ m. slices_in k a c m (drop (suc i) ks))) d) ∙ next
+      module _ (r : Result ℕ R.Verdict) (f : Answers r (slice_verdict done (kept_term k a) (kept_term k c) (kept_term k x))) where
+        -- the next slice
+        next : after r (λ j. slices_in k a c j others) ≡ slices_in k a c (kept_width k c) ks
+        unfolding slices_verdict
+        next = f (λ j. slices_in k a c j others) ∙ sym (inv.rest ∙ ap (slices_in k a c done) e)
+
+        -- it is as it should be
+        pub slices_turn : {j : ℕ} → r ≡ ok j → Slicing k a c ks j others
+        slices_turn d = record {
+          below = and_r (ltb x (first_terms + k.lookup.rows)) _ here;
+          rest = sym next ∙ ap (λ (q : Result ℕ R.Verdict). after q (λ m. slices_in k a c m others)) d;
+        }
+
+        -- it is refused
+        pub slices_refused : {v : R.Verdict} → r ≡ err v → verdict_of v ≡ slices_in k a c (kept_width k c) ks
+        slices_refused d = sym (ap (λ (q : Result ℕ R.Verdict). after q (λ m. slices_in k a c m others)) d) ∙ next
 
     -- none is left
-    pub slices_end : length ks ≤ i → held ≡ slices_in k a c (kept_width k c) ks
+    pub slices_end : left ≡ [] → held ≡ slices_in k a c (kept_width k c) ks
     unfolding slices_verdict
-    slices_end h = sym (inv.rest ∙ ap (slices_in k a c done) (drop_of_length-le ks h))
+    slices_end e = sym (inv.rest ∙ ap (slices_in k a c done) e)

@@ -6,7 +6,7 @@ use Rattle.theory.specs.Bits.{get_term_bits, bb, moved_bits}
 use Rattle.theory.specs.Verdict.{Verdict, held}
 use Rattle.theory.specs.Rule.{compare}
 use Rattle.theory.specs.Move as M
-use Rattle.slice_rules.specs.declared.moves.Move.{Move}
+use Rattle.slice_rules.specs.declared.movement.Move.{Move}
 
 -- the move that the code's stands for
 abbrev pub move_of : Move → M.Move

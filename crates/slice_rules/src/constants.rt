@@ -1,17 +1,28 @@
 // The rule value.
-ghost use Rattle.std.specs.Prelude.{◌≡◌, map, ◌+◌, ◌<◌};
-ghost use Rattle.theory.specs.Limit.{first_terms};
+ghost use Rattle.std.specs.Prelude.{◌≡◌, map};
 ghost use Rattle.theory.specs.Optional.{collect};
 ghost use Rattle.theory.specs.RuleTable.{by_value};
 ghost use Rattle.theory.specs.Rule.{value_bits, verdict};
 ghost use Rattle.terms.specs.Decoded.{Inside, words_in};
-ghost use Rattle.store.specs.Kept.{kept_term};
+ghost use Rattle.operand_rules.specs.Literal.{literal_term};
 ghost use Rattle.operand_rules.specs.Rules.{verdict_of};
 ghost use Rattle.slice_rules.specs.Given.{literal_number};
 
 use operand_rules::Verdict;
-use store::gates::{FALSE, Kept};
+use operand_rules::literal::Literal;
+use store::gates::{FALSE, TRUE};
 use terms::{Args, Term};
+
+// The bit that a term is literally.
+fn literal_bit(place: u32) -> Option<bool>
+    ensures { result ≡ literal_number place }
+{
+    match place {
+        TRUE => Some(true),
+        FALSE => Some(false),
+        _ => None,
+    }
+}
 
 // Each bit is literally `true` or `false`, and they have this value.
 fn value_check(job: &[u8], list: Args, value: u64) -> Verdict
@@ -20,13 +31,11 @@ fn value_check(job: &[u8], list: Args, value: u64) -> Verdict
         ≡ value_bits value (collect (map literal_number (words_in job.now list))) }
 {
     let mut sum: u64 = 0;
-    for i in (0..list.count).rev() {
-        let x = Term::argument(job, list, i);
-        if FALSE < x {
+    for x in list.numbers(job).rev() {
+        let Some(bit) = literal_bit(x) else {
             return Verdict::BitNotLiteral;
-        }
-        // `true` is term 0, and `false` term 1.
-        sum = 2 * sum + u64::from(FALSE - x);
+        };
+        sum = 2 * sum + u64::from(bit);
     }
     if value == sum {
         Verdict::Held
@@ -36,11 +45,11 @@ fn value_check(job: &[u8], list: Args, value: u64) -> Verdict
 }
 
 // value: (= c (bbterm ..)), c a constant.
-pub fn value(kept: &Kept, literal: u32) -> Verdict
-    requires { literal < first_terms + kept.now.lookup.rows }
-    ensures { verdict_of result ≡ verdict by_value (kept_term kept.now literal) }
+pub fn value(literal: &Literal) -> Verdict
+    ensures { verdict_of result ≡ verdict by_value (literal_term literal.now) }
 {
-    let Term::Equals(l, r) = kept.term_at(literal) else {
+    let kept = &literal.kept;
+    let Term::Equals(l, r) = kept.term_at(literal.place) else {
         return Verdict::WrongForm;
     };
     let Term::BvBbTerm(bits) = kept.term_at(r) else {

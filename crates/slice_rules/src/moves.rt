@@ -1,71 +1,23 @@
 // The rules zero_extend, rotate_left, rotate_right and repeat: bits that are moved, and no gates.
-ghost use Rattle.std.specs.Prelude.{◌≡◌, ◌+◌, ◌%◌, ◌<◌, ◌≤◌, refl};
+ghost use Rattle.std.specs.Prelude.{◌≡◌, refl};
 ghost use lib.Ieee.Fits.{and_l};
-ghost use Rattle.theory.specs.Limit.{first_terms, max_width};
 ghost use Rattle.theory.specs.Kind as K;
 ghost use Rattle.theory.specs.Sort.{is_bv_sort};
-ghost use Rattle.theory.specs.Move.{bits, bit_of};
 ghost use Rattle.theory.specs.Move.{zero_extension, left_rotation, right_rotation, repetition};
-ghost use Rattle.theory.specs.Bits.{bb, moved_bits};
-ghost use Rattle.theory.specs.Verdict.{held};
 ghost use Rattle.theory.specs.RuleTable.{by_zero_extend, by_repeat};
 ghost use Rattle.theory.specs.RuleTable.{by_rotate_left, by_rotate_right};
-ghost use Rattle.theory.specs.Rule.{compare, verdict};
-ghost use Rattle.store.specs.Numbers.{false_number};
-ghost use Rattle.store.specs.Kept.{kept_term, kept_bits};
-ghost use Rattle.operand_rules.specs.Rules.{Operand, verdict_of};
-ghost use Rattle.slice_rules.specs.Moves.{move_of, moving};
+ghost use Rattle.theory.specs.Rule.{verdict};
+ghost use Rattle.operand_rules.specs.Literal.{literal_term};
+ghost use Rattle.operand_rules.specs.Rules.{verdict_of};
+ghost use Rattle.slice_rules.specs.Moves.{moving};
 
-use circuits::bits::Bits;
+use crate::movement::{Move, moved_check};
 use operand_rules::Verdict;
-use operand_rules::bits::{compare_bits, get_term_bits, width_at};
+use operand_rules::bits::width_at;
+use operand_rules::literal::Literal;
 use operand_rules::operation::{Unary, unary_rule};
-use store::gates::{FALSE, Kept};
+use store::gates::Kept;
 use terms::Term;
-
-// Bit i of x, `false` where x has ended.
-fn bit_at(x: &Bits, i: usize) -> u32
-    ensures { result ≡ bit_of false_number x.now.items i }
-{
-    x.as_slice().get(i).copied().unwrap_or(FALSE)
-}
-
-// How bits are moved: of `size` bits, bit j is bit (j + shift) modulo `cycle` of the operand's.
-#[derive(Clone, Copy)]
-struct Move {
-    size: usize,
-    shift: usize,
-    cycle: usize,
-}
-
-// The bits of x moved: `false` comes from where x has ended.
-fn moved(x: &Bits, by: Move) -> Bits
-    requires size { by.size ≤ max_width }
-    requires shift { by.shift ≤ max_width }
-    requires cycle { 1 ≤ by.cycle }
-    ensures { result.items
-        ≡ bits by.size (λ j. bit_of false_number x.now.items ((j + by.shift) % by.cycle)) }
-{
-    let mut out = Bits::new();
-    for j in 0..by.size {
-        out.push(bit_at(x, (j + by.shift) % by.cycle));
-    }
-    out
-}
-
-// The claim is the term of x's bits moved.
-fn moved_check(kept: &Kept, x: u32, w: usize, by: Move, claim: u32) -> Verdict
-    requires operand { Operand kept.now x w }
-    requires claim { claim < first_terms + kept.now.lookup.rows }
-    requires size { by.size ≤ max_width }
-    requires shift { by.shift ≤ max_width }
-    requires cycle { 1 ≤ by.cycle }
-    ensures { verdict_of result ≡ compare held
-        (bb (moved_bits (move_of by) (kept_bits kept.now x))) (kept_term kept.now claim) }
-{
-    let bits = moved(&get_term_bits(kept, x, w), by);
-    compare_bits(&kept.lookup, &bits, claim)
-}
 
 // So many zeros above the operand's bits.
 #[derive(Clone, Copy)]
@@ -104,11 +56,10 @@ impl Unary for ZeroExtension {
 }
 
 // zero_extend: (= ((_ zero_extend k) x) claim).
-pub fn zero_extend(kept: &Kept, literal: u32) -> Verdict
-    requires { literal < first_terms + kept.now.lookup.rows }
-    ensures { verdict_of result ≡ verdict by_zero_extend (kept_term kept.now literal) }
+pub fn zero_extend(literal: &Literal) -> Verdict
+    ensures { verdict_of result ≡ verdict by_zero_extend (literal_term literal.now) }
 {
-    unary_rule::<ZeroExtension>(kept, literal)
+    unary_rule::<ZeroExtension>(literal)
 }
 
 // The operand's bits so many places up, the top ones coming in below.
@@ -148,11 +99,10 @@ impl Unary for LeftRotation {
 }
 
 // rotate_left: (= ((_ rotate_left k) x) claim).
-pub fn rotate_left(kept: &Kept, literal: u32) -> Verdict
-    requires { literal < first_terms + kept.now.lookup.rows }
-    ensures { verdict_of result ≡ verdict by_rotate_left (kept_term kept.now literal) }
+pub fn rotate_left(literal: &Literal) -> Verdict
+    ensures { verdict_of result ≡ verdict by_rotate_left (literal_term literal.now) }
 {
-    unary_rule::<LeftRotation>(kept, literal)
+    unary_rule::<LeftRotation>(literal)
 }
 
 // The operand's bits so many places down, the low ones coming in above.
@@ -192,11 +142,10 @@ impl Unary for RightRotation {
 }
 
 // rotate_right: (= ((_ rotate_right k) x) claim).
-pub fn rotate_right(kept: &Kept, literal: u32) -> Verdict
-    requires { literal < first_terms + kept.now.lookup.rows }
-    ensures { verdict_of result ≡ verdict by_rotate_right (kept_term kept.now literal) }
+pub fn rotate_right(literal: &Literal) -> Verdict
+    ensures { verdict_of result ≡ verdict by_rotate_right (literal_term literal.now) }
 {
-    unary_rule::<RightRotation>(kept, literal)
+    unary_rule::<RightRotation>(literal)
 }
 
 // So many copies of the operand's bits.
@@ -236,9 +185,8 @@ impl Unary for Repetition {
 }
 
 // repeat: (= ((_ repeat k) x) claim).
-pub fn repeat(kept: &Kept, literal: u32) -> Verdict
-    requires { literal < first_terms + kept.now.lookup.rows }
-    ensures { verdict_of result ≡ verdict by_repeat (kept_term kept.now literal) }
+pub fn repeat(literal: &Literal) -> Verdict
+    ensures { verdict_of result ≡ verdict by_repeat (literal_term literal.now) }
 {
-    unary_rule::<Repetition>(kept, literal)
+    unary_rule::<Repetition>(literal)
 }

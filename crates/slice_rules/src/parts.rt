@@ -1,7 +1,6 @@
 // The rules extract, sign_extend and concat: bits that are copied, and no gates.
-ghost use Rattle.std.specs.Prelude.{◌≡◌, cond, ◌+◌, ◌<◌, eqb, refl};
+ghost use Rattle.std.specs.Prelude.{◌≡◌, cond, ◌+◌, eqb, refl};
 ghost use lib.Ieee.Fits.{and_l};
-ghost use Rattle.theory.specs.Limit.{first_terms};
 ghost use Rattle.theory.specs.Kind as K;
 ghost use Rattle.theory.specs.Sort.{is_bv_sort};
 ghost use Rattle.theory.specs.Bits.{get_term_bits, bb, extract_bits, concat_bits, extend_bits};
@@ -9,18 +8,20 @@ ghost use Rattle.theory.specs.Verdict.{held};
 ghost use Rattle.theory.specs.RuleTable.{by_extract, by_concat, by_sign_extend};
 ghost use Rattle.theory.specs.Rule.{args_of, extend_kind, extract_kind, form, compare, verdict};
 ghost use Rattle.store.specs.Kept.{kept_term, kept_arguments};
+ghost use Rattle.operand_rules.specs.Literal.{literal_term};
 ghost use Rattle.operand_rules.specs.Rules.{verdict_of};
 ghost use Rattle.slice_rules.specs.Given.{Concat};
 
 use circuits::bits::{Bits, append, same_bits};
 use operand_rules::Verdict;
 use operand_rules::bits::{compare_bits, get_term_bits, width_at};
+use operand_rules::literal::Literal;
 use operand_rules::operation::{Unary, unary_rule};
 use store::gates::Kept;
 use terms::{Args, Term};
 
 // The operand's bits `lower` to `upper`.
-#[derive(Clone, Copy)]
+#[derive(Clone, Copy, PartialEq)]
 pub(crate) struct Extraction {
     pub(crate) upper: u32,
     pub(crate) lower: u32,
@@ -57,11 +58,10 @@ impl Unary for Extraction {
 }
 
 // extract: (= ((_ extract i j) x) claim), the claim a BvBbTerm.
-pub fn extract(kept: &Kept, literal: u32) -> Verdict
-    requires { literal < first_terms + kept.now.lookup.rows }
-    ensures { verdict_of result ≡ verdict by_extract (kept_term kept.now literal) }
+pub fn extract(literal: &Literal) -> Verdict
+    ensures { verdict_of result ≡ verdict by_extract (literal_term literal.now) }
 {
-    unary_rule::<Extraction>(kept, literal)
+    unary_rule::<Extraction>(literal)
 }
 
 // So many copies of the operand's top bit above its bits.
@@ -103,11 +103,10 @@ impl Unary for SignExtension {
 }
 
 // sign_extend: (= ((_ sign_extend k) x) claim).
-pub fn sign_extend(kept: &Kept, literal: u32) -> Verdict
-    requires { literal < first_terms + kept.now.lookup.rows }
-    ensures { verdict_of result ≡ verdict by_sign_extend (kept_term kept.now literal) }
+pub fn sign_extend(literal: &Literal) -> Verdict
+    ensures { verdict_of result ≡ verdict by_sign_extend (literal_term literal.now) }
 {
-    unary_rule::<SignExtension>(kept, literal)
+    unary_rule::<SignExtension>(literal)
 }
 
 // The claim is the term of all arguments' bits, the last argument's first.
@@ -117,19 +116,18 @@ fn concat_check(kept: &Kept, list: Args, claim: u32) -> Verdict
         (bb (concat_bits (kept_arguments kept.now list))) (kept_term kept.now claim) }
 {
     let mut bits = Bits::new();
-    for i in (0..list.count).rev() {
-        let x = Term::argument(kept.lookup.job, list, i);
+    for x in list.numbers(kept.lookup.job).rev() {
         append(&mut bits, &get_term_bits(kept, x, width_at(kept, x)));
     }
     compare_bits(&kept.lookup, &bits, claim)
 }
 
 // concat: (= (concat x y ..) claim), the claim a BvBbTerm.
-pub fn concat(kept: &Kept, literal: u32) -> Verdict
-    requires { literal < first_terms + kept.now.lookup.rows }
-    ensures { verdict_of result ≡ verdict by_concat (kept_term kept.now literal) }
+pub fn concat(literal: &Literal) -> Verdict
+    ensures { verdict_of result ≡ verdict by_concat (literal_term literal.now) }
 {
-    let Term::Equals(l, r) = kept.term_at(literal) else {
+    let kept = &literal.kept;
+    let Term::Equals(l, r) = kept.term_at(literal.place) else {
         return Verdict::WrongForm;
     };
     let Term::BvConcat(list) = kept.term_at(l) else {

@@ -5,11 +5,13 @@ ghost use Rattle.theory.specs.RuleTable.{by_bitwise_slicing};
 ghost use Rattle.theory.specs.Rule.{slice_verdict, slices_verdict, verdict};
 ghost use Rattle.terms.specs.declared.Operands.TheVariants.{List as Listed};
 ghost use Rattle.store.specs.Kept.{KeptArguments, kept_term, kept_width, kept_arguments};
+ghost use Rattle.operand_rules.specs.Literal.{literal_term};
 ghost use Rattle.operand_rules.specs.Rules.{verdict_of};
 ghost use Rattle.slice_rules.specs.Slices.{Conjunction, number_tests, Answers};
 
 use crate::parts::Extraction;
 use operand_rules::Verdict;
+use operand_rules::literal::Literal;
 use operand_rules::operation::Unary;
 use store::gates::Kept;
 use store::sorts::width_of;
@@ -44,10 +46,7 @@ fn slice_check(
 ) -> Result<u32, Verdict>
     ensures { Answers result (number_tests a c done left x right y) }
 {
-    if left.upper != right.upper {
-        return Err(Verdict::WrongForm);
-    }
-    if left.lower != right.lower {
+    if left != right {
         return Err(Verdict::WrongForm);
     }
     if left.upper as usize + 1 != done {
@@ -91,8 +90,7 @@ fn slices_check(kept: &Kept, a: u32, c: u32, list: Args) -> Verdict
         (kept_width kept.now c) (kept_arguments kept.now list) }
 {
     let mut done = width_of(kept.sort_at(c)) as usize;
-    for i in 0..list.count {
-        let x = Term::argument(kept.lookup.job, list, i);
+    for x in list.numbers(kept.lookup.job) {
         match next_slice(kept, a, c, done, x) {
             Ok(low) => {
                 done = low as usize;
@@ -106,11 +104,11 @@ fn slices_check(kept: &Kept, a: u32, c: u32, list: Args) -> Verdict
 }
 
 // bitwise_slicing: (= (bvand a c) (concat (bvand ((_ extract i j) a) ((_ extract i j) c)) ..)).
-pub fn bitwise_slicing(kept: &Kept, literal: u32) -> Verdict
-    requires { literal < first_terms + kept.now.lookup.rows }
-    ensures { verdict_of result ≡ verdict by_bitwise_slicing (kept_term kept.now literal) }
+pub fn bitwise_slicing(literal: &Literal) -> Verdict
+    ensures { verdict_of result ≡ verdict by_bitwise_slicing (literal_term literal.now) }
 {
-    let Term::Equals(l, r) = kept.term_at(literal) else {
+    let kept = &literal.kept;
+    let Term::Equals(l, r) = kept.term_at(literal.place) else {
         return Verdict::WrongForm;
     };
     let Some((a, c)) = and_pair(kept, l) else {

@@ -14,8 +14,8 @@ returns-in_default-arguments g c = of_sides c.term_at.ensures c.in-Equals.is _ (
 
 pub folded_check-requires : goal.folded_check-requires
 folded_check-requires g c = let list = c.arguments.ensures.list _ c.in-Some.is in
-    let b = sides_below c.term_at.ensures c.in-Equals.is c.requires in
-    many_given g.O.Operation.kind g.met.O.Operation.takes g.met.O.Operation.asks c.args.kept.now c.term_at-2.ensures b.0 _ list.0 list.1 b.1
+    let b = sides_below c.term_at.ensures c.in-Equals.is c.args.literal.now.below in
+    many_given g.O.Operation.kind g.met.O.Operation.takes g.met.O.Operation.asks c.args.literal.now.kept c.term_at-2.ensures b.0 _ list.0 list.1 b.1
 
 pub returns : goal.returns
 returns g c = let list = c.arguments.ensures.list _ c.in-Some.is in

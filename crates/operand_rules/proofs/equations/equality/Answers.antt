@@ -15,8 +15,8 @@ unfolding on_sides
 returns-in_default-term_at c = no_case c.term_at-2.ensures 9 (search rules) tt _ ∙ sides c.term_at.ensures by_equality c.in-Equals.is
 
 pub equality_check-requires : goal.equality_check-requires
-equality_check-requires c = let b = sides_below c.term_at.ensures c.in-Equals.is c.requires in
-    same_given c.args.kept.now c.term_at-2.ensures b.0 _ _ _ (ap op_of c.in-Equals-term_at.is) (ap operands_of c.in-Equals-term_at.is) b.1
+equality_check-requires c = let b = sides_below c.term_at.ensures c.in-Equals.is c.args.literal.now.below in
+    same_given c.args.literal.now.kept c.term_at-2.ensures b.0 _ _ _ (ap op_of c.in-Equals-term_at.is) (ap operands_of c.in-Equals-term_at.is) b.1
 
 pub returns : goal.returns
 unfolding on_sides

@@ -12,8 +12,8 @@ returns-in_default-operands g c = of_sides c.term_at.ensures c.in-Equals.is _ (n
 
 pub check-requires : goal.check-requires
 check-requires g c = let two = c.operands.ensures.two _ _ c.in-Some.is in
-    let b = sides_below c.term_at.ensures c.in-Equals.is c.requires in
-    two_given c.args.kept.now c.term_at-2.ensures b.0 g.B.Binary.kind g.met.B.Binary.asks _ _ _ two.0 two.1 b.1
+    let b = sides_below c.term_at.ensures c.in-Equals.is c.args.literal.now.below in
+    two_given c.args.literal.now.kept c.term_at-2.ensures b.0 g.B.Binary.kind g.met.B.Binary.asks _ _ _ two.0 two.1 b.1
 
 pub returns : goal.returns
 returns g c = let two = c.operands.ensures.two _ _ c.in-Some.is in

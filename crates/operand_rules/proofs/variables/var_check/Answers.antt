@@ -1,4 +1,3 @@
-use Rattle.theory.specs.Bits.{get_term_bits}
 use Rattle.theory.specs.Verdict.{held}
 use Rattle.operand_rules.proofs.Numbers.{bits_end}
 use Rattle.operand_rules.proofs.Sorts.{operand_told, is_bits}

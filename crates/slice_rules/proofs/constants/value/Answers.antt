@@ -29,9 +29,9 @@ pub returns : goal.returns
 unfolding on_sides
 returns c = let a = c.args in
     let d = ap operands_of c.in-BvBbTerm.is in
-    let below = (sides_below c.term_at.ensures c.in-Equals.is c.requires).1 in
+    let below = (sides_below c.term_at.ensures c.in-Equals.is c.args.literal.now.below).1 in
     c.value_check.ensures
-    ∙ ap (value_bits _) (numbers_literal c.args.kept.now (list_given c.args.kept.now c.term_at-2.ensures below _ d))
-    ∙ constant_form c.term_at-3.ensures _ _ (ap op_of c.in-Const.is) (ap operands_of c.in-Const.is) (λ x. value_bits x (literal_bits (map (kept_term a.kept.now) (words_in a.kept.now.lookup.job.now c.in-BvBbTerm.bits))))
+    ∙ ap (value_bits _) (numbers_literal c.args.literal.now.kept (list_given c.args.literal.now.kept c.term_at-2.ensures below _ d))
+    ∙ constant_form c.term_at-3.ensures _ _ (ap op_of c.in-Const.is) (ap operands_of c.in-Const.is) (λ x. value_bits x (literal_bits (map (kept_term a.literal.now.kept) (words_in a.literal.now.kept.lookup.job.now c.in-BvBbTerm.bits))))
     ∙ sym (args_form c.term_at-2.ensures BvBbTerm (Listed _) (ap op_of c.in-BvBbTerm.is) d _)
     ∙ sides c.term_at.ensures by_value c.in-Equals.is

@@ -1,26 +1,24 @@
-use borrow.Author.Rules.{rules}
-use mathlib.Core.Path.{subst}
-use Prim.Native.Nat.{ℕ, ◌+◌, ◌-◌, ◌*◌, ◌<◌}
+use mathlib.Core.Path.{sym, ap, ◌∙◌}
 use native.Mathlib.Omega.{arith}
-use Rattle.terms.specs.declared.Operands.TheVariants.{List as Listed}
-use Rattle.terms.specs.Decoded.{words_in}
-use Rattle.store.proofs.Arguments.{count_length}
-use Rattle.slice_rules.proofs.Literals.{Summing, sum_start, sum_small, sum_turn, sum_lost}
+use Rattle.std.specs.Iterator.Adapters.{rev_source}
+use Rattle.terms.specs.Numbers.{numbers_left}
+use Rattle.terms.proofs.Lists.{words_few}
+use Rattle.slice_rules.proofs.Literals.{sum_start, sum_small, bit_fits, sum_turn, sum_lost}
 use Rattle.slice_rules.proofs.constants.value_check.Goals as goal
 
-pub loop-i-init : goal.loop-i-init
-loop-i-init c = let a = c.args in
-    let l = count_length a.job.now (Listed a.list) in
-    subst (λ (i : ℕ). Summing (words_in a.job.now a.list) 0 i) l (sum_start (omega (arith, c.requires.few)))
+pub loop-x-init : goal.loop-x-init
+loop-x-init c = sum_start
+    (ap (λ i. numbers_left (rev_source i)) c.into_iter-x-iterator.ensures.into_iter_gives ∙ ap numbers_left c.rev-x-items.ensures.source ∙ c.numbers.ensures)
+    (words_few c.args.job.now c.args.list c.requires)
 
-pub returns-then-x-gt-FALSE : goal.returns-then-x-gt-FALSE
-returns-then-x-gt-FALSE c = sum_lost c.loop-i.invariant c.loop-i-test.true c.argument-x.ensures _ c.if-x-gt-FALSE.true
+pub returns-in_default : goal.returns-in_default
+returns-in_default c = sum_lost c.loop-x.invariant _ _ c.in-Some.ensures.steps _ (sym c.literal_bit.ensures ∙ c.in_default.is)
 
 pub overflow_mul-sum : goal.overflow_mul-sum
-overflow_mul-sum c = omega (arith, (let small_here : 2 * c.loop-i.sum + 1 < 18446744073709551616 = sum_small c.loop-i.invariant c.loop-i-test.true in small_here))
+overflow_mul-sum c = omega (arith, sum_small c.loop-x.invariant _ _ c.in-Some.ensures.steps)
 
 pub overflow_add-sum : goal.overflow_add-sum
-overflow_add-sum c = omega (arith, (let small_here : 2 * c.loop-i.sum + 1 < 18446744073709551616 = sum_small c.loop-i.invariant c.loop-i-test.true in small_here))
+overflow_add-sum c = omega (arith, bit_fits c.loop-x.invariant _ _ c.in-Some.ensures.steps _ c.from.ensures)
 
-pub loop-i-preserved : goal.loop-i-preserved
-loop-i-preserved c = sum_turn c.loop-i.invariant c.loop-i-test.true c.argument-x.ensures (search rules) c.from.ensures
+pub loop-x-preserved : goal.loop-x-preserved
+loop-x-preserved c = sum_turn c.loop-x.invariant _ _ c.in-Some.ensures.steps (sym c.literal_bit.ensures ∙ c.in-Some-literal_bit.is) c.from.ensures

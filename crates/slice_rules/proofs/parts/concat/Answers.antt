@@ -23,8 +23,8 @@ returns-in_default-term_at-2 c = no_case c.term_at-3.ensures 12 (search rules) t
     ∙ sides c.term_at.ensures by_concat c.in-Equals.is
 
 pub concat_check-requires : goal.concat_check-requires
-concat_check-requires c = let b = sides_below c.term_at.ensures c.in-Equals.is c.requires in
-    concat_given c.args.kept.now c.term_at-2.ensures b.0 _ _ (ap op_of c.in-BvConcat.is) (ap operands_of c.in-BvConcat.is) b.1
+concat_check-requires c = let b = sides_below c.term_at.ensures c.in-Equals.is c.args.literal.now.below in
+    concat_given c.args.literal.now.kept c.term_at-2.ensures b.0 _ _ (ap op_of c.in-BvConcat.is) (ap operands_of c.in-BvConcat.is) b.1
 
 pub returns : goal.returns
 unfolding on_sides

@@ -1,37 +1,35 @@
-use borrow.Author.Rules.{rules}
-use mathlib.Core.Path.{subst, ◌∙◌}
-use Prim.Native.Nat.{ℕ, ◌-◌}
-use native.Mathlib.Omega.{arith}
+use mathlib.Core.Path.{refl, ap, ◌∙◌}
 use Rattle.theory.specs.Bits.{concat_bits}
 use Rattle.theory.specs.Verdict.{held}
-use Rattle.terms.specs.declared.Operands.TheVariants.{List as Listed}
-use Rattle.store.proofs.Arguments.{count_length}
+use Rattle.std.specs.Iterator.Adapters.{rev_source}
+use Rattle.terms.specs.Numbers.{numbers_left}
 use Rattle.operand_rules.proofs.Numbers.{operand_as, bits_end, bits_length}
-use Rattle.store.specs.Kept.{kept_arguments, words_of}
-use Rattle.slice_rules.proofs.Copying.{Joining, argument_operand, join_start, join_fits, join_turn, join_end}
+use Rattle.store.specs.Kept.{kept_arguments}
+use Rattle.slice_rules.proofs.Copying.{join_start, join_operand, join_fits, join_turn, join_end}
 use Rattle.slice_rules.proofs.parts.concat_check.Goals as goal
 
-pub loop-i-init : goal.loop-i-init
-loop-i-init c = let k = c.args.kept.now in
-    subst (λ (i : ℕ). Joining k (words_of k c.args.list) c.new-bits.result.items i) (count_length k.lookup.job.now (Listed c.args.list)) (join_start c.new-bits.ensures)
+pub loop-x-init : goal.loop-x-init
+loop-x-init c = join_start
+    (ap (λ i. numbers_left (rev_source i)) c.into_iter-x-iterator.ensures.into_iter_gives ∙ ap numbers_left c.rev-x-items.ensures.source ∙ c.numbers.ensures)
+    c.new-bits.ensures
 
 pub width_at-requires : goal.width_at-requires
-width_at-requires c = argument_operand c.requires (c.loop-i.i - 1) (omega (arith, c.loop-i-test.true, c.loop-i.auto.i)) c.argument-x.ensures
+width_at-requires c = join_operand c.loop-x.invariant _ _ c.in-Some.ensures.steps c.requires refl
 
 pub get_term_bits-requires : goal.get_term_bits-requires
-get_term_bits-requires c = operand_as (argument_operand c.requires (c.loop-i.i - 1) (omega (arith, c.loop-i-test.true, c.loop-i.auto.i)) c.argument-x.ensures) c.width_at.ensures.value
+get_term_bits-requires c = operand_as (join_operand c.loop-x.invariant _ _ c.in-Some.ensures.steps c.requires refl) c.width_at.ensures.value
 
 pub append-requires : goal.append-requires
 append-requires c =
-    let o = argument_operand c.requires (c.loop-i.i - 1) (omega (arith, c.loop-i-test.true, c.loop-i.auto.i)) c.argument-x.ensures in
-    record { room = join_fits c.loop-i.invariant c.loop-i-test.true c.argument-x.ensures c.deref.result.now (bits_length o (c.deref.ensures.0 ∙ c.get_term_bits.ensures)) c.requires.fits }
+    let o = join_operand c.loop-x.invariant _ _ c.in-Some.ensures.steps c.requires refl in
+    record { room = join_fits c.loop-x.invariant _ _ c.in-Some.ensures.steps c.deref.result.now (bits_length o (c.deref.ensures.0 ∙ c.get_term_bits.ensures)) c.requires.fits }
 
-pub loop-i-preserved : goal.loop-i-preserved
-loop-i-preserved c =
-    let o = argument_operand c.requires (c.loop-i.i - 1) (omega (arith, c.loop-i-test.true, c.loop-i.auto.i)) c.argument-x.ensures in
+pub loop-x-preserved : goal.loop-x-preserved
+loop-x-preserved c =
+    let o = join_operand c.loop-x.invariant _ _ c.in-Some.ensures.steps c.requires refl in
     let e = c.deref.ensures.0 ∙ c.get_term_bits.ensures in
-    join_turn c.loop-i.invariant c.loop-i-test.true c.argument-x.ensures c.deref.result.now (bits_length o e) e c.append.ensures
+    join_turn c.loop-x.invariant _ _ c.in-Some.ensures.steps c.deref.result.now (bits_length o e) e c.append.ensures
 
 pub returns : goal.returns
-returns c = let k = c.args.kept.now in
-    bits_end held k c.requires.claimed (concat_bits (kept_arguments k c.args.list)) (join_end c.loop-i.invariant (search rules)) c.compare_bits.ensures
+returns c =
+    bits_end held c.args.kept.now c.requires.claimed (concat_bits (kept_arguments c.args.kept.now c.args.list)) (join_end c.loop-x.invariant c.in-None.ensures.steps.0) c.compare_bits.ensures

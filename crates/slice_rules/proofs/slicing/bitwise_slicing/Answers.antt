@@ -22,18 +22,18 @@ returns-in_default-and_pair c = no_pair c.and_pair.ensures c.in_default-and_pair
 pub returns-in_default-term_at : goal.returns-in_default-term_at
 unfolding on_sides
 returns-in_default-term_at c = let a = c.args in
-    let claim = kept_term a.kept.now c.in-Equals.r in
+    let claim = kept_term a.literal.now.kept c.in-Equals.r in
     no_case c.term_at-2.ensures 29 (search rules) tt _
     ∙ pair_form c.and_pair.ensures c.in-Some.is (λ u v. form (args_of (kind BvConcat) claim) (slices_verdict u v (sort_width (sort_of v))))
     ∙ sides c.term_at.ensures by_bitwise_slicing c.in-Equals.is
 
 pub slices_check-requires-clause-arguments : goal.slices_check-requires-clause-arguments
-slices_check-requires-clause-arguments c = list_given c.args.kept.now c.term_at-2.ensures (sides_below c.term_at.ensures c.in-Equals.is c.requires).1 _ (ap operands_of c.in-BvConcat.is)
+slices_check-requires-clause-arguments c = list_given c.args.literal.now.kept c.term_at-2.ensures (sides_below c.term_at.ensures c.in-Equals.is c.args.literal.now.below).1 _ (ap operands_of c.in-BvConcat.is)
 
 pub returns : goal.returns
 unfolding on_sides
 returns c = let a = c.args in
-    let claim = kept_term a.kept.now c.in-Equals.r in
+    let claim = kept_term a.literal.now.kept c.in-Equals.r in
     c.slices_check.ensures
     ∙ sym (args_form c.term_at-2.ensures BvConcat (Listed _) (ap op_of c.in-BvConcat.is) (ap operands_of c.in-BvConcat.is) _)
     ∙ pair_form c.and_pair.ensures c.in-Some.is (λ u v. form (args_of (kind BvConcat) claim) (slices_verdict u v (sort_width (sort_of v))))

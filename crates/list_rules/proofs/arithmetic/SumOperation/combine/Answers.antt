@@ -8,7 +8,7 @@ use Rattle.store.specs.Lookup.{gates}
 use Rattle.store.specs.Kept.{kept_number}
 use Rattle.operand_rules.proofs.Numbers.{store_hom}
 use Rattle.list_rules.proofs.Lengths.{adder_shorter}
-use Rattle.list_rules.proofs.SumOperation.combine.Goals as goal
+use Rattle.list_rules.proofs.arithmetic.SumOperation.combine.Goals as goal
 
 pub returns : goal.returns
 returns c = let k = c.args.kept.now in

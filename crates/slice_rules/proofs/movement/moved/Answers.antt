@@ -2,7 +2,7 @@ use mathlib.Core.Path.{◌∙◌}
 use native.Mathlib.Numerals.{add-one}
 use native.Mathlib.Omega.{arith}
 use Rattle.circuits.proofs.AppendLaws.{bits_snoc}
-use Rattle.slice_rules.proofs.moves.moved.Goals as goal
+use Rattle.slice_rules.proofs.movement.moved.Goals as goal
 
 pub loop-j-preserved : goal.loop-j-preserved
 loop-j-preserved c = let inv = c.loop-j.invariant in

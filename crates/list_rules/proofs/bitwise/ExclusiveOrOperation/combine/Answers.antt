@@ -3,7 +3,7 @@ use Rattle.theory.specs.Circuit.{zip_with}
 use Rattle.theory.proofs.Natural.{zip_with_hom}
 use Rattle.operand_rules.proofs.Numbers.{store_hom}
 use Rattle.list_rules.proofs.Lengths.{zip_shorter}
-use Rattle.list_rules.proofs.ExclusiveOrOperation.combine.Goals as goal
+use Rattle.list_rules.proofs.bitwise.ExclusiveOrOperation.combine.Goals as goal
 
 pub returns : goal.returns
 returns c = let h = store_hom c.args.kept.now in

@@ -3,7 +3,7 @@ use Rattle.theory.specs.Circuit.{shift_add_multiplier}
 use Rattle.theory.proofs.Multiplier.{multiplier_hom}
 use Rattle.operand_rules.proofs.Numbers.{store_hom}
 use Rattle.list_rules.proofs.Lengths.{multiplier_shorter}
-use Rattle.list_rules.proofs.ProductOperation.combine.Goals as goal
+use Rattle.list_rules.proofs.arithmetic.ProductOperation.combine.Goals as goal
 
 pub returns : goal.returns
 returns c = record {

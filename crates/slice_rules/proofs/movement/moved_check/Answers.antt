@@ -8,7 +8,7 @@ use Rattle.operand_rules.proofs.Numbers.{store_hom, bits_end}
 use Rattle.store.specs.Kept.{kept_term, kept_number}
 use Rattle.slice_rules.specs.Moves.{move_of}
 use Rattle.slice_rules.proofs.Moving.{moved_numbers}
-use Rattle.slice_rules.proofs.moves.moved_check.Goals as goal
+use Rattle.slice_rules.proofs.movement.moved_check.Goals as goal
 
 pub returns : goal.returns
 returns c = let a = c.args in
