@@ -23,6 +23,7 @@ pub struct Known {
 // 1, or 2 for a bit that is not known; `inputs` has one for each bit of the variables that stand in
 // the term, the lowest number first. If the job stops early, the code is that of
 // `Refusal::NotAsked`.
+#[tactic(auto, using(crate::proofs::AskingLaws::lent_outcome))]
 pub fn bb_known(
     job: &[u8],
     work: &mut [u8],

@@ -38,7 +38,7 @@ impl Swept {
                 outcome,
             },
             Err(refusal) => Swept {
-                code: refusal.number(),
+                code: u32::from(refusal),
                 assignments: 0,
                 differing: 0,
                 outcome,
@@ -49,6 +49,7 @@ impl Swept {
 
 // Runs a job and sweeps the equality of that number: on how many assignments of its variables the
 // two sides differ, for a host. If the job stops early, the code is that of `Refusal::NotAsked`.
+#[tactic(auto, using(crate::proofs::AskingLaws::lent_outcome))]
 pub fn bb_sweep(
     job: &[u8],
     work: &mut [u8],

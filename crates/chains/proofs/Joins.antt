@@ -3,6 +3,7 @@ use mathlib.Core.Path.{◌≡◌, refl, sym, ap, ap₂, subst, ◌∙◌}
 use mathlib.Core.Bool.{Bool, true, false, ◌&&◌, and-false}
 use mathlib.Core.List.{List, [], ◌∷◌, map}
 use Rattle.std.specs.Prelude.{Option, None as none, Some as some, option_map, IfSome}
+use Rattle.std.specs.Option.{option_eq}
 use Prim.Native.Nat.{ℕ, zero, suc, ◌+◌, ◌≤◌, ◌<◌}
 use native.Mathlib.Numerals.{add-one}
 use native.Mathlib.Omega.{arith}
@@ -20,15 +21,14 @@ use Rattle.theory.specs.Plain.{Plain}
 use Rattle.theory.specs.Chain.{Earlier, Sides, turned, leads, argument_wise, joins}
 use Rattle.theory.proofs.Basics.{T_same, T_true, true_T}
 use Rattle.theory.proofs.Blast.{to_from_list}
-use Rattle.theory.proofs.Same.{same_eq, eq_same, same_op_two}
+use Rattle.theory.proofs.Same.{same_eq, eq_same}
 use Rattle.theory.proofs.Places.{tree_at, tree_of, more_below}
 use Rattle.theory.proofs.Distinct.{trees_distinct}
-use Rattle.terms.specs.declared.Head.{Head}
 use Rattle.terms.specs.declared.Term.{Term as Decoded}
 use Rattle.terms.specs.declared.Args.{Args}
 use Rattle.terms.specs.declared.Operands.{Operands}
 use Rattle.terms.specs.declared.Operands.TheVariants as O
-use Rattle.terms.specs.Decoded.{op_of, head_of, operands_of, numbers_of, arguments_of, words_in}
+use Rattle.terms.specs.Decoded.{operands_of, numbers_of, arguments_of, words_in}
 use Rattle.terms.proofs.Lists.{words_in_length}
 use Rattle.terms.proofs.Parts.{both}
 use Rattle.store.specs.Sorts.{count_of}
@@ -62,13 +62,6 @@ pub args_below : {job work : Bytes} {n p : ℕ} {t : Decoded} → TermAt job wor
 args_below {job} {work} {n} {p} {t} s h ops e =
     ap (λ (o : Operands). all_below (first_terms + n) (numbers_of job o)) e
     ∙ T_true _ (more_below p (first_terms + n) (omega arith) (arguments_of job t) (true_T _ s.below))
-
--- ---- kinds
-module _ (s t : Decoded) {a b : Head} (ea : a ≡ head_of s) (eb : b ≡ head_of t) where
-  pub kinds_are : same_op (op_of s) (op_of t) ≡ (eqb a.kind b.kind && (eqb a.first b.first && eqb a.second b.second))
-  kinds_are =
-      same_op_two (op_of s) (op_of t)
-      ∙ ap₂ (λ (x y : Head). eqb x.kind y.kind && (eqb x.first y.first && eqb x.second y.second)) (sym ea) (sym eb)
 
 -- ---- numbers for terms
 module _ {job work : Bytes} {n : ℕ} (s : Store job work n) where
@@ -252,11 +245,11 @@ symm_one earlier list (k ∷ []) l r h = sym (turned_all l r (sides_in earlier l
 symm_one earlier list (j ∷ k ∷ ks) l r h = absurd (omega arith)
 
 -- ---- loops over the premises of a chain
--- a path of premises: what is left of it from i on leads from where it has come to
-pub record Leading (p : Past) (premises : Args) (l r at i : ℕ) : Type 0 where
+-- a path of premises: what is left of it leads from where it has come to
+pub record Leading (p : Past) (premises : Args) (l r at : ℕ) (left : List ℕ) : Type 0 where
   pub kept : at < first_terms + p.terms.rows
   pub rest : leads_in (kept_term p.terms l) (all_sides_told p premises) (kept_term p.terms r)
-      ≡ leads_in (kept_term p.terms at) (drop i (all_sides_told p premises)) (kept_term p.terms r)
+      ≡ leads_in (kept_term p.terms at) (map (sides_told p) left) (kept_term p.terms r)
 
 -- arguments, one premise for each: what is left from i on decides
 pub record Comparing (p : Past) (premises : Args) (xs ys : List ℕ) (i : ℕ) : Type 0 where
@@ -269,76 +262,85 @@ module _ (p : Past) (premises : Args) where
   told_length =
       found_length (earlier_told p) (kept_terms p.terms) (words_in p.terms.job.now premises) ∙ words_in_length p.terms.job.now premises
 
-  told_at : (i : ℕ) → i < premises.count → sides_told p premises i ≡ get_or (all_sides_told p premises) i none
-  told_at i h =
-      found_at (earlier_told p) (kept_terms p.terms) (words_in p.terms.job.now premises) i (let l = words_in_length p.terms.job.now premises in omega arith)
+  told_at : (i : ℕ) → i < premises.count → {k : ℕ} → k ≡ get_or (words_in p.terms.job.now premises) i 0 → sides_told p k ≡ get_or (all_sides_told p premises) i none
+  told_at i h e =
+      ap (sides_told p) e
+      ∙ found_at (earlier_told p) (kept_terms p.terms) (words_in p.terms.job.now premises) i (let l = words_in_length p.terms.job.now premises in omega arith)
 
-  -- the sides that the code reads of premise i
-  module _ {l r : ℕ} (h : Joining p premises l r) (s : Option (ℕ × ℕ)) (i : ℕ)
+module _ (p : Past) where
+  -- the sides that the code reads of the premise with number k
+  module _ (s : Option (ℕ × ℕ)) (k : ℕ)
       (below : IfSome s (λ q. (q.0 < first_terms + p.terms.rows) × (q.1 < first_terms + p.terms.rows)))
-      (e : option_map (sides_of p) s ≡ sides_told p premises i) where
+      (e : option_map (sides_of p) s ≡ sides_told p k) where
+    sides_none : s ≡ none → none ≡ sides_told p k
+    sides_none f = sym (ap (option_map (sides_of p)) f) ∙ e
+
     module _ {a b : ℕ} (f : s ≡ some (a, b)) where
-      sides_are : some (kept_term p.terms a, kept_term p.terms b) ≡ sides_told p premises i
+      sides_are : some (kept_term p.terms a, kept_term p.terms b) ≡ sides_told p k
       sides_are = ap (option_map (sides_of p)) (sym f) ∙ e
 
       both_below : (a < first_terms + p.terms.rows) × (b < first_terms + p.terms.rows)
       both_below = subst (λ (q : Option (ℕ × ℕ)). IfSome q (λ x. (x.0 < first_terms + p.terms.rows) × (x.1 < first_terms + p.terms.rows))) f below
 
-      pub left_differs : (a ≡ l → ⊥) → false ≡ is_equality (kept_term p.terms l) (kept_term p.terms r) (sides_told p premises i)
-      left_differs g = sym (equality_is p.noted.store both_below.0 both_below.1 h.left h.right sides_are ∙ rw (ne_eqb a l g))
+      shown_by : {l r : ℕ} → l < first_terms + p.terms.rows → r < first_terms + p.terms.rows
+          → (eqb a l && eqb b r) ≡ is_equality (kept_term p.terms l) (kept_term p.terms r) (sides_told p k)
+      shown_by hl hr = sym (equality_is p.noted.store both_below.0 both_below.1 hl hr sides_are)
 
-      pub right_tells : a ≡ l → eqb b r ≡ is_equality (kept_term p.terms l) (kept_term p.terms r) (sides_told p premises i)
-      right_tells g = sym (equality_is p.noted.store both_below.0 both_below.1 h.left h.right sides_are ∙ rw (eq-eqb a l g))
+    -- they are compared by their numbers
+    pub shown : (l r : ℕ) → l < first_terms + p.terms.rows → r < first_terms + p.terms.rows
+        → option_eq (λ (x y : ℕ × ℕ). eqb x.0 y.0 && eqb x.1 y.1) s (some (l, r)) ≡ is_equality (kept_term p.terms l) (kept_term p.terms r) (sides_told p k)
+    shown l r hl hr = go s refl
+      where
+        go : (q : Option (ℕ × ℕ)) → s ≡ q
+            → option_eq (λ (x y : ℕ × ℕ). eqb x.0 y.0 && eqb x.1 y.1) q (some (l, r)) ≡ is_equality (kept_term p.terms l) (kept_term p.terms r) (sides_told p k)
+        go none f = ap (is_equality (kept_term p.terms l) (kept_term p.terms r)) (sides_none f)
+        go (some (a, b)) f = shown_by f hl hr
 
-    module _ {at : ℕ} (v : Leading p premises l r at i) (t : i < premises.count) where
+    module _ {premises : Args} {l r at : ℕ} {left others : List ℕ} (v : Leading p premises l r at left) (d : left ≡ k ∷ others) where
       here : leads_in (kept_term p.terms l) (all_sides_told p premises) (kept_term p.terms r)
-          ≡ leads_in (kept_term p.terms at) (sides_told p premises i ∷ drop (suc i) (all_sides_told p premises)) (kept_term p.terms r)
-      here =
-          v.rest
-          ∙ ap (λ (ys : List (Option Sides)). leads_in (kept_term p.terms at) ys (kept_term p.terms r))
-          (drop-cons (all_sides_told p premises) i none (let m = told_length in omega arith)
-          ∙ ap (λ (q : Option Sides). q ∷ drop (suc i) (all_sides_told p premises)) (sym (told_at i t)))
+          ≡ leads_in (kept_term p.terms at) (sides_told p k ∷ map (sides_told p) others) (kept_term p.terms r)
+      here = v.rest ∙ ap (λ (ks : List ℕ). leads_in (kept_term p.terms at) (map (sides_told p) ks) (kept_term p.terms r)) d
 
       pub lead_none : s ≡ none → false ≡ leads_in (kept_term p.terms l) (all_sides_told p premises) (kept_term p.terms r)
       lead_none f =
-          sym (here
-          ∙ ap (λ (q : Option Sides). leads_in (kept_term p.terms at) (q ∷ drop (suc i) (all_sides_told p premises)) (kept_term p.terms r))
-          (sym e ∙ ap (option_map (sides_of p)) f))
+          sym (here ∙ ap (λ (q : Option Sides). leads_in (kept_term p.terms at) (q ∷ map (sides_told p) others) (kept_term p.terms r)) (sym (sides_none f)))
 
       module _ {a b : ℕ} (f : s ≡ some (a, b)) where
         on : leads_in (kept_term p.terms l) (all_sides_told p premises) (kept_term p.terms r)
-            ≡ (eqb at a && leads_in (kept_term p.terms b) (drop (suc i) (all_sides_told p premises)) (kept_term p.terms r))
+            ≡ (eqb at a && leads_in (kept_term p.terms b) (map (sides_told p) others) (kept_term p.terms r))
         on =
             here
-            ∙ ap (λ (q : Option Sides). leads_in (kept_term p.terms at) (q ∷ drop (suc i) (all_sides_told p premises)) (kept_term p.terms r)) (sym (sides_are f))
-            ∙ ap (λ (x : Bool). x && leads_in (kept_term p.terms b) (drop (suc i) (all_sides_told p premises)) (kept_term p.terms r))
+            ∙ ap (λ (q : Option Sides). leads_in (kept_term p.terms at) (q ∷ map (sides_told p) others) (kept_term p.terms r)) (sym (sides_are f))
+            ∙ ap (λ (x : Bool). x && leads_in (kept_term p.terms b) (map (sides_told p) others) (kept_term p.terms r))
             (same_places p.noted.store at a v.kept (both_below f).0)
 
         pub lead_off : (a ≡ at → ⊥) → false ≡ leads_in (kept_term p.terms l) (all_sides_told p premises) (kept_term p.terms r)
         lead_off g = sym (on ∙ rw (ne_eqb at a (λ z. g (sym z))))
 
-        pub lead_turn : a ≡ at → Leading p premises l r b (i + 1)
-        lead_turn g = record { kept = (both_below f).1; rest = on ∙ rw (eq-eqb at a (sym g), add-one) }
+        pub lead_turn : a ≡ at → Leading p premises l r b others
+        lead_turn g = record { kept = (both_below f).1; rest = on ∙ rw (eq-eqb at a (sym g)) }
 
-  pub lead_end : {l r at i : ℕ} → Joining p premises l r → Leading p premises l r at i → premises.count ≤ i
+  pub lead_end : {premises : Args} {l r at : ℕ} {left : List ℕ} → Joining p premises l r → Leading p premises l r at left → left ≡ []
       → eqb at r ≡ leads_in (kept_term p.terms l) (all_sides_told p premises) (kept_term p.terms r)
-  lead_end {l} {r} {at} {i} h v t =
+  lead_end {premises} {l} {r} {at} {left} h v e =
       sym (v.rest
-      ∙ rw (drop_of_length-le (all_sides_told p premises) {i = i} (let m = told_length in omega arith)) (same_places p.noted.store at r v.kept h.right))
+      ∙ ap (λ (ks : List ℕ). leads_in (kept_term p.terms at) (map (sides_told p) ks) (kept_term p.terms r)) e
+      ∙ same_places p.noted.store at r v.kept h.right)
 
+module _ (p : Past) (premises : Args) where
   -- the arguments of two terms, as many as premises
   module _ {xs ys : Operands} (h : Arguing p premises xs ys) where
     pub other_left : (count_of xs ≡ premises.count → ⊥)
         → false ≡ argued (kept_terms p.terms) (all_sides_told p premises) (numbers_of p.terms.job.now xs) (numbers_of p.terms.job.now ys)
     other_left f =
         argued_left (kept_terms p.terms) (all_sides_told p premises) (numbers_of p.terms.job.now xs) (numbers_of p.terms.job.now ys)
-        (λ e. f (sym (count_length p.terms.job.now xs) ∙ e ∙ told_length))
+        (λ e. f (sym (count_length p.terms.job.now xs) ∙ e ∙ told_length p premises))
 
     pub other_right : (count_of ys ≡ premises.count → ⊥)
         → false ≡ argued (kept_terms p.terms) (all_sides_told p premises) (numbers_of p.terms.job.now xs) (numbers_of p.terms.job.now ys)
     other_right f =
         argued_right (kept_terms p.terms) (all_sides_told p premises) (numbers_of p.terms.job.now xs) (numbers_of p.terms.job.now ys)
-        (λ e. f (sym (count_length p.terms.job.now ys) ∙ e ∙ told_length))
+        (λ e. f (sym (count_length p.terms.job.now ys) ∙ e ∙ told_length p premises))
 
     module _ (left : count_of xs ≡ premises.count) (right : count_of ys ≡ premises.count) {i : ℕ} where
       -- the arguments at place i are kept
@@ -355,7 +357,7 @@ module _ (p : Past) (premises : Args) where
         pub argue_end : premises.count ≤ i
             → true ≡ argued (kept_terms p.terms) (all_sides_told p premises) (numbers_of p.terms.job.now xs) (numbers_of p.terms.job.now ys)
         argue_end t =
-            let o = told_length in
+            let o = told_length p premises in
             let m = count_length p.terms.job.now xs in
             let n = count_length p.terms.job.now ys in
             let k : length (all_sides_told p premises) ≤ i = omega arith in
@@ -365,21 +367,22 @@ module _ (p : Past) (premises : Args) where
             ∙ rw (drop_of_length-le (all_sides_told p premises) {i = i} k, drop_of_length-le (numbers_of p.terms.job.now xs) {i = i} a, drop_of_length-le (numbers_of p.terms.job.now ys) {i = i} b))
 
         module _ (t : i < premises.count) {x y : ℕ} (e : x ≡ get_or (numbers_of p.terms.job.now xs) i 0) (f : y ≡ get_or (numbers_of p.terms.job.now ys) i 0)
-            {c : Bool} (shown : c ≡ is_equality (kept_term p.terms x) (kept_term p.terms y) (sides_told p premises i)) where
+            {k : ℕ} (d : k ≡ get_or (words_in p.terms.job.now premises) i 0)
+            {c : Bool} (shown : c ≡ is_equality (kept_term p.terms x) (kept_term p.terms y) (sides_told p k)) where
           on_argue : argued (kept_terms p.terms) (all_sides_told p premises) (numbers_of p.terms.job.now xs) (numbers_of p.terms.job.now ys)
               ≡ (c && argued (kept_terms p.terms) (drop (suc i) (all_sides_told p premises)) (drop (suc i) (numbers_of p.terms.job.now xs)) (drop (suc i) (numbers_of p.terms.job.now ys)))
           on_argue =
-              let o = told_length in
+              let o = told_length p premises in
               let m = count_length p.terms.job.now xs in
               let n = count_length p.terms.job.now ys in
-              let k : i < length (all_sides_told p premises) = omega arith in
+              let j : i < length (all_sides_told p premises) = omega arith in
               let a : i < length (numbers_of p.terms.job.now xs) = omega arith in
               let b : i < length (numbers_of p.terms.job.now ys) = omega arith in
               v.rest
-              ∙ rw (drop-cons (all_sides_told p premises) i none k, drop-cons (numbers_of p.terms.job.now xs) i 0 a, drop-cons (numbers_of p.terms.job.now ys) i 0 b)
+              ∙ rw (drop-cons (all_sides_told p premises) i none j, drop-cons (numbers_of p.terms.job.now xs) i 0 a, drop-cons (numbers_of p.terms.job.now ys) i 0 b)
               (ap (λ (z : Bool). z && argued (kept_terms p.terms) (drop (suc i) (all_sides_told p premises)) (drop (suc i) (numbers_of p.terms.job.now xs)) (drop (suc i) (numbers_of p.terms.job.now ys)))
               (ap₂ (λ (w z : ℕ). is_equality (kept_term p.terms w) (kept_term p.terms z) (get_or (all_sides_told p premises) i none)) (sym e) (sym f)
-              ∙ ap (is_equality (kept_term p.terms x) (kept_term p.terms y)) (sym (told_at i t)) ∙ sym shown))
+              ∙ ap (is_equality (kept_term p.terms x) (kept_term p.terms y)) (sym (told_at p premises i t d)) ∙ sym shown))
 
           pub argue_fails : c ≡ false → false ≡ argued (kept_terms p.terms) (all_sides_told p premises) (numbers_of p.terms.job.now xs) (numbers_of p.terms.job.now ys)
           argue_fails g = sym (on_argue ∙ rw g)

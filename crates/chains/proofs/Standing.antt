@@ -3,16 +3,13 @@ use mathlib.Core.Path.{◌≡◌, refl, sym, ap, subst, ◌∙◌}
 use mathlib.Core.Bool.{Bool, true, false, cond}
 use mathlib.Core.List.{List, [], ◌∷◌, map}
 use Rattle.std.specs.Prelude.{Option, None as none, Some as some, Result, Ok, Err}
-use Prim.Native.Nat.{ℕ, zero, suc, ◌+◌, ◌-◌, ◌*◌, ◌≤◌, ◌<◌}
-use native.Mathlib.Nat.{le_trans, mul-le-mul_left}
-use native.Mathlib.Numerals.{add-one}
+use Prim.Native.Nat.{ℕ, zero, suc, ◌+◌, ◌-◌, ◌≤◌, ◌<◌}
 use native.Mathlib.Omega.{arith}
 use lib.Dec.{leb, ltb, eqb}
-use lib.ListN.{length, drop, get_or, length-map, drop_of_length-le}
+use lib.ListN.{length, get_or, length-map}
 use Rattle.std.specs.Prelude.{slice_get as get_elem?}
-use lib.Seq.{drop-cons}
 use borrow.Author.Tests.{eq-eqb, ne_eqb, le-leb}
-use Rattle.theory.specs.Limit.{first_terms, answer_bytes}
+use Rattle.theory.specs.Limit.{first_terms}
 use Rattle.theory.specs.Term.{Term}
 use Rattle.theory.specs.Optional.{either, is_some, cons_some}
 use Rattle.theory.specs.Record.{Bytes, read, claim_of, number_length}
@@ -26,12 +23,10 @@ use Rattle.terms.specs.declared.Item.{Item}
 use Rattle.terms.specs.declared.Item.TheVariants as I
 use Rattle.terms.specs.declared.Fault.{Fault}
 use Rattle.terms.specs.declared.Fault.TheVariants as F
-use Rattle.terms.specs.Bodies.{Length}
 use Rattle.terms.specs.Framing.{record_at}
 use Rattle.terms.specs.declared.Args.{Args}
 use Rattle.terms.specs.Decoded.{read_of, words_in}
 use Rattle.terms.proofs.Lists.{words_in_length}
-use Rattle.terms.proofs.Numbers.{length_of}
 use Rattle.rows.specs.Layout.{link_size, offset_at}
 use Rattle.rows.specs.Rows.{column, offsets}
 use Rattle.rows.proofs.RowLaws.{get_or_column, length_column}
@@ -243,17 +238,14 @@ module _ (job work memory : Bytes) (n answered : ℕ) where
       standing_sides f = sym (ap (either none sides) standing_tree ∙ f)
 
 -- ---- the answer to a step that is there
-module _ (p : Past) (number : ℕ) {b : ℕ} (e : b ≡ number_length p.terms.job.now) where
-  pub answer_lies : number - 1 < p.count → Length b × (answer_bytes b * suc (number - 1) ≤ length p.answers.now)
-  answer_lies h = rw e (length_of p.terms.job.now, le_trans (mul-le-mul_left (answer_bytes (number_length p.terms.job.now)) h) p.noted.roomy)
+module _ (p : Past) (k : ℕ) where
+  pub code_told : {c : ℕ} → c ≡ step_code p.answers.bytes p.answers.memory.now k → c ≡ step_code (number_length p.terms.job.now) p.answers.memory.now k
+  code_told f = f ∙ ap (λ (b : ℕ). step_code b p.answers.memory.now k) p.depth_bytes
 
-  pub code_told : {c : ℕ} → c ≡ step_code b p.answers.now (number - 1) → c ≡ step_code (number_length p.terms.job.now) p.answers.now (number - 1)
-  code_told f = f ∙ ap (λ (k : ℕ). step_code k p.answers.now (number - 1)) e
+  pub place_told : {c : ℕ} → c ≡ step_place p.answers.bytes p.answers.memory.now k → c ≡ step_place (number_length p.terms.job.now) p.answers.memory.now k
+  place_told f = f ∙ ap (λ (b : ℕ). step_place b p.answers.memory.now k) p.depth_bytes
 
-  pub place_told : {c : ℕ} → c ≡ step_place b p.answers.now (number - 1) → c ≡ step_place (number_length p.terms.job.now) p.answers.now (number - 1)
-  place_told f = f ∙ ap (λ (k : ℕ). step_place k p.answers.now (number - 1)) e
-
--- ---- all premises of a list: the test is that of what is left from i on
+-- ---- all premises of a list: the test is that of what is left
 abbrev pub all_there : Earlier → Plain → List ℕ → Bool
 all_there earlier list ks = is_some (premises_at earlier list ks)
 
@@ -264,21 +256,12 @@ there_cons earlier list k ks t e = ap (λ (q : Option Term). is_some (cons_some 
     go none = refl
     go (some ts) = refl
 
-pub record Passing (earlier : Earlier) (list : Plain) (ks : List ℕ) (i : ℕ) : Type 0 where
-  pub passed : i ≤ length ks
-  pub rest : all_there earlier list ks ≡ all_there earlier list (drop i ks)
+module _ (earlier : Earlier) (list : Plain) {whole : Bool} {rest : List ℕ} (w : whole ≡ all_there earlier list rest) where
+  pub pass_turn : {k : ℕ} {others : List ℕ} → rest ≡ k ∷ others → {t : Term} → premise_at earlier list k ≡ some t → whole ≡ all_there earlier list others
+  pass_turn {k} {others} d {t} e = w ∙ ap (all_there earlier list) d ∙ there_cons earlier list k others t e
 
-module _ {earlier : Earlier} {list : Plain} {ks : List ℕ} where
-  pub pass_start : Passing earlier list ks 0
-  pass_start = record { passed = omega arith; rest = refl }
+  pub pass_fails : {k : ℕ} {others : List ℕ} → rest ≡ k ∷ others → premise_at earlier list k ≡ none → false ≡ whole
+  pass_fails {others = others} d e = sym (w ∙ ap (all_there earlier list) d ∙ ap (λ (q : Option Term). is_some (cons_some q (premises_at earlier list others))) e)
 
-  pub pass_turn : {i : ℕ} → Passing earlier list ks i → i < length ks → {t : Term} → premise_at earlier list (get_or ks i 0) ≡ some t → Passing earlier list ks (i + 1)
-  pass_turn {i} p h {t} e =
-      record { passed = omega arith; rest = p.rest ∙ rw (add-one, drop-cons ks i 0) (there_cons earlier list (get_or ks i 0) (drop (suc i) ks) t e) }
-
-  pub pass_fails : {i : ℕ} → Passing earlier list ks i → i < length ks → premise_at earlier list (get_or ks i 0) ≡ none → false ≡ all_there earlier list ks
-  pass_fails {i} p h e =
-      sym (p.rest ∙ rw (drop-cons ks i 0) (ap (λ (q : Option Term). is_some (cons_some q (premises_at earlier list (drop (suc i) ks)))) e))
-
-  pub pass_end : {i : ℕ} → Passing earlier list ks i → length ks ≤ i → true ≡ all_there earlier list ks
-  pass_end {i} p h = sym (p.rest ∙ rw (drop_of_length-le ks {i = i} h))
+  pub pass_end : rest ≡ [] → true ≡ whole
+  pass_end d = sym (w ∙ ap (all_there earlier list) d)

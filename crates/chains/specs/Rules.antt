@@ -4,7 +4,7 @@ use Rattle.theory.specs.RuleTable.{by_symm, by_trans, by_cong, chain_rule_at}
 use Rattle.theory.specs.RuleTable as T
 use Rattle.chains.specs.declared.ChainRule.{ChainRule}
 use Rattle.chains.specs.declared.ChainRule.TheVariants.{Symm, Trans, Cong}
-use Rattle.chains.specs.declared.UnknownRule.{UnknownRule}
+use Rattle.rules.specs.declared.UnknownRule.{UnknownRule}
 
 -- the rule that a case stands for
 abbrev pub rule_of : ChainRule → T.ChainRule

@@ -1,5 +1,5 @@
 -- What contracts say of the past of a chain `p`: its kept terms, and the steps that were answered.
-use Rattle.std.specs.Prelude.{◌≡◌, Bool, true, List, map, ℕ, ◌+◌, ◌<◌, get_or}
+use Rattle.std.specs.Prelude.{◌≡◌, Bool, true, List, map, ℕ, ◌+◌, ◌<◌}
 use Rattle.std.specs.Prelude.{Option}
 use Rattle.theory.specs.Limit.{first_terms}
 use Rattle.theory.specs.Term.{Term}
@@ -20,7 +20,7 @@ is_before p = origin_before p.terms.job.now p.terms.work.now p.terms.rows
 
 -- the earlier steps
 abbrev pub earlier_told : Past → Earlier
-earlier_told p = earlier_in p.terms.job.now p.terms.work.now p.answers.now p.terms.rows p.count
+earlier_told p = earlier_in p.terms.job.now p.terms.work.now p.answers.memory.now p.terms.rows p.answers.count
 
 -- the literals of the premises, if all of them stand
 abbrev pub premises_told : Past → Args → Option (List Term)
@@ -30,13 +30,13 @@ premises_told p premises = premises_at (earlier_told p) (kept_terms p.terms) (wo
 abbrev pub sides_of : Past → ℕ × ℕ → C.Sides
 sides_of p s = (kept_term p.terms s.0, kept_term p.terms s.1)
 
--- the sides of premise i, if it stands and is an equality
-abbrev pub sides_told : Past → Args → ℕ → Option C.Sides
-sides_told p premises i = sides_in (earlier_told p) (kept_terms p.terms) (get_or (words_in p.terms.job.now premises) i 0)
+-- the sides of the premise with that number, if it stands and is an equality
+abbrev pub sides_told : Past → ℕ → Option C.Sides
+sides_told p = sides_in (earlier_told p) (kept_terms p.terms)
 
 -- the sides of each premise
 abbrev pub all_sides_told : Past → Args → List (Option C.Sides)
-all_sides_told p premises = map (sides_in (earlier_told p) (kept_terms p.terms)) (words_in p.terms.job.now premises)
+all_sides_told p premises = map (sides_told p) (words_in p.terms.job.now premises)
 
 -- the premises join to the equality of the terms at l and r
 abbrev pub joins_told : Past → ChainRule → Args → ℕ → ℕ → Bool

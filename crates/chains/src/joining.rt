@@ -1,5 +1,6 @@
 // The three rules, on the numbers of terms: equal terms have equal numbers.
-ghost use Rattle.std.specs.Prelude.{◌≡◌, ◌<◌};
+ghost use Rattle.std.specs.Prelude.{◌≡◌, ◌+◌, ◌<◌};
+ghost use Rattle.theory.specs.Limit.{first_terms};
 ghost use Rattle.theory.specs.Term.{same_op};
 ghost use Rattle.theory.specs.RuleTable.{by_symm, by_trans, by_cong};
 ghost use Rattle.terms.specs.Decoded.{op_of, numbers_of};
@@ -11,20 +12,14 @@ use crate::premises::Past;
 use intern::arguments::{count, operand};
 use terms::{Args, Operands, Term};
 
-// Is premise i the equality of these two?
-fn shows(past: &Past, premises: Args, i: usize, l: u32, r: u32) -> bool
-    requires joining { Joining past.now premises l r }
-    requires there { i < premises.count }
+// Is the premise with that number the equality of these two?
+fn shows(past: &Past, number: u32, l: u32, r: u32) -> bool
+    requires left { l < first_terms + past.now.terms.rows }
+    requires right { r < first_terms + past.now.terms.rows }
     ensures { result ≡ is_equality (kept_term past.now.terms l) (kept_term past.now.terms r)
-        (sides_told past.now premises i) }
+        (sides_told past.now number) }
 {
-    let Some((a, b)) = past.sides_at(premises, i) else {
-        return false;
-    };
-    if a != l {
-        return false;
-    }
-    b == r
+    past.sides_at(number) == Some((l, r))
 }
 
 // symm: one premise, with the sides of the claim turned round.
@@ -35,7 +30,7 @@ pub fn symm(past: &Past, premises: Args, l: u32, r: u32) -> bool
     if premises.count != 1 {
         return false;
     }
-    shows(past, premises, 0, r, l)
+    shows(past, Term::argument(past.terms.job, premises, 0), r, l)
 }
 
 // Do the premises lead from l to r?
@@ -45,8 +40,8 @@ fn leads(past: &Past, premises: Args, l: u32, r: u32) -> bool
         (kept_term past.now.terms r) }
 {
     let mut at = l;
-    for i in 0..premises.count {
-        let Some((a, b)) = past.sides_at(premises, i) else {
+    for number in premises.numbers(past.terms.job) {
+        let Some((a, b)) = past.sides_at(number) else {
             return false;
         };
         if a != at {
@@ -69,6 +64,7 @@ pub fn trans(past: &Past, premises: Args, l: u32, r: u32) -> bool
 }
 
 // Are the two terms of one kind, with the same numbers in it?
+#[tactic(auto, using(terms::proofs::Heads::same_heads))]
 fn same_kind(s: Term, t: Term) -> bool
     ensures { result ≡ same_op (op_of s) (op_of t) }
 {
@@ -89,7 +85,8 @@ fn argument_wise(past: &Past, premises: Args, xs: Operands, ys: Operands) -> boo
     }
     let job = past.terms.job;
     for i in 0..premises.count {
-        if !shows(past, premises, i, operand(job, xs, i), operand(job, ys, i)) {
+        let number = Term::argument(job, premises, i);
+        if !shows(past, number, operand(job, xs, i), operand(job, ys, i)) {
             return false;
         }
     }

@@ -12,7 +12,6 @@ ghost use Rattle.theory.specs.Verdict.{wrong_form, premise_broken};
 ghost use Rattle.theory.specs.RuleTable.{ChainRule as Rule, chain_rule_at};
 ghost use Rattle.theory.specs.Chain.{joined};
 ghost use Rattle.terms.specs.Decoded.{Inside};
-ghost use Rattle.terms.specs.declared.stop.Stop.TheVariants as S;
 ghost use Rattle.store.specs.KeptTerms.{kept_term};
 ghost use Rattle.operand_rules.specs.Rules.{verdict_of};
 ghost use Rattle.chains.specs.Rules.{rule_of, Decodes};
@@ -21,7 +20,7 @@ ghost use Rattle.chains.specs.Told.{premises_told, joins_told, Joining};
 use crate::joining::{cong, symm, trans};
 use crate::premises::Past;
 use operand_rules::Verdict;
-use terms::stop::Stop;
+use rules::UnknownRule;
 use terms::{Args, Term};
 
 // How premises may join.
@@ -31,10 +30,6 @@ pub enum ChainRule {
     Trans,
     Cong,
 }
-
-// A number that no rule of chains has.
-#[derive(Clone, Copy, Debug, PartialEq, Eq)]
-pub struct UnknownRule(pub u32);
 
 impl TryFrom<u32> for ChainRule {
     type Error = UnknownRule;
@@ -48,14 +43,6 @@ impl TryFrom<u32> for ChainRule {
             33 => Ok(ChainRule::Cong),
             _ => Err(UnknownRule(number)),
         }
-    }
-}
-
-impl From<UnknownRule> for Stop {
-    ghost from_gives = { λ _ stop. stop ≡ S.NoRule };
-
-    fn from(_unknown: UnknownRule) -> Self {
-        Stop::NoRule
     }
 }
 

@@ -4,14 +4,14 @@ ghost use Rattle.std.proofs.Math.Bool.{Bool-set};
 ghost use Rattle.std.proofs.Math.Dec.{T_prop};
 ghost use Rattle.theory.specs.Limit.{first_terms};
 ghost use Rattle.theory.specs.Optional.{is_some};
-ghost use Rattle.theory.specs.Record.{whole};
+ghost use Rattle.theory.specs.Record.{whole, number_length};
 ghost use Rattle.theory.specs.Chain.{premise_place};
 ghost use Rattle.theory.proofs.Facts.{kept_facts};
 ghost use Rattle.terms.specs.Decoded.{Inside};
 ghost use Rattle.chains.specs.Premises.{claimed_at, Noted};
 
 use rows::{FIRST_PLACE, offset_at};
-use steps::answers::{code_at, place_at};
+use steps::answers::Answers;
 use store::shelf::Terms;
 use terms::{Args, Item, Term};
 
@@ -34,17 +34,17 @@ fn claimed(job: &[u8], at: usize) -> Option<u32>
     }
 }
 
-// What a chain knows of the steps before it: the kept terms, and so many answers, each of which
+// What a chain knows of the steps before it: the kept terms, and the answers so far, each of which
 // holds the place of its step's record.
 #[derive(Clone, Copy)]
-pub struct Past<'a> {
+pub struct Past<'a, 'b> {
     pub terms: Terms<'a>,
-    pub answers: &'a [u8],
-    pub count: usize,
-    pub ghost noted: { Noted terms.job.now terms.work.now answers.now terms.rows count } by { Prim.hlevel (kept_facts, Bool-set, T_prop) },
+    pub answers: Answers<'b>,
+    pub ghost noted: { Noted terms.job.now terms.work.now answers.memory.now terms.rows answers.count } by { Prim.hlevel (kept_facts, Bool-set, T_prop) },
+    pub ghost depth_bytes: { answers.bytes ≡ number_length terms.job.now } by { Prim.hlevel kept_facts },
 }
 
-impl<'a> Past<'a> {
+impl<'a, 'b> Past<'a, 'b> {
     ghost use Rattle.chains.specs.Told.{earlier_told, is_before, premises_told};
     ghost use Rattle.chains.specs.Told.{sides_told, sides_of};
 
@@ -72,14 +72,13 @@ impl<'a> Past<'a> {
             return None;
         }
         let k = number as usize - 1;
-        if self.count <= k {
+        if self.answers.count <= k {
             return None;
         }
-        let bytes = Term::number_length(self.terms.job);
-        if code_at(self.answers, bytes, k) != 0 {
+        if self.answers.code_at(k) != 0 {
             return None;
         }
-        let at = place_at(self.answers, bytes, k);
+        let at = self.answers.place_at(k);
         let p = claimed(self.terms.job, at)?;
         if self.kept_before(p, at) {
             Some(p)
@@ -93,23 +92,21 @@ impl<'a> Past<'a> {
         requires { Inside self.now.terms.job.now premises }
         ensures { result ≡ is_some (premises_told self.now premises) }
     {
-        for i in 0..premises.count {
-            let Some(_) = self.premise_at(Term::argument(self.terms.job, premises, i)) else {
+        for k in premises.numbers(self.terms.job) {
+            let Some(_) = self.premise_at(k) else {
                 return false;
             };
         }
         true
     }
 
-    // The sides of premise i of a list, where it may be one and is an equality.
-    pub fn sides_at(&self, premises: Args, i: usize) -> Option<(u32, u32)>
-        requires inside { Inside self.now.terms.job.now premises }
-        requires there { i < premises.count }
+    // The sides of the premise with that number, where it may be one and is an equality.
+    pub fn sides_at(&self, number: u32) -> Option<(u32, u32)>
         ensures below { IfSome result (λ s. (s.0 < first_terms + self.now.terms.rows)
             × (s.1 < first_terms + self.now.terms.rows)) }
-        ensures sides { option_map (sides_of self.now) result ≡ sides_told self.now premises i }
+        ensures sides { option_map (sides_of self.now) result ≡ sides_told self.now number }
     {
-        let p = self.premise_at(Term::argument(self.terms.job, premises, i))?;
+        let p = self.premise_at(number)?;
         let Term::Equals(l, r) = self.terms.term_on(p) else {
             return None;
         };

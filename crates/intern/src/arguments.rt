@@ -109,12 +109,7 @@ impl<'a> Arguments<'a> {
     pub fn all_are(&self, s: Sort) -> bool
         ensures { result ≡ all_are (sort_read s) (argument_sorts self.now) }
     {
-        for i in 0..self.count() {
-            if self.sort(i) != s {
-                return false;
-            }
-        }
-        true
+        (0..self.count()).all(|i| self.sort(i) == s)
     }
 
     // Have all arguments one sort, the first's?

@@ -18,27 +18,6 @@ use Rattle.terms.proofs.Parts.{length_part}
 use Rattle.terms.proofs.Reading.{stands, body_there}
 use Rattle.theory.specs.Codes.{first_fault, all_below, step_tests, opening_tests}
 
--- ---- a rule's number is 1 to 30
-pub rule_some : (n : ℕ) → 1 ≤ n → leb n 30 ≡ is_some (rule_at n)
-rule_some zero h = absurd (omega arith)
-rule_some (suc n) h = go rules n
-  where
-    less : (i n : ℕ) → leb (suc (suc i)) (suc n) ≡ leb (suc i) n
-    less i n = by_dec (dec_le (suc i) n)
-      where
-        by_dec : Dec (suc i ≤ n) → leb (suc (suc i)) (suc n) ≡ leb (suc i) n
-        by_dec (yes h) = le-leb (suc (suc i)) (suc n) (omega arith) ∙ sym (le-leb (suc i) n h)
-        by_dec (no h) = lt-leb (suc (suc i)) (suc n) (omega arith) ∙ sym (lt-leb (suc i) n (omega arith))
-
-    go : (rs : List Rule) (i : ℕ) → leb (suc i) (length rs) ≡ is_some (get_elem? rs i)
-    go [] i = lt-leb (suc i) 0 (omega arith)
-    go (r ∷ rs) zero = le-leb 1 (suc (length rs)) (omega arith)
-    go (r ∷ rs) (suc i) = less i (length rs) ∙ go rs i
-
-pub rule_low : (n : ℕ) → n < 1 → false ≡ is_some (rule_at n)
-rule_low zero h = refl
-rule_low (suc n) h = absurd (omega arith)
-
 -- ---- the literal of a chain
 pub one_kept : (n k : ℕ) → k < n → all_below n (k ∷ []) ≡ true
 one_kept n k h = rw (lt-ltb k n h)

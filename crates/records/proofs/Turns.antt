@@ -35,7 +35,7 @@ use Rattle.terms.specs.declared.stop.Stop.TheVariants as S
 use Rattle.terms.specs.Numbered.{stop_code, code_in}
 use Rattle.terms.specs.declared.Term.{Term}
 use Rattle.terms.specs.Framing.{record_at}
-use Rattle.terms.specs.Decoded.{Inside, PlacedIn, read_of, item_of, fault_of, op_of, arguments_of, words_in}
+use Rattle.terms.specs.Decoded.{PlacedIn, read_of, item_of, fault_of, op_of, arguments_of, words_in}
 use Rattle.rows.specs.Rows.{offsets}
 use Rattle.store.specs.declared.shelf.Terms.{Terms}
 use Rattle.store.specs.KeptTerms.{Holds, kept_terms, kept_term}
@@ -47,7 +47,7 @@ use Rattle.steps.specs.declared.answers.Reply.{Reply}
 use Rattle.records.specs.declared.Turn.{Turn}
 use Rattle.store.specs.declared.gates.Kept.{Kept}
 use Rattle.store.specs.Lookup.{Finds}
-use Rattle.steps.specs.Answering.{given, equation_depth, with_notes, Literals, Judged}
+use Rattle.steps.specs.Answering.{given, equation_depth, with_notes, Judged}
 use Rattle.steps.proofs.Equations.{accepted_depth}
 use Rattle.steps.proofs.Judging.{judged_is}
 use Rattle.rows.specs.Layout.{link_size, place_end}
@@ -57,7 +57,7 @@ use Rattle.records.specs.Turning.{turn, Reading, answers_at, origins_at, memory_
 use Rattle.steps.proofs.Writing.{none_written}
 use Rattle.std.proofs.lemmas.Result.{err_from_is_err_and}
 use Rattle.records.proofs.StepTests.{fault_6, fault_9, fault_room, one_kept, one_gone}
-use Rattle.theory.proofs.Basics.{T_true, some_inj}
+use Rattle.theory.proofs.Basics.{some_inj}
 use Rattle.store.specs.Kept.{Reads}
 
 -- the error that `?` returns is the one that was met
@@ -336,13 +336,15 @@ module _ (limits : Limits) (place : ℕ) {job work : Bytes} {rows at rule : ℕ}
     step_right = step_passed place (number_length job) limits (length work) (length answers) (listed job work rows) answered (record_at job at) rule (words_in job literals) (sym (f ∙ same_code))
 
     -- its answer is written
-    pub step_turned : {reply : Reply} {after : Bytes}
-        → ((by : Rule) → rule_at rule ≡ some by → given rule reply ≡ answer_to rule by (map (tree_at (listed job work rows)) (words_in job literals)))
+    pub step_turned : {by : Rule} → rule_at rule ≡ some by → (reply : Reply) {after : Bytes}
+        → given rule reply ≡ answer_to rule by (map (tree_at (listed job work rows)) (words_in job literals))
         → after ≡ with_notes (number_length job) answers answered at (given rule reply ∷ []) → {u : Turn} → u ≡ turn (answered + 1) rows 0 → Turned limits place job work answers rows answered at work after (Ok u)
-    step_turned {reply} {after} says wrote d =
+    step_turned {by} known reply {after} says wrote d =
         let p = step_right in
+        let ts = map (tree_at (listed job work rows)) (words_in job literals) in
+        let same : p.rule ≡ by = some_inj p.rule by (sym p.rule_is ∙ known) in
         answering limits place (told g) answers answered (f ∙ same_code) refl refl refl refl
-        (step_answer (number_length job) (length answers) (listed job work rows) answered rule (words_in job literals) p ∙ ap (λ (a : Answer). a ∷ []) (sym (says p.rule p.rule_is)))
+        (step_answer (number_length job) (length answers) (listed job work rows) answered rule (words_in job literals) p ∙ ap (λ (a : Answer). a ∷ []) (ap (λ (r : Rule). answer_to rule r ts) same ∙ sym says))
         wrote d
 
 -- ---- a chain

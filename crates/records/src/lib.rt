@@ -29,20 +29,45 @@ pub struct Turn {
     pub repeats: usize,
 }
 
+// Where a job stands before a record: the rows kept, the answers written, and the record's place.
+#[derive(Clone, Copy)]
+struct Position<'a> {
+    job: &'a [u8],
+    rows: usize,
+    answered: usize,
+    at: usize,
+}
+
+impl<'a> Position<'a> {
+    ghost use Rattle.records.specs.Turning.{turn};
+
+    // What stands after a record that writes no answer.
+    fn unanswered(&self, rows: usize, repeats: usize) -> Turn
+        ensures { result ≡ turn self.now.answered rows repeats }
+    {
+        Turn {
+            answers: self.answered,
+            rows,
+            repeats,
+        }
+    }
+}
+
 // Why a record that says no term, step, chain or back stops the job: `Unknown`, unless it is the
 // job's first and asks for long numbers; then `Misfit` where it has a body.
-fn opening_fault(job: &[u8], place: usize, at: usize) -> Result<(), Stop>
-    requires { whole (drop at job.now) ≡ true }
-    ensures { code_in result ≡ first_fault (opening_tests place (record_at job.now at)) }
+fn opening_fault(here: &Position, place: usize) -> Result<(), Stop>
+    requires { whole (drop here.now.at here.now.job.now) ≡ true }
+    ensures { code_in result
+        ≡ first_fault (opening_tests place (record_at here.now.job.now here.now.at)) }
 {
     if place != 0 {
         return Err(Stop::Unknown);
     }
-    if Term::number(job, at + Term::KIND_AT) != u32::from(Term::LONG_KIND) {
+    if Term::number(here.job, here.at + Term::KIND_AT) != u32::from(Term::LONG_KIND) {
         return Err(Stop::Unknown);
     }
     // A record's length counts its kind.
-    if Term::number(job, at) as usize != Term::NUMBER_BYTES {
+    if Term::number(here.job, here.at) as usize != Term::NUMBER_BYTES {
         return Err(Stop::Misfit);
     }
     Ok(())
@@ -65,22 +90,22 @@ pub fn take_record(
     ensures { Turned (limits_of limits) place job.now work.old answers.old
         rows answered at work.new answers.new result }
 {
+    let here = Position {
+        job,
+        rows,
+        answered,
+        at,
+    };
     match Term::read(job, at) {
-        Ok(Item::Term(t)) => term_record(job, work, limits, rows, answered, at, t),
-        Ok(Item::Step(rule, literals)) => step_record(
-            job, work, answers, rows, answered, at, rule, literals,
-        ),
-        Ok(Item::Chain(rule, premises, literal)) => chain_record(
-            job, work, answers, rows, answered, at, rule, premises, literal,
-        ),
-        Ok(Item::Back(count)) => back_record(job, work, rows, answered, at, count),
+        Ok(Item::Term(t)) => term_record(&here, work, limits, t),
+        Ok(Item::Step(rule, literals)) => step_record(&here, work, answers, rule, literals),
+        Ok(Item::Chain(rule, premises, literal)) => {
+            chain_record(&here, work, answers, rule, premises, literal)
+        }
+        Ok(Item::Back(count)) => back_record(&here, work, count),
         Err(Fault::Unknown) => {
-            opening_fault(job, place, at)?;
-            Ok(Turn {
-                answers: answered,
-                rows,
-                repeats: 0,
-            })
+            opening_fault(&here, place)?;
+            Ok(here.unanswered(rows, 0))
         }
         Err(Fault::Misfit) => Err(Stop::Misfit),
     }

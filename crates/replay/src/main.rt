@@ -3,16 +3,17 @@
 // A line of the file is five numbers of eight hexadecimal digits, the bytes of work memory lent, of
 // answers lent, and of the job, the width limit and the term limit, and then the job's bytes. What
 // is printed for it: stop code, records done, answers written, terms kept, repeats, and the bytes
-// of the answers. Both lent memories are full of other bytes before.
+// of the answers. Both lent memories are full of other bytes before. A character that is no digit
+// ends it with an error.
 #![tactic(auto)]
 
-ghost use Rattle.std.specs.Prelude.{◌≡◌, ◌≤◌, ◌<◌, length};
+ghost use Rattle.std.specs.Prelude.{◌≡◌, ◌≤◌, ◌<◌, IfOk, length};
 
 use bitblast::bb_job_within;
 use std::io::Read;
 use std::{fs, io};
 use streams::read_full;
-use terms::{ANSWER_BYTES, DEPTH_AT, Term};
+use terms::{DEPTH_AT, Term};
 
 // The digits of a number, and those with the space after them.
 const DIGITS: usize = 8;
@@ -42,46 +43,29 @@ struct Lent {
     answers: [u8; LENT],
 }
 
-// The value of a hexadecimal digit.
-fn digit(b: u8) -> u8
-    ensures { result < 16 }
+// Stores the bytes of the digits, two each.
+fn decode(text: &[u8], bytes: &mut [u8]) -> io::Result<()>
+    ensures { length bytes.new ≡ length bytes.old }
 {
-    if b >= b'a' {
-        return (b - b'a') % 6 + 10;
-    }
-    if b >= b'0' {
-        return (b - b'0') % 10;
-    }
-    0
+    hex::decode_to_slice(text, bytes).map_err(|_| io::Error::from(io::ErrorKind::InvalidData))
 }
 
 // The number of field k.
-fn field(head: &[u8; HEAD], k: usize) -> u32
+fn field(head: &[u8; HEAD], k: usize) -> io::Result<u32>
     requires { k < 5 }
 {
     let at = FIELD * k;
-    let mut n: u32 = 0;
-    for &b in &head[at..at + DIGITS] {
-        n = n << 4 | u32::from(digit(b));
-    }
-    n
+    let mut number = [0u8; DIGITS / 2];
+    decode(&head[at..at + DIGITS], &mut number)?;
+    Ok(u32::from_be_bytes(number))
 }
 
 // The same, but no more than `most`.
-fn capped(head: &[u8; HEAD], k: usize, most: usize) -> usize
+fn capped(head: &[u8; HEAD], k: usize, most: usize) -> io::Result<usize>
     requires { k < 5 }
-    ensures { result ≤ most }
+    ensures { IfOk result (λ n. n ≤ most) }
 {
-    (field(head, k) as usize).min(most)
-}
-
-// Stores the bytes of the digits, two each.
-fn decode(text: &[u8], job: &mut [u8])
-    ensures { length job.new ≡ length job.old }
-{
-    for (byte, pair) in job.iter_mut().zip(text.chunks_exact(2)) {
-        *byte = digit(pair[0]) * 16 + digit(pair[1]);
-    }
+    Ok((field(head, k)? as usize).min(most))
 }
 
 // Prints the first n bytes in two hexadecimal digits each, and ends the line.
@@ -93,13 +77,9 @@ fn print_bytes(rt: &impl Print, bytes: &[u8], n: usize) -> io::Result<()> {
 }
 
 // The bytes of so many answers to a job's steps.
+#[tactic(auto, using(theory::proofs::Lengths::length_most))]
 fn answers_size(job: &[u8], count: u32) -> usize {
-    let size = if Term::number_length(job) == Term::LONG_BYTES {
-        DEPTH_AT + Term::LONG_BYTES
-    } else {
-        ANSWER_BYTES
-    };
-    count as usize * size
+    count as usize * (DEPTH_AT + Term::number_length(job))
 }
 
 // Runs a job on the lent memories under two limits, and prints what it came to.
@@ -127,11 +107,11 @@ fn line<P: Print, R: Read>(rt: &P, file: &mut R, lent: &mut Lent) -> io::Result<
     if read_full(file, &mut head)? < HEAD {
         return Ok(false);
     }
-    let room = capped(&head, 0, LENT);
-    let answered = capped(&head, 1, LENT);
-    let size = capped(&head, 2, LENT);
-    let width = field(&head, 3);
-    let terms = field(&head, 4);
+    let room = capped(&head, 0, LENT)?;
+    let answered = capped(&head, 1, LENT)?;
+    let size = capped(&head, 2, LENT)?;
+    let width = field(&head, 3)?;
+    let terms = field(&head, 4)?;
     if LENT <= 2 * size {
         return Ok(false);
     }
@@ -140,7 +120,7 @@ fn line<P: Print, R: Read>(rt: &P, file: &mut R, lent: &mut Lent) -> io::Result<
     let work = &mut lent.work[..];
     let answers = &mut lent.answers[..];
     read_full(file, &mut text[..2 * size + 1])?;
-    decode(text, &mut job[..size]);
+    decode(&text[..2 * size], &mut job[..size])?;
     run(
         rt,
         &job[..size],

@@ -48,7 +48,7 @@ fn code(stop: Option<Stop>) -> u32
 {
     match stop {
         None => 0,
-        Some(s) => s.number(),
+        Some(s) => u32::from(s),
     }
 }
 

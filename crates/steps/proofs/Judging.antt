@@ -2,14 +2,13 @@
 use mathlib.Core.Path.{◌≡◌, refl, sym, ap, ◌∙◌}
 use mathlib.Core.Bool.{Bool, true, false, cond}
 use mathlib.Core.List.{List, [], ◌∷◌, map}
-use Prim.Native.Nat.{ℕ, ◌+◌, ◌<◌, ◌≤◌}
+use Prim.Native.Nat.{ℕ, ◌+◌, ◌<◌}
 use native.Mathlib.Omega.{arith}
 use lib.Dec.{ltb}
 use lib.ListN.{length, drop, get_or, length-map}
 use borrow.Author.Tests.{ltb-true}
 use Rattle.theory.specs.Limit.{first_terms}
 use Rattle.theory.specs.Term.{Term}
-use Rattle.theory.specs.Verdict as W
 use Rattle.theory.specs.Verdict.{Verdict, code_of, accepted}
 use Rattle.theory.specs.RuleTable.{Rule}
 use Rattle.theory.specs.Rule.{on_sides, verdict}
@@ -22,25 +21,22 @@ use Rattle.theory.proofs.Bytes.{words_length}
 use Rattle.terms.specs.declared.Args.{Args}
 use Rattle.terms.specs.Decoded.{words_in}
 use Rattle.terms.proofs.Parts.{both}
+use Rattle.operand_rules.specs.Rules.{verdict_of}
 use Rattle.steps.specs.declared.answers.Reply.{Reply}
 use Rattle.store.specs.declared.gates.Kept.{Kept}
 use Rattle.store.specs.Kept.{words_of}
 use Rattle.steps.specs.Answering.{given, equation_depth, Literals, Judged}
 use Rattle.steps.proofs.Equations.{accepted_depth}
 
--- a reply by its parts
-abbrev pub reply : ℕ → ℕ → Reply
-reply code depth = record { code = code; depth = depth }
-
 -- it is theory's, where an accepted literal has a right side
 pub judged_is : (n : ℕ) {v : Verdict} {t : Term} {r : Reply} → Judged v t r → (accepted v ≡ true → equation_depth t ≡ right_depth t) → given n r ≡ judged n v t
-judged_is n {v} {t} {r} j f = given_by j.code_is (j.depth_is ∙ go (accepted v) f)
+judged_is n {v} {t} {r} j f = given_by (ap code_of j.verdict_is) (j.depth_is ∙ go (accepted v) f)
   where
     go : (b : Bool) → (b ≡ true → equation_depth t ≡ right_depth t) → cond b (equation_depth t) 0 ≡ cond b (right_depth t) 0
     go true g = g refl
     go false g = refl
 
-    given_by : {c d : ℕ} → r.code ≡ c → r.depth ≡ d → given n r ≡ record { rule = n; code = c; depth = d }
+    given_by : {c d : ℕ} → code_of (verdict_of r.verdict) ≡ c → r.depth ≡ d → given n r ≡ record { rule = n; code = c; depth = d }
     given_by p q = rw (p, q)
 
 -- a rule's verdict
@@ -56,11 +52,10 @@ not_one n rule (t ∷ []) h = absurd (h refl)
 not_one n rule (t ∷ u ∷ us) h = refl
 
 -- by the count of its literals in the job
-pub others_unjudged : (n : ℕ) (rule : Rule) (list : Plain) (job : Bytes) (a : Args) → (a.count ≡ 1 → ⊥) → {c : ℕ} → c ≡ code_of W.not_one_literal
-    → given n (reply c 0) ≡ answer_to n rule (map (tree_at list) (words_in job a))
-others_unjudged n rule list job a h f =
-    ap (λ (c : ℕ). given n (reply c 0)) f
-    ∙ not_one n rule (map (tree_at list) (words_in job a)) (λ e. h (sym (words_length a.bytes a.count _) ∙ sym (length-map (words_in job a) (tree_at list)) ∙ e))
+pub others_unjudged : (n : ℕ) (rule : Rule) (list : Plain) (job : Bytes) (a : Args) → (a.count ≡ 1 → ⊥)
+    → unjudged n ≡ answer_to n rule (map (tree_at list) (words_in job a))
+others_unjudged n rule list job a h =
+    not_one n rule (map (tree_at list) (words_in job a)) (λ e. h (sym (words_length a.bytes a.count _) ∙ sym (length-map (words_in job a) (tree_at list)) ∙ e))
 
 -- the literal of a clause of one is below a bound of all, and so kept
 one_below : (b : ℕ) (ks : List ℕ) → length ks ≡ 1 → all_below b ks ≡ true → {x : ℕ} → x ≡ get_or ks 0 0 → x < b

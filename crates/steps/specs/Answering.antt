@@ -14,6 +14,7 @@ use Rattle.terms.specs.declared.Args.{Args}
 use Rattle.terms.specs.Decoded.{Inside}
 use Rattle.store.specs.declared.gates.Kept.{Kept}
 use Rattle.store.specs.Kept.{words_of}
+use Rattle.operand_rules.specs.Rules.{verdict_of}
 use Rattle.steps.specs.declared.answers.Reply.{Reply}
 
 -- the depth of the right side of an equation, 0 of any other term
@@ -22,7 +23,7 @@ equation_depth t = either 0 (λ p. depth p.1) (sides t)
 
 -- a reply with its rule
 abbrev pub given : ℕ → Reply → Answer
-given rule r = record { rule = rule; code = r.code; depth = r.depth }
+given rule r = record { rule = rule; code = code_of (verdict_of r.verdict); depth = r.depth }
 
 -- ---- the answers' memory while the job runs; a depth has b bytes, as many as a term's number
 -- the bytes of an answer before its rule
@@ -69,7 +70,7 @@ pub record Literals (kept : Kept) (literals : Args) : Type 0 where
   pub inside : Inside kept.lookup.job.now literals
   pub below : all_below (first_terms + kept.lookup.rows) (words_of kept literals) ≡ true
 
--- the reply has the verdict's code; and the right side's depth where it accepts
+-- the reply has the verdict; and the right side's depth where it accepts
 pub record Judged (v : Verdict) (literal : Term) (r : Reply) : Type 0 where
-  pub code_is : r.code ≡ code_of v
+  pub verdict_is : verdict_of r.verdict ≡ v
   pub depth_is : r.depth ≡ cond (accepted v) (equation_depth literal) 0

@@ -2,20 +2,22 @@
 // a term's number has. While the job runs, the bytes of an answer's length and kind hold the place
 // of its step's record in the job, by which a chain finds the literals of its premises; they are
 // written when the job has ended.
-ghost use Rattle.std.specs.Prelude.{◌≡◌, [], ◌∷◌, suc, ◌*◌, ◌≤◌, length};
+ghost use Rattle.std.specs.Prelude.{◌≡◌, [], ◌∷◌, suc, ◌*◌, ◌≤◌, ◌<◌, length};
 ghost use Rattle.theory.specs.Limit.{answer_bytes, max_job};
+ghost use Rattle.theory.proofs.Facts.{kept_facts};
 ghost use Rattle.terms.specs.Bodies.{Length};
 ghost use Rattle.rows.specs.Layout.{Bounded, number_end};
 ghost use Rattle.steps.specs.Answering.{given, step_place, step_code, with_notes, sealed};
 
+use operand_rules::Verdict;
 use rows::bytes::{number, put_number};
 use rows::layout::OFFSET_BYTES;
 use terms::{ANSWER_KIND_AT, CODE_AT, DEPTH_AT, RULE_AT, Term};
 
-// The answer to a step, but for its rule: the verdict's code, and a depth.
+// The answer to a step, but for its rule: the verdict, and a depth.
 #[derive(Clone, Copy)]
 pub struct Reply {
-    pub code: u32,
+    pub verdict: Verdict,
     pub depth: usize,
 }
 
@@ -30,28 +32,40 @@ pub fn put_answer(d: &mut [u8], bytes: usize, k: usize, place: usize, rule: u32,
     ensures { d.new ≡ with_notes bytes d.old k place (given rule reply ∷ []) }
 {
     let at = (DEPTH_AT + bytes) * k;
+    let code = u32::from(reply.verdict);
     put_number(d, at, RULE_AT, place);
     put_number(d, at + RULE_AT, Term::NUMBER_BYTES, rule as usize);
-    put_number(d, at + CODE_AT, Term::NUMBER_BYTES, reply.code as usize);
+    put_number(d, at + CODE_AT, Term::NUMBER_BYTES, code as usize);
     put_number(d, at + DEPTH_AT, bytes, reply.depth);
 }
 
-// The place of the record of answer k's step.
-pub fn place_at(d: &[u8], bytes: usize, k: usize) -> usize
-    requires sized { Length bytes }
-    requires there { answer_bytes bytes * suc k ≤ length d.now }
-    ensures { Bounded result (step_place bytes d.now k) max_job }
-{
-    number(d, (DEPTH_AT + bytes) * k, OFFSET_BYTES)
+// The answers so far, as they stand while the job runs, each with a depth of so many bytes.
+#[derive(Clone, Copy)]
+pub struct Answers<'a> {
+    pub memory: &'a [u8],
+    pub bytes: usize,
+    pub count: usize,
+    pub ghost sized: { Length bytes } by { Prim.hlevel kept_facts },
+    pub ghost roomy: { answer_bytes bytes * count ≤ length memory.now } by { Prim.hlevel kept_facts },
 }
 
-// The code of answer k.
-pub fn code_at(d: &[u8], bytes: usize, k: usize) -> usize
-    requires sized { Length bytes }
-    requires there { answer_bytes bytes * suc k ≤ length d.now }
-    ensures { Bounded result (step_code bytes d.now k) number_end }
-{
-    number(d, (DEPTH_AT + bytes) * k + CODE_AT, Term::NUMBER_BYTES)
+impl<'a> Answers<'a> {
+    // The place of the record of answer k's step.
+    pub fn place_at(&self, k: usize) -> usize
+        requires { k < self.now.count }
+        ensures { Bounded result (step_place self.now.bytes self.now.memory.now k) max_job }
+    {
+        number(self.memory, (DEPTH_AT + self.bytes) * k, OFFSET_BYTES)
+    }
+
+    // The code of answer k.
+    pub fn code_at(&self, k: usize) -> usize
+        requires { k < self.now.count }
+        ensures { Bounded result (step_code self.now.bytes self.now.memory.now k) number_end }
+    {
+        let at = (DEPTH_AT + self.bytes) * k + CODE_AT;
+        number(self.memory, at, Term::NUMBER_BYTES)
+    }
 }
 
 // Writes the length and the kind of the first n answers.

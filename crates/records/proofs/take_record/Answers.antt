@@ -26,9 +26,9 @@ returns-in_err-opening_fault-in-Err-Unknown c = rw (same_err c.from_residual.res
 
 pub returns-in_ok-opening_fault-in-Err-Unknown : goal.returns-in_ok-opening_fault-in-Err-Unknown
 returns-in_ok-opening_fault-in-Err-Unknown c =
-    opened (limits_of c.args.limits) c.args.place
+    rw c.unanswered.ensures (opened (limits_of c.args.limits) c.args.place
     (told_none c.read.result F.Unknown c.requires.noted.store c.read.ensures.says (let f = c.in-Err-Unknown.is in let g = c.in-Err-Unknown.field-0-is in cc)) c.args.answers.now c.args.answered
-    (sym (ap code_in c.in_ok-opening_fault-in-Err-Unknown.was) ∙ c.opening_fault.ensures)
+    (sym (ap code_in c.in_ok-opening_fault-in-Err-Unknown.was) ∙ c.opening_fault.ensures))
 
 pub returns-in-Err-Misfit : goal.returns-in-Err-Misfit
 returns-in-Err-Misfit c =

@@ -1,8 +1,6 @@
 -- `right_depth`: a literal that is no equation is not accepted, and an equation's right side is its second argument.
-use mathlib.Core.Path.{ap, ◌∙◌}
+use mathlib.Core.Path.{◌∙◌}
 use borrow.Author.Rules.{rules}
-use Rattle.terms.specs.Decoded.{operands_of}
-use Rattle.operand_rules.proofs.Forms.{right_below}
 use Rattle.steps.proofs.Equations.{no_depth, right_of}
 use Rattle.steps.proofs.right_depth.Goals as goal
 

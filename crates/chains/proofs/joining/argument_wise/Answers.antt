@@ -9,20 +9,21 @@ returns-then-count-premises c = other_left _ _ c.requires (λ e. c.if-count-prem
 pub returns-then-count-premises-2 : goal.returns-then-count-premises-2
 returns-then-count-premises-2 c = other_right _ _ c.requires (λ e. c.if-count-premises-2.true (c.count-2.ensures ∙ e))
 
-pub shows-requires-clause-joining : goal.shows-requires-clause-joining
-shows-requires-clause-joining c =
-    arguments_join _ _ c.requires (sym c.count.ensures ∙ c.if-count-premises.false) (sym c.count-2.ensures ∙ c.if-count-premises-2.false)
-    c.loop-i-test.true c.operand.ensures c.operand-in-loop-i.ensures
+pub shows-requires : goal.shows-requires
+shows-requires c =
+    let joining = arguments_join _ _ c.requires (sym c.count.ensures ∙ c.if-count-premises.false) (sym c.count-2.ensures ∙ c.if-count-premises-2.false)
+    c.loop-i-test.true c.operand.ensures c.operand-in-loop-i.ensures in
+    record { left = joining.left; right = joining.right }
 
 pub returns-then-not-shows : goal.returns-then-not-shows
 returns-then-not-shows c =
     argue_fails _ _ c.requires (sym c.count.ensures ∙ c.if-count-premises.false) (sym c.count-2.ensures ∙ c.if-count-premises-2.false) c.loop-i.invariant
-    c.loop-i-test.true c.operand.ensures c.operand-in-loop-i.ensures c.shows.ensures c.if-not-shows.true
+    c.loop-i-test.true c.operand.ensures c.operand-in-loop-i.ensures c.argument-number.ensures c.shows.ensures c.if-not-shows.true
 
 pub loop-i-preserved : goal.loop-i-preserved
 loop-i-preserved c =
     argue_turn _ _ c.requires (sym c.count.ensures ∙ c.if-count-premises.false) (sym c.count-2.ensures ∙ c.if-count-premises-2.false) c.loop-i.invariant
-    c.loop-i-test.true c.operand.ensures c.operand-in-loop-i.ensures c.shows.ensures c.if-not-shows.false
+    c.loop-i-test.true c.operand.ensures c.operand-in-loop-i.ensures c.argument-number.ensures c.shows.ensures c.if-not-shows.false
 
 pub returns : goal.returns
 returns c =

@@ -1,7 +1,11 @@
 -- `symm`: one premise, turned round.
-use mathlib.Core.Path.{◌∙◌}
+use mathlib.Core.Path.{ap, ◌∙◌}
+use Prim.Native.Nat.{ℕ}
 use native.Mathlib.Omega.{arith}
 use Rattle.terms.proofs.Lists.{words_in_length}
+use Rattle.store.specs.KeptTerms.{kept_term}
+use Rattle.chains.specs.Premises.{is_equality}
+use Rattle.chains.specs.Told.{sides_told}
 use Rattle.chains.proofs.Joins.{symm_other, symm_one}
 use Rattle.chains.proofs.joining.symm.Goals as goal
 
@@ -11,4 +15,7 @@ returns-then-premises-ne1 c =
 
 pub returns : goal.returns
 returns c =
-    c.shows.ensures ∙ symm_one _ _ _ _ _ (words_in_length c.args.past.now.terms.job.now c.args.premises ∙ c.if-premises-ne1.false)
+    let p = c.args.past.now in
+    c.shows.ensures
+    ∙ ap (λ (k : ℕ). is_equality (kept_term p.terms c.args.r) (kept_term p.terms c.args.l) (sides_told p k)) c.argument.ensures
+    ∙ symm_one _ _ _ _ _ (words_in_length c.args.past.now.terms.job.now c.args.premises ∙ c.if-premises-ne1.false)

@@ -1,6 +1,6 @@
 -- `seal`: after k turns the first k answers have their length and kind.
 use borrow.Author.Rules.{rules}
-use Rattle.steps.proofs.Writing.{sealing_start, sealing_room, sealing_turn}
+use Rattle.steps.proofs.Writing.{sealing_start, sealing_turn}
 use Rattle.steps.proofs.answers.seal.Goals as goal
 
 pub loop-k-init : goal.loop-k-init

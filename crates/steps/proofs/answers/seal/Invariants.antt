@@ -1,4 +1,3 @@
-use lib.ListN.{length}
 use Rattle.steps.proofs.Writing.{Sealing}
 use Rattle.steps.proofs.answers.seal.Given as goal
 

@@ -1,18 +1,14 @@
--- `all_stand`: the test of the list is that of what is left from i on (Standing, `Passing`).
-use native.Mathlib.Omega.{arith}
-use Rattle.terms.proofs.Lists.{words_in_length}
+use mathlib.Core.Path.{refl}
 use Rattle.chains.proofs.Standing.{pass_turn, pass_fails, pass_end, broken_tree, standing_tree}
 use Rattle.chains.proofs.premises.Past.all_stand.Goals as goal
 
 pub returns-in_default : goal.returns-in_default
-returns-in_default c =
-    pass_fails c.loop-i.invariant (omega (arith, words_in_length c.args.self.now.terms.job.now c.args.premises, c.loop-i-test.true))
-    (broken_tree _ _ _ _ _ c.args.self.now.noted.store _ _ _ c.premise_at.ensures c.argument.ensures c.in_default.is)
+returns-in_default c = pass_fails _ _ c.loop-k.invariant c.in-Some.ensures.steps
+    (broken_tree _ _ _ _ _ c.args.self.now.noted.store _ _ _ c.premise_at.ensures refl c.in_default.is)
 
-pub loop-i-preserved : goal.loop-i-preserved
-loop-i-preserved c =
-    pass_turn c.loop-i.invariant (omega (arith, words_in_length c.args.self.now.terms.job.now c.args.premises, c.loop-i-test.true))
-    (standing_tree _ _ _ _ _ c.args.self.now.noted.store _ _ _ c.premise_at.ensures c.argument.ensures c.in-Some.is)
+pub loop-k-preserved : goal.loop-k-preserved
+loop-k-preserved c = pass_turn _ _ c.loop-k.invariant c.in-Some.ensures.steps
+    (standing_tree _ _ _ _ _ c.args.self.now.noted.store _ _ _ c.premise_at.ensures refl c.in-Some-premise_at.is)
 
 pub returns : goal.returns
-returns c = pass_end c.loop-i.invariant (omega (arith, words_in_length c.args.self.now.terms.job.now c.args.premises, c.loop-i-test.false))
+returns c = pass_end _ _ c.loop-k.invariant c.in-None.ensures.steps.0

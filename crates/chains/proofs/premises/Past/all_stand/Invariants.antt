@@ -1,8 +1,11 @@
-use Rattle.terms.specs.Decoded.{words_in}
+use mathlib.Core.Path.{◌≡◌}
 use Rattle.store.specs.KeptTerms.{kept_terms}
-use Rattle.chains.specs.Told.{earlier_told}
-use Rattle.chains.proofs.Standing.{Passing}
+use Rattle.terms.specs.Numbers.{numbers_left}
+use Rattle.theory.specs.Optional.{is_some}
+use Rattle.chains.specs.Told.{earlier_told, premises_told}
+use Rattle.chains.proofs.Standing.{all_there}
 use Rattle.chains.proofs.premises.Past.all_stand.Given as goal
 
-abbrev pub invariant-loop-i : goal.invariant-loop-i
-invariant-loop-i l = Passing (earlier_told l.self) (kept_terms l.self.terms) (words_in l.self.terms.job.now l.premises) l.i
+abbrev pub invariant-loop-k : goal.invariant-loop-k
+invariant-loop-k l =
+    is_some (premises_told l.self l.fn.premises) ≡ all_there (earlier_told l.self) (kept_terms l.self.terms) (numbers_left l.k-iterator)
