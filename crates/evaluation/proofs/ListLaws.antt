@@ -32,17 +32,6 @@ use Rattle.evaluation.specs.Cells.{AllRight, sorts_on, values_on, Given, GivenLi
 use Rattle.evaluation.proofs.PlaceLaws.{place_sort, place_number, place_val}
 
 -- ---- lists
-drop_map : {A : Type 0} (f : ℕ → A) (ks : List ℕ) (i : ℕ) → i < length ks → drop i (map f ks) ≡ f (get_or ks i 0) ∷ drop (suc i) (map f ks)
-drop_map f [] i h = absurd (omega arith)
-drop_map f (k ∷ ks) zero h = refl
-drop_map f (k ∷ ks) (suc i) h = drop_map f ks i (omega arith)
-
-drop_end : {A : Type 0} (f : ℕ → A) (ks : List ℕ) (i : ℕ) → length ks ≤ i → drop i (map f ks) ≡ []
-drop_end f [] zero h = refl
-drop_end f [] (suc i) h = refl
-drop_end f (k ∷ ks) zero h = absurd (omega arith)
-drop_end f (k ∷ ks) (suc i) h = drop_end f ks i (omega arith)
-
 pub below_at : (m : ℕ) (ks : List ℕ) (i : ℕ) → T (all_below m ks) → i < length ks → get_or ks i 0 < m
 below_at m [] i b h = absurd (omega arith)
 below_at m (k ∷ ks) zero b h = ltb→lt k m (and_l (ltb k m) _ b)
@@ -77,13 +66,19 @@ abbrev folded : Many → List Val → Val
 folded op [] = truth false
 folded op (v ∷ vs) = foldl (extend_val op) (start_val op v) vs
 
--- the first i arguments have come to acc
-pub record Folding (job work : Bytes) (n : ℕ) (num : ℕ → ℕ) (op : Many) (ks : List ℕ) (acc : Word) (i : ℕ) : Type 0 where
-  pub low : 1 ≤ i
-  pub most : i ≤ length ks
-  pub room : Room op acc.width (drop i (map (width_on (listed job work n)) ks))
+-- the arguments before the rest have come to acc
+pub record Folding (job work : Bytes) (n : ℕ) (num : ℕ → ℕ) (op : Many) (ks : List ℕ) (acc : Word) (rest : List ℕ) : Type 0 where
+  pub low : T (all_below (first_terms + n) rest)
+  pub room : Room op acc.width (map (width_on (listed job work n)) rest)
   pub below : acc.value < 2 ^ bits_by acc.width
-  pub whole : foldl (extend_val op) (val_by acc.width acc.value) (drop i (map (val_on (listed job work n) num) ks)) ≡ folded op (map (val_on (listed job work n) num) ks)
+  pub whole : foldl (extend_val op) (val_by acc.width acc.value) (map (val_on (listed job work n) num) rest) ≡ folded op (map (val_on (listed job work n) num) ks)
+
+-- the first of terms that are kept is kept, and so are the others
+pub first_below : {m k : ℕ} {ks others : List ℕ} → T (all_below m ks) → ks ≡ k ∷ others → k < m
+first_below {m} {k} h d = ltb→lt k m (and_l (ltb k m) _ (subst (λ (ls : List ℕ). T (all_below m ls)) d h))
+
+others_below : (m : ℕ) {k : ℕ} {ks others : List ℕ} → T (all_below m ks) → ks ≡ k ∷ others → T (all_below m others)
+others_below m {k} h d = and_r (ltb k m) _ (subst (λ (ls : List ℕ). T (all_below m ls)) d h)
 
 module _ {job work : Bytes} {n : ℕ} {num : ℕ → ℕ} (op : Many) (ks : List ℕ) (g : Given job work n num (many_op op) ks) where
   -- there is a first argument
@@ -110,78 +105,65 @@ module _ {job work : Bytes} {n : ℕ} {num : ℕ → ℕ} (op : Many) (ks : List
       ap₂ (λ (v : Val) (vs : List Val). v ∷ vs) (place_val g.able l (ltb→lt l (first_terms + n) (and_l (ltb l (first_terms + n)) _ b)) ρ a.0 refl refl)
       (vals_back ρ ls (and_r (ltb l (first_terms + n)) _ b) a.1)
 
-  -- ---- argument i, with its width and cell
-  module _ (i k m v : ℕ) (h : i < length ks) (d : k ≡ get_or ks i 0) (e : m ≡ sort_width (sort_of (tree_at (listed job work n) k))) (f : v ≡ num k) where
-    pub arg_low : k < first_terms + n
-    arg_low = subst (λ (z : ℕ). z < first_terms + n) (sym d) (below_at (first_terms + n) ks i g.below h)
+  -- ---- the next argument, with its width and cell
+  module _ (k m v : ℕ) (e : m ≡ sort_width (sort_of (tree_at (listed job work n) k))) (f : v ≡ num k) where
+    arg_val : val_by m v ≡ val_on (listed job work n) num k
+    arg_val = ap₂ val_by e f
 
-    arg_number : Number m v
-    arg_number = place_number g.able k arg_low e f
+    module _ (acc : Word) {rest others : List ℕ} (s : Folding job work n num op ks acc rest) (d : rest ≡ k ∷ others) where
+      room_on : Room op acc.width (m ∷ map (width_on (listed job work n)) others)
+      room_on =
+          subst (λ (w : ℕ). Room op acc.width (w ∷ map (width_on (listed job work n)) others)) (sym e)
+          (subst (λ (ls : List ℕ). Room op acc.width (map (width_on (listed job work n)) ls)) d s.room)
 
-    arg_width : m ≡ width_on (listed job work n) (get_or ks i 0)
-    arg_width = e ∙ ap (width_on (listed job work n)) d
+      -- it can follow
+      pub folding_ready : Extends op acc m v
+      folding_ready = record {
+        room = room_first op acc.width _ _ room_on;
+        before = s.below;
+        next = (place_number g.able k (first_below s.low d) e f).below;
+      }
 
-    arg_val : val_by m v ≡ val_on (listed job work n) num (get_or ks i 0)
-    arg_val = ap₂ val_by arg_width (f ∙ ap num d)
+      pub folding_turn : (next : Word) → Extended op acc m v next → Folding job work n num op ks next others
+      folding_turn next x = record {
+        low = others_below (first_terms + n) s.low d;
+        room = subst (λ (w : ℕ). Room op w (map (width_on (listed job work n)) others)) (sym x.width_is) (room_next op acc.width _ _ room_on);
+        below = x.below;
+        whole = ap (λ (u : Val). foldl (extend_val op) u (map (val_on (listed job work n) num) others)) (x.is ∙ ap (extend_val op (val_by acc.width acc.value)) arg_val)
+            ∙ sym (ap (λ (ls : List ℕ). foldl (extend_val op) (val_by acc.width acc.value) (map (val_on (listed job work n) num) ls)) d) ∙ s.whole;
+      }
 
-    -- the arguments after it can follow
-    pub folding_ready : (acc : Word) → Folding job work n num op ks acc i → Extends op acc m v
-    folding_ready acc s =
-        let r = subst (Room op acc.width) (drop_map (width_on (listed job work n)) ks i h) s.room in
-        record {
-          room = subst (λ (z : ℕ). Room op acc.width (z ∷ [])) (sym arg_width) (room_first op acc.width _ _ r);
-          before = s.below;
-          next = arg_number.below;
-        }
+    -- ---- the first argument
+    module _ {others : List ℕ} (d : ks ≡ k ∷ others) where
+      first_sorted : T (good (sort_op (many_op op) (sorts_by (m ∷ map (width_on (listed job work n)) others))))
+      first_sorted =
+          subst (λ (w : ℕ). T (good (sort_op (many_op op) (sorts_by (w ∷ map (width_on (listed job work n)) others))))) (sym e)
+          (subst (λ (ls : List ℕ). T (good (sort_op (many_op op) (sorts_by (map (width_on (listed job work n)) ls))))) d widths_sorted)
 
-    pub folding_turn : (acc next : Word) → Folding job work n num op ks acc i → Extended op acc m v next → Folding job work n num op ks next (i + 1)
-    folding_turn acc next s x =
-        let r = subst (Room op acc.width) (drop_map (width_on (listed job work n)) ks i h) s.room in
-        let q = room_next op acc.width _ _ r in
-        record {
-          low = omega arith;
-          most = omega arith;
-          room = subst (λ (j : ℕ). Room op next.width (drop j (map (width_on (listed job work n)) ks))) (sym (add-one i))
-              (subst (λ (w : ℕ). Room op w (drop (suc i) (map (width_on (listed job work n)) ks))) (sym (x.width_is ∙ ap (next_width op acc.width) arg_width)) q);
-          below = x.below;
-          whole = ap₂ (λ (u : Val) (j : ℕ). foldl (extend_val op) u (drop j (map (val_on (listed job work n) num) ks))) (x.is ∙ ap (extend_val op (val_by acc.width acc.value)) arg_val) (add-one i)
-              ∙ sym (ap (foldl (extend_val op) (val_by acc.width acc.value)) (drop_map (val_on (listed job work n) num) ks i h)) ∙ s.whole;
-        }
+      first_number : Number m v
+      first_number = place_number g.able k (first_below g.below d) e f
 
-  -- ---- the first argument
-  module _ (k m v : ℕ) (d : k ≡ get_or ks 0 0) (e : m ≡ sort_width (sort_of (tree_at (listed job work n) k))) (f : v ≡ num k) where
-    first_width : m ≡ width_on (listed job work n) (get_or ks 0 0)
-    first_width = arg_width 0 k m v some_first d e f
+      pub start_ready : Starts op m v
+      start_ready = record { fits = first_fits op m (map (width_on (listed job work n)) others) first_sorted; first = first_number }
 
-    first_sorted : T (good (sort_op (many_op op) (sorts_by (m ∷ drop 1 (map (width_on (listed job work n)) ks)))))
-    first_sorted =
-        subst (λ (ms : List ℕ). T (good (sort_op (many_op op) (sorts_by ms))))
-        (drop_map (width_on (listed job work n)) ks 0 some_first ∙ ap (λ (w : ℕ). w ∷ drop 1 (map (width_on (listed job work n)) ks)) (sym first_width)) widths_sorted
-
-    pub start_ready : Starts op m v
-    start_ready = record { fits = first_fits op m (drop 1 (map (width_on (listed job work n)) ks)) first_sorted; first = arg_number 0 k m v some_first d e f }
-
-    folded_first : folded op (map (val_on (listed job work n) num) ks) ≡ foldl (extend_val op) (start_val op (val_by m v)) (drop 1 (map (val_on (listed job work n) num) ks))
-    folded_first = ap (folded op) (drop_map (val_on (listed job work n) num) ks 0 some_first ∙ ap (λ (u : Val). u ∷ drop 1 (map (val_on (listed job work n) num) ks)) (sym (arg_val 0 k m v some_first d e f)))
-
-    pub folding_start : (r : Word) → Started op m v r → Folding job work n num op ks r 1
-    folding_start r x = record {
-      low = omega arith;
-      most = some_first;
-      room = subst (λ (w : ℕ). Room op w (drop 1 (map (width_on (listed job work n)) ks))) (sym x.width_is) (room_start op m (drop 1 (map (width_on (listed job work n)) ks)) (arg_number 0 k m v some_first d e f).few first_sorted);
-      below = x.below;
-      whole = ap (λ (u : Val). foldl (extend_val op) u (drop 1 (map (val_on (listed job work n) num) ks))) x.is ∙ sym folded_first;
-    }
+      pub folding_start : (r : Word) → Started op m v r → Folding job work n num op ks r others
+      folding_start r x = record {
+        low = others_below (first_terms + n) g.below d;
+        room = subst (λ (w : ℕ). Room op w (map (width_on (listed job work n)) others)) (sym x.width_is) (room_start op m (map (width_on (listed job work n)) others) first_number.few first_sorted);
+        below = x.below;
+        whole = ap (λ (u : Val). foldl (extend_val op) u (map (val_on (listed job work n) num) others)) (x.is ∙ ap (start_val op) arg_val)
+            ∙ sym (ap (λ (ls : List ℕ). folded op (map (val_on (listed job work n) num) ls)) d);
+      }
 
   -- ---- the end
   folded_meaning : (ρ : Assign) (ls : List ℕ) → 1 ≤ length ls → folded op (map (val_on (listed job work n) num) ls) ≡ meaning ρ (many_op op) (map (val_on (listed job work n) num) ls)
   folded_meaning ρ [] h = absurd (omega arith)
   folded_meaning ρ (l ∷ ls) h = sym (many_meaning ρ op _ _)
 
-  pub folding_done : (acc : Word) (i : ℕ) → length ks ≤ i → Folding job work n num op ks acc i → Comes (listed job work n) num (many_op op) ks acc.value
-  folding_done acc i h s ρ a =
+  pub folding_done : (acc : Word) {rest : List ℕ} → rest ≡ [] → Folding job work n num op ks acc rest → Comes (listed job work n) num (many_op op) ks acc.value
+  folding_done acc h s ρ a =
       sym (number_back acc.width acc.value s.below)
-      ∙ ap as_number (ap (foldl (extend_val op) (val_by acc.width acc.value)) (sym (drop_end (val_on (listed job work n) num) ks i h)) ∙ s.whole
+      ∙ ap as_number (ap (λ (ls : List ℕ). foldl (extend_val op) (val_by acc.width acc.value) (map (val_on (listed job work n) num) ls)) (sym h) ∙ s.whole
       ∙ folded_meaning ρ ks some_first ∙ ap (meaning ρ (many_op op)) (vals_back ρ ks g.below a))
 
 -- ---- a list in the job has as many numbers as it says
@@ -189,14 +171,8 @@ pub count_is : (job : Bytes) (a : Args) → length (words_in job a) ≡ a.count
 count_is job a = words_length a.bytes a.count (drop a.at job)
 
 module _ {job work : Bytes} {n : ℕ} {num : ℕ → ℕ} (op : Many) (a : Args) (g : GivenList job work n num (many_op op) a) where
-  pub count_first : 0 < length (words_in job a)
+  count_first : 0 < length (words_in job a)
   count_first = some_first op (words_in job a) g.given
 
   pub count_some : 0 < a.count
   count_some = omega (arith, count_first, count_is job a)
-
-  pub count_in : {i : ℕ} → i < a.count → i < length (words_in job a)
-  count_in h = omega (arith, count_is job a)
-
-  pub count_out : {i : ℕ} → a.count ≤ i → length (words_in job a) ≤ i
-  count_out h = omega (arith, count_is job a)

@@ -64,10 +64,9 @@ impl<'a> Column<'a> {
         requires { MayTakeList self.now (many_op op) a }
         ensures { ComesTo self.now (many_op op) (words_in self.now.terms.job.now a) result }
     {
-        let first = Term::argument(self.terms.job, a, 0);
+        let (first, others) = a.split_first(self.terms.job);
         let mut acc = start(op, self.terms.width_on(first), self.number(first));
-        for i in 1..a.count {
-            let k = Term::argument(self.terms.job, a, i);
+        for k in others.numbers(self.terms.job) {
             acc = extend(op, acc, self.terms.width_on(k), self.number(k));
         }
         acc.value

@@ -131,31 +131,26 @@ clearing_done c l = record { kept = c.kept; clear = λ p a b. c.clear p a (omega
 pub all_none : (job work : Bytes) → SetAll job work [] work
 all_none job work = record { kept = kept_self job work; marks_are = λ p. refl }
 
-or_assoc : (a b c : Bool) → a || (b || c) ≡ (a || b) || c
-or_assoc true b c = refl
-or_assoc false b c = refl
-
 or_swap : (a b c : Bool) → a || (b || c) ≡ (b || a) || c
 or_swap true true c = refl
 or_swap true false c = refl
 or_swap false true c = refl
 or_swap false false c = refl
 
--- one more after the others
-pub all_then : {job work mid after : Bytes} {k : ℕ} {ks : List ℕ} → SetAll job work ks mid → Set job mid k after → SetAll job work (k ∷ ks) after
-all_then {job} {work} {mid} {after} {k} {ks} r s = record {
-  kept = kept_more r.kept s.kept;
-  marks_are = λ p. s.marks_are p ∙ ap (λ (b : Bool). eqb p k || b) (r.marks_are p) ∙ or_assoc (eqb p k) (element p ks) (mark_of job work p);
+-- one, and then the others
+set_then : {job work mid after : Bytes} {k : ℕ} {ks : List ℕ} → Set job work k mid → SetAll job mid ks after → SetAll job work (k ∷ ks) after
+set_then {job} {work} {k = k} {ks} s r = record {
+  kept = kept_more s.kept r.kept;
+  marks_are = λ p. r.marks_are p ∙ ap (λ (b : Bool). element p ks || b) (s.marks_are p) ∙ or_swap (element p ks) (eqb p k) (mark_of job work p);
 }
 
 -- ---- rooms
 pub room_kept : {job work after : Bytes} {k : ℕ} → Kept job work after → Room job work k → Room job after k
 room_kept e r = record { room = λ l. let z = r.room l in omega (arith, e.length_is) }
 
-pub room_at : {job work : Bytes} (ks : List ℕ) (i : ℕ) → i < length ks → Rooms job work ks → Room job work (get_or ks i 0)
-room_at [] i h r = absurd (omega arith)
-room_at (k ∷ ks) zero h r = r.0
-room_at (k ∷ ks) (suc i) h r = room_at ks i (omega arith) r.1
+rooms_kept : {job work after : Bytes} → Kept job work after → (ks : List ℕ) → Rooms job work ks → Rooms job after ks
+rooms_kept e [] r = tt
+rooms_kept e (k ∷ ks) r = (room_kept e r.0, rooms_kept e ks r.1)
 
 pub room_in : (job work : Bytes) (n : ℕ) → n * row_size (link_size job) ≤ length work → (k : ℕ) → k < first_terms + n → Room job work k
 room_in job work n h k l = record {
@@ -168,39 +163,29 @@ pub rooms_in : (job work : Bytes) (n : ℕ) → n * row_size (link_size job) ≤
 rooms_in job work n h [] b = tt
 rooms_in job work n h (k ∷ ks) b = (room_in job work n h k (ltb→lt k (first_terms + n) (and_l (ltb k (first_terms + n)) _ b)), rooms_in job work n h ks (and_r (ltb k (first_terms + n)) _ b))
 
--- ---- a list, from its end
-pub record Listing (job work : Bytes) (ks : List ℕ) (now : Bytes) (i : ℕ) : Type 0 where
-  pub most : i ≤ length ks
-  pub set : SetAll job work (drop i ks) now
+-- ---- a list: where the rest is marked, all are
+pub record Listing (job work : Bytes) (ks : List ℕ) (now : Bytes) (rest : List ℕ) : Type 0 where
+  pub rooms : Rooms job now rest
+  pub whole : (after : Bytes) → SetAll job now rest after → SetAll job work ks after
 
-drop_all : (ks : List ℕ) (i : ℕ) → length ks ≤ i → drop i ks ≡ []
-drop_all [] zero h = refl
-drop_all [] (suc i) h = refl
-drop_all (k ∷ ks) zero h = absurd (omega arith)
-drop_all (k ∷ ks) (suc i) h = drop_all ks i (omega arith)
+pub listing_start : {job work : Bytes} {ks rest : List ℕ} → rest ≡ ks → Rooms job work ks → Listing job work ks work rest
+listing_start {job} {work} {ks} e r = subst (Listing job work ks work) (sym e) (record { rooms = r; whole = λ after s. s })
 
-drop_at : (ks : List ℕ) (i : ℕ) → i < length ks → drop i ks ≡ get_or ks i 0 ∷ drop (suc i) ks
-drop_at [] i h = absurd (omega arith)
-drop_at (k ∷ ks) zero h = refl
-drop_at (k ∷ ks) (suc i) h = drop_at ks i (omega arith)
+module _ {job work : Bytes} {ks : List ℕ} {now : Bytes} {rest : List ℕ} (l : Listing job work ks now rest) where
+  on : {others : List ℕ} → rest ≡ others → Listing job work ks now others
+  on e = subst (Listing job work ks now) e l
 
-pub listing_start : (job work : Bytes) (ks : List ℕ) (i : ℕ) → length ks ≡ i → Listing job work ks work i
-listing_start job work ks i e = record { most = omega arith; set = subst (λ (ls : List ℕ). SetAll job work ls work) (sym (drop_all ks i (omega arith))) (all_none job work) }
+  pub listing_room : {k : ℕ} {others : List ℕ} → rest ≡ k ∷ others → Room job now k
+  listing_room e = (on e).rooms.0
 
-pub listing_turn : {job work : Bytes} {ks : List ℕ} {now after : Bytes} {i k : ℕ} → 0 < i → Listing job work ks now i → k ≡ get_or ks (i - 1) 0 → Set job now k after → Listing job work ks after (i - 1)
-listing_turn {job} {work} {ks} {now} {after} {i} {k} h s e r =
-    let n : suc (i - 1) ≡ i = omega arith in
-    record {
-      most = omega (arith, s.most);
-      set = subst (λ (ls : List ℕ). SetAll job work ls after) (sym (drop_at ks (i - 1) (omega (arith, s.most))))
-          (subst (λ (z : ℕ). SetAll job work (z ∷ drop (suc (i - 1)) ks) after) e (all_then (subst (λ (j : ℕ). SetAll job work (drop j ks) now) (sym n) s.set) r));
-    }
+  pub listing_turn : {k : ℕ} {others : List ℕ} {after : Bytes} → rest ≡ k ∷ others → Set job now k after → Listing job work ks after others
+  listing_turn {others = others} e s = record {
+    rooms = rooms_kept s.kept others (on e).rooms.1;
+    whole = λ last r. (on e).whole last (set_then s r);
+  }
 
-pub listing_done : {job work : Bytes} {ks : List ℕ} {now : Bytes} {i : ℕ} → i ≤ 0 → Listing job work ks now i → SetAll job work ks now
-listing_done {job} {work} {ks} {now} {i} h s = subst (λ (j : ℕ). SetAll job work (drop j ks) now) (let z : i ≡ 0 = omega arith in z) s.set
-
-pub listing_room : {job work : Bytes} {ks : List ℕ} {now : Bytes} {i k : ℕ} → 0 < i → Listing job work ks now i → Rooms job work ks → k ≡ get_or ks (i - 1) 0 → Room job now k
-listing_room {job} {work} {ks} {now} {i} h s r e = subst (Room job now) (sym e) (room_kept s.set.kept (room_at ks (i - 1) (omega (arith, s.most)) r))
+  pub listing_done : rest ≡ [] → SetAll job work ks now
+  listing_done e = (on e).whole now (all_none job now)
 
 -- the numbers of a list in the job
 pub count_is : (job : Bytes) (a : Args) → length (words_in job a) ≡ a.count

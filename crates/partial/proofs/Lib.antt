@@ -1,5 +1,6 @@
 -- Their laws.
 pub mod LevelLaws
+pub mod SearchLaws
 pub mod InputLaws
 pub mod PassLaws
 pub mod LengthLaws

@@ -3,14 +3,14 @@ use mathlib.Core.Path.{◌≡◌, refl, sym, ap, ap₂, subst, ◌∙◌}
 use mathlib.Core.Bool.{Bool, true, false, ◌&&◌, cond}
 use mathlib.Core.List.{List, [], ◌∷◌, map}
 use Rattle.std.specs.Prelude.{Option, Some as some}
+use Rattle.std.specs.List.{list_all}
 use Prim.Native.Nat.{ℕ, zero, suc, ◌+◌, ◌*◌, ◌≤◌, ◌<◌}
-use native.Mathlib.Numerals.{add-one}
 use native.Mathlib.Omega.{arith}
 use lib.Dec.{T, leb, ltb, eqb, eqb→eq, leb→le}
 use lib.Ieee.Fits.{and_l, and_r}
 use lib.ListN.{length, take, drop, get_or, replicate, length-map, length-drop}
 use lib.Seq.{length-take-le}
-use borrow.Author.Tests.{eq-eqb, ne_eqb, le-leb, lt-leb, lt-ltb, le-ltb, ltb-true, ltb-false}
+use borrow.Author.Tests.{eq-eqb, le-leb, lt-leb, ltb-true, ltb-false}
 use Rattle.theory.specs.Limit.{first_terms}
 use Rattle.theory.specs.Term.{Term}
 use Rattle.theory.specs.Record.{Bytes}
@@ -48,10 +48,9 @@ use Rattle.partial.proofs.InputLaws.{offsets}
 use Rattle.partial.proofs.LengthLaws.{length_known}
 
 -- ---- bytes 0, 1 and 2
--- what is left decides
-pub record KnownFrom (inputs : Bytes) (i : ℕ) : Type 0 where
-  pub most : i ≤ length inputs
-  pub is : all_below 3 (drop i inputs) ≡ all_below 3 inputs
+known_bytes : (inputs : Bytes) → list_all (λ b. ltb b 3) inputs ≡ all_below 3 inputs
+known_bytes [] = refl
+known_bytes (b ∷ bs) = ap (λ (r : Bool). ltb b 3 && r) (known_bytes bs)
 
 -- ---- is it derivable?
 abbrev by_tests : Bool → Bool → Bool → Bool → Bool
@@ -67,9 +66,9 @@ module _ {list : Plain} {job work : Bytes} {n asked : ℕ} {inputs : Bytes} {roo
   module _ (e : b ≡ true) {size : ℕ} (f : size ≡ all_bits list asked) where
     module _ (g : length inputs ≡ size) where
       -- the output decides
-      pub by_room : {c : Bool} → c ≡ all_below 3 inputs → c ≡ true → {w : ℕ} → w ≡ bits_in (tree_at list asked) → Derivable list job work n asked inputs room (leb w room)
+      pub by_room : {c : Bool} → c ≡ list_all (λ b. ltb b 3) inputs → c ≡ true → {w : ℕ} → w ≡ bits_in (tree_at list asked) → Derivable list job work n asked inputs room (leb w room)
       by_room h k d = record {
-        is = λ i. by_tests ((level_is l e).is i) (sym (eq-eqb (length inputs) (all_bits list asked) (g ∙ f)) i) ((sym k ∙ h) i) (leb (d i) room);
+        is = λ i. by_tests ((level_is l e).is i) (sym (eq-eqb (length inputs) (all_bits list asked) (g ∙ f)) i) ((sym k ∙ h ∙ known_bytes inputs) i) (leb (d i) room);
         level = λ z. level_is l e;
       }
 

@@ -1,5 +1,5 @@
 -- The bytes of the asked term's bits, one after the other.
-use mathlib.Core.Path.{◌≡◌, refl, sym, ap, subst, ◌∙◌}
+use mathlib.Core.Path.{◌≡◌, sym, ap, subst, ◌∙◌}
 use mathlib.Core.List.{List}
 use Prim.Native.Nat.{ℕ, suc, ◌+◌, ◌≤◌, ◌<◌}
 use native.Mathlib.Numerals.{add-one}
@@ -9,7 +9,6 @@ use Rattle.theory.specs.Term.{Term}
 use Rattle.theory.specs.Record.{Bytes}
 use Rattle.theory.specs.Places.{tree_at}
 use Rattle.store.specs.Store.{listed}
-use Rattle.sweeps.specs.Variables.{bits_in}
 use Rattle.sweeps.specs.Known.{Known, known_byte}
 use Rattle.counter.specs.Counting.{Holds}
 use Rattle.counter.proofs.CountLaws.{holds_more}

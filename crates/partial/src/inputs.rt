@@ -16,8 +16,7 @@ pub fn place_inputs(asked: &Asked, values: &mut [u8])
 {
     let mut at: u64 = 0;
     for k in asked.places() {
-        let b = variable_bits(&asked.terms, k);
-        if b != 0 {
+        if let Some(b) = variable_bits(&asked.terms, k) {
             put_cell(values, k, at);
             at += u64::from(b);
         }

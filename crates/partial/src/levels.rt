@@ -8,10 +8,5 @@ use ternary::kinds::is_bit_kind;
 pub fn is_bit_level(asked: &Asked) -> bool
     ensures { IsBitLevel asked.now result }
 {
-    for k in asked.places() {
-        if !is_bit_kind(&asked.terms, k) {
-            return false;
-        }
-    }
-    true
+    asked.places().all(|k| is_bit_kind(&asked.terms, k))
 }

@@ -1,14 +1,15 @@
 -- The bits of a term, by its kind.
 use mathlib.Core.Path.{◌≡◌, refl, sym, ap, ap₂, subst, ◌∙◌}
 use mathlib.Core.Bool.{Bool, true, false, not, ◌||◌, cond}
-use mathlib.Core.List.{List, [], ◌∷◌, map}
-use Prim.Native.Nat.{ℕ, zero, suc, ◌+◌, ◌-◌, ◌≤◌, ◌<◌}
+use mathlib.Core.List.{List, [], ◌∷◌, ◌++◌, map, append-nil}
+use Prim.Native.Nat.{ℕ, zero, suc, ◌+◌, ◌≤◌, ◌<◌}
 use native.Mathlib.Omega.{arith}
 use lib.Dec.{T, leb, eqb, leb→le}
 use lib.Ieee.Fits.{and_l, and_r}
 use lib.ListN.{length, take, drop, get_or, length-drop}
-use lib.Seq.{get_or-drop, get_or-take, length-take-le}
+use lib.Seq.{get_or-take, length-take-le}
 use borrow.Author.Tests.{eq-eqb}
+use Rattle.std.proofs.lemmas.List.{append_assoc}
 use Rattle.theory.specs.Limit.{first_terms}
 use Rattle.theory.specs.Kind.{Op, True, False, Not, And, Or, Xor, Equals, Ite, BoolVar, BvVar, Const, BvBitOf, BvBbTerm, kind}
 use Rattle.theory.specs.Term.{Term, node, from_list, fold, folds}
@@ -65,43 +66,25 @@ default [] k d e h = absurd (omega arith)
 default (x ∷ l) zero d e h = refl
 default (x ∷ l) (suc k) d e h = default l k d e (omega arith)
 
--- ---- a row of cells
-drop_end : (f : ℕ → Known) (ks : List ℕ) (i : ℕ) → length ks ≤ i → map f (drop i ks) ≡ []
-drop_end f [] zero h = refl
-drop_end f [] (suc i) h = refl
-drop_end f (k ∷ ks) zero h = absurd (omega arith)
-drop_end f (k ∷ ks) (suc i) h = drop_end f ks i (omega arith)
+-- ---- a row of cells: those after the rest have come to acc
+pub record Rowing (values : Bytes) (o : Bool) (ks : List ℕ) (acc : Known) (rest : List ℕ) : Type 0 where
+  pub done : List ℕ
+  pub whole : rest ++ done ≡ ks
+  pub is : acc ≡ row_known o (map (cell_bit values) done)
 
-drop_one : (f : ℕ → Known) (ks : List ℕ) (i : ℕ) → i < length ks → map f (drop i ks) ≡ f (get_or ks i 0) ∷ map f (drop (suc i) ks)
-drop_one f [] i h = absurd (omega arith)
-drop_one f (k ∷ ks) zero h = refl
-drop_one f (k ∷ ks) (suc i) h = drop_one f ks i (omega arith)
+module _ {values : Bytes} {o : Bool} {ks rest : List ℕ} where
+  pub rowing_start : rest ≡ ks → Rowing values o ks (of_bool (not o)) rest
+  rowing_start e = record { done = []; whole = append-nil rest ∙ e; is = row_start o }
 
-pub record Rowing (values : Bytes) (o : Bool) (ks : List ℕ) (acc : Known) (i : ℕ) : Type 0 where
-  pub most : i ≤ length ks
-  pub is : acc ≡ row_known o (map (cell_bit values) (drop i ks))
-
-module _ {values : Bytes} {o : Bool} {ks : List ℕ} where
-  pub rowing_start : {i : ℕ} → length ks ≡ i → Rowing values o ks (of_bool (not o)) i
-  rowing_start {i} f = record {
-    most = omega arith;
-    is = row_start o ∙ ap (row_known o) (sym (drop_end (cell_bit values) ks i (omega arith)));
+  pub rowing_turn : {acc b r : Known} (k : ℕ) {others : List ℕ} → Rowing values o ks acc rest → rest ≡ others ++ k ∷ [] → b ≡ cell_bit values k → r ≡ row_known o (b ∷ acc ∷ []) → Rowing values o ks r others
+  rowing_turn k {others} w e f g = record {
+    done = k ∷ w.done;
+    whole = sym (append_assoc others (k ∷ []) w.done) ∙ ap (λ (ls : List ℕ). ls ++ w.done) (sym e) ∙ w.whole;
+    is = g ∙ ap₂ (λ (x y : Known). row_known o (x ∷ y ∷ [])) f w.is ∙ sym (join_row o (cell_bit values k) (map (cell_bit values) w.done));
   }
 
-  pub rowing_turn : {acc b r : Known} {i k : ℕ} → Rowing values o ks acc i → 0 < i → k ≡ get_or ks (i - 1) 0 → b ≡ cell_bit values k → r ≡ row_known o (b ∷ acc ∷ []) → Rowing values o ks r (i - 1)
-  rowing_turn {acc} {b} {r} {i} {k} w l e f g =
-      let m = w.most in
-      let n : suc (i - 1) ≡ i = omega arith in
-      record {
-        most = omega arith;
-        is = g
-            ∙ ap₂ (λ (x y : Known). row_known o (x ∷ y ∷ [])) (f ∙ ap (cell_bit values) e) (w.is ∙ ap (λ (j : ℕ). row_known o (map (cell_bit values) (drop j ks))) (sym n))
-            ∙ sym (join_row o (cell_bit values (get_or ks (i - 1) 0)) (map (cell_bit values) (drop (suc (i - 1)) ks)))
-            ∙ ap (row_known o) (sym (drop_one (cell_bit values) ks (i - 1) (omega arith)));
-      }
-
-  pub rowing_done : {acc : Known} {i : ℕ} → Rowing values o ks acc i → i ≤ 0 → acc ≡ row_known o (map (cell_bit values) ks)
-  rowing_done {acc} {i} w h = w.is ∙ ap (λ (j : ℕ). row_known o (map (cell_bit values) (drop j ks))) (let z : i ≡ 0 = omega arith in z)
+  pub rowing_done : {acc : Known} → Rowing values o ks acc rest → rest ≡ [] → acc ≡ row_known o (map (cell_bit values) ks)
+  rowing_done w e = w.is ∙ ap (λ (ls : List ℕ). row_known o (map (cell_bit values) ls)) (ap (λ (ls : List ℕ). ls ++ w.done) (sym e) ∙ w.whole)
 
 -- ---- the term at a place
 folds_at : {A : Type 0} (alg : Op → List A → A) (list : Plain) (ks : List ℕ) → folds alg (from_list (map (tree_at list) ks)) ≡ map (λ (k : ℕ). fold alg (tree_at list k)) ks
@@ -255,11 +238,11 @@ module _ {job work : Bytes} {n x i : ℕ} (s : BitAsked job work n x i) where
       ∙ sym (first_bit (known input (tree_at list x))) ∙ ap (λ (j : ℕ). get_or (known input (tree_at list x)) j unknown) k
 
   -- a bit-vector variable
-  pub bit_variable : {inputs values : Bytes} {w y c : ℕ} {r : Known} → w ≡ sort_width (sort_of (tree_at list x)) → (w ≡ 0 → ⊥) → T (is_variable (tree_at list x)) → c ≡ cell_at values x
-      → y ≡ get_or (drop c inputs) i 2 → r ≡ of_byte y → BitOn list job work inputs values x i r
-  bit_variable {inputs} {values} e z v d f g input sound =
+  pub bit_variable : {inputs values : Bytes} {w c : ℕ} {r : Known} → w ≡ sort_width (sort_of (tree_at list x)) → (w ≡ 0 → ⊥) → T (is_variable (tree_at list x)) → c ≡ cell_at values x
+      → r ≡ of_byte (get_or (drop c inputs) i 2) → BitOn list job work inputs values x i r
+  bit_variable {inputs} {values} e z v d g input sound =
       let o = (sound x (omega arith) s.marked).variable_is (λ q. z (e ∙ q)) v in
-      g ∙ ap of_byte (f ∙ ap (λ (j : ℕ). get_or (drop j inputs) i 2) d) ∙ offset_bit o i s.bit_low
+      g ∙ ap (λ (j : ℕ). of_byte (get_or (drop j inputs) i 2)) d ∙ offset_bit o i s.bit_low
 
   -- at most 64 bits
   pub bit_small : i < 64

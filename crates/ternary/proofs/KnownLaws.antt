@@ -100,11 +100,11 @@ module _ {job work : Bytes} {n place : ℕ} (s : KnownAsked job work n place) {t
   unfolding known_op
   known_false e = known_out D.False e (λ input sound own. refl)
 
-  pub known_variable : (x : ℕ) → t ≡ D.BoolVar x → {inputs values : Bytes} {c y : ℕ} {r : Known} → c ≡ cell_at values place → y ≡ get_or (drop c inputs) 0 2 → r ≡ of_byte y → KnownOn list job work inputs values place r
-  known_variable x e {inputs} {values} d f g input sound own =
+  pub known_variable : (x : ℕ) → t ≡ D.BoolVar x → {inputs values : Bytes} {c : ℕ} {r : Known} → c ≡ cell_at values place → r ≡ of_byte (get_or (drop c inputs) 0 2) → KnownOn list job work inputs values place r
+  known_variable x e {inputs} {values} d g input sound own =
       let v : T (is_variable (tree_at list place)) = subst (λ (z : Term). T (is_variable z)) (sym (h.term_at.made ∙ ap (λ (z : Decoded). tree_of list (op_of z) (arguments_of job z)) e)) tt in
       let b : bits_in (tree_at list place) ≡ 1 = ap sort_bits bool_is in
-      g ∙ ap of_byte (f ∙ ap (λ (j : ℕ). get_or (drop j inputs) 0 2) d) ∙ offset_bit (own v) 0 (omega arith) ∙ first_bit (known input (tree_at list place))
+      g ∙ ap (λ (j : ℕ). of_byte (get_or (drop j inputs) 0 2)) d ∙ offset_bit (own v) 0 (omega arith) ∙ first_bit (known input (tree_at list place))
 
   pub known_not : (x : ℕ) → t ≡ D.Not x → {inputs values : Bytes} {c r : Known} → c ≡ cell_bit values x → r ≡ not_known c → KnownOn list job work inputs values place r
   unfolding known_op

@@ -7,6 +7,7 @@ ghost use Rattle.theory.specs.Limit.{first_terms};
 ghost use Rattle.theory.proofs.Facts.{kept_facts};
 ghost use Rattle.terms.specs.Decoded.{Inside, words_in};
 ghost use Rattle.store.specs.KeptTerms.{kept_term, kept_width};
+ghost use Rattle.sweeps.specs.Known.{of_byte};
 ghost use Rattle.sweeps.specs.Variables.{bits_in};
 ghost use Rattle.ternary.specs.Gates.{bit_of, row_known};
 ghost use Rattle.ternary.specs.Bits.{cell_bit, Closed};
@@ -18,17 +19,13 @@ use operations::words::bit;
 use store::shelf::Terms;
 use terms::{Args, Term};
 
-// Byte i after the place `at`, or 2 past the end.
-pub fn byte_after(s: &[u8], at: u64, i: u32) -> u64
-    ensures { result ≡ get_or (drop at s.now) i 2 }
+// The bit that byte i after the place `at` of the inputs says: none is known past their end.
+pub fn input_bit(inputs: &[u8], at: u64, i: u32) -> Option<bool>
+    ensures { bit_of result ≡ of_byte (get_or (drop at inputs.now) i 2) }
 {
-    let Some(k) = (at as usize).checked_add(i as usize) else {
-        return 2;
-    };
-    let Some(&b) = s.get(k) else {
-        return 2;
-    };
-    u64::from(b)
+    let k = (at as usize).checked_add(i as usize)?;
+    let &b = inputs.get(k)?;
+    read_bit(u64::from(b))
 }
 
 // The bit in cell k.
@@ -44,8 +41,8 @@ pub fn row(job: &[u8], values: &[u8], or: bool, a: Args) -> Option<bool>
     ensures { bit_of result ≡ row_known or (map (cell_bit values.now) (words_in job.now a)) }
 {
     let mut acc = Some(!or);
-    for i in (0..a.count).rev() {
-        acc = join(or, bit_in(values, Term::argument(job, a, i)), acc);
+    for k in a.numbers(job).rev() {
+        acc = join(or, bit_in(values, k), acc);
     }
     acc
 }
@@ -74,7 +71,7 @@ impl<'a> KnownBits<'a> {
             return bit_in(self.values, x);
         }
         match self.terms.term_on(x) {
-            Term::BvVar(_, _) => read_bit(byte_after(self.inputs, cell(self.values, x), i)),
+            Term::BvVar(_, _) => input_bit(self.inputs, cell(self.values, x), i),
             Term::Const(_, v) => Some(bit(i, v)),
             Term::BvBbTerm(a) => bit_in(self.values, Term::argument(self.terms.job, a, i as usize)),
             // No other bit-vector is bit-level.
@@ -93,7 +90,7 @@ impl<'a> KnownBits<'a> {
         match self.terms.term_on(place) {
             Term::True => Some(true),
             Term::False => Some(false),
-            Term::BoolVar(_) => read_bit(byte_after(self.inputs, cell(values, place), 0)),
+            Term::BoolVar(_) => input_bit(self.inputs, cell(values, place), 0),
             Term::Not(x) => not_bit(bit_in(values, x)),
             Term::And(a) => row(self.terms.job, values, false, a),
             Term::Or(a) => row(self.terms.job, values, true, a),

@@ -5,7 +5,7 @@ pub argument-requires : goal.argument-requires
 argument-requires c = record { inside = row_inside c.term_on.ensures _ c.in-BvBbTerm.is; below = row_low (bit_asked c.args.self.now c.requires.low c.requires.marked c.requires.bit) c.term_on.ensures _ c.in-BvBbTerm.is }
 
 pub returns-in-BvVar : goal.returns-in-BvVar
-returns-in-BvVar c = bit_variable (bit_asked c.args.self.now c.requires.low c.requires.marked c.requires.bit) c.width_on.ensures c.if-width_on-eq0.false (bv_variable c.term_on.ensures _ _ c.in-BvVar.is) c.cell.ensures c.byte_after.ensures c.read_bit.ensures
+returns-in-BvVar c = bit_variable (bit_asked c.args.self.now c.requires.low c.requires.marked c.requires.bit) c.width_on.ensures c.if-width_on-eq0.false (bv_variable c.term_on.ensures _ _ c.in-BvVar.is) c.cell.ensures c.input_bit.ensures
 
 pub returns-in-Const : goal.returns-in-Const
 returns-in-Const c = bit_const (bit_asked c.args.self.now c.requires.low c.requires.marked c.requires.bit) c.term_on.ensures _ _ c.in-Const.is c.bit.ensures

@@ -11,7 +11,7 @@ pub returns-in-False : goal.returns-in-False
 returns-in-False c = known_false (known_asked c.args.self.now c.requires.low c.requires.marked c.requires.bool_there) c.term_on.ensures c.in-False.is
 
 pub returns-in-BoolVar : goal.returns-in-BoolVar
-returns-in-BoolVar c = known_variable (known_asked c.args.self.now c.requires.low c.requires.marked c.requires.bool_there) c.term_on.ensures _ c.in-BoolVar.is c.cell.ensures c.byte_after.ensures c.read_bit.ensures
+returns-in-BoolVar c = known_variable (known_asked c.args.self.now c.requires.low c.requires.marked c.requires.bool_there) c.term_on.ensures _ c.in-BoolVar.is c.cell.ensures c.input_bit.ensures
 
 pub returns-in-Not : goal.returns-in-Not
 returns-in-Not c = known_not (known_asked c.args.self.now c.requires.low c.requires.marked c.requires.bool_there) c.term_on.ensures _ c.in-Not.is c.bit_in.ensures c.not_bit.ensures

@@ -2,7 +2,7 @@
 use mathlib.Core.Path.{ap, ◌∙◌}
 use Rattle.rows.specs.Layout.{link_bytes}
 use Rattle.rows.specs.Rows.{stored_link}
-use Rattle.marks.proofs.put_mark.Goals as goal
+use Rattle.marks.proofs.links.put_mark.Goals as goal
 
 pub returns : goal.returns
 unfolding stored_link

@@ -1,8 +1,8 @@
 use mathlib.Core.Path.{sym, ◌∙◌}
 use Rattle.theory.proofs.Basics.{true_T}
 use Rattle.marks.proofs.Threading.{threading_turn, threading_pass, threading_same, threading_done}
-use Rattle.marks.proofs.thread.Goals as goal
-use Rattle.marks.proofs.thread.Goals.{then-is_marked, else-is_marked}
+use Rattle.marks.proofs.threaded.thread.Goals as goal
+use Rattle.marks.proofs.threaded.thread.Goals.{then-is_marked, else-is_marked}
 
 pub loop-k-preserved : goal.loop-k-preserved
 loop-k-preserved c = let i = c.loop-k.invariant in

@@ -2,8 +2,8 @@ use mathlib.Core.Path.{sym, ◌∙◌}
 use Rattle.theory.proofs.Basics.{true_T}
 use Rattle.marks.proofs.MarkLaws.{kept_more}
 use Rattle.marks.proofs.Marking.{marking_start, marking_term, marking_pass, marking_done, marks_moved, marking_same, marking_shelf}
-use Rattle.marks.proofs.mark_down.Goals as goal
-use Rattle.marks.proofs.mark_down.Goals.{then-is_marked, else-is_marked}
+use Rattle.marks.proofs.marked.mark_down.Goals as goal
+use Rattle.marks.proofs.marked.mark_down.Goals.{then-is_marked, else-is_marked}
 
 pub loop-k-init : goal.loop-k-init
 loop-k-init c = marking_start c.requires.shelf c.requires.low c.clear_marks.ensures c.set_mark.ensures
