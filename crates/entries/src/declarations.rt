@@ -29,7 +29,7 @@ pub fn declare(
         return None;
     }
     let number = u16::try_from(declared).ok()?;
-    let kind = variable(u64::from(number), d.width);
-    writer.put_term(kind, &[])?;
+    let operator = variable(u64::from(number), d.width);
+    writer.put_term(operator, &[])?;
     Some(())
 }

@@ -1,67 +1,18 @@
--- Kinds by their numbers; indices; bvN.
-use mathlib.Core.Path.{◌≡◌, refl, sym, ap, subst, ◌∙◌}
-use mathlib.Core.Bool.{Bool, true, false, cond, ◌&&◌, ◌||◌}
+-- Indices; bvN.
+use mathlib.Core.Path.{◌≡◌, refl, sym, ap, ◌∙◌}
+use mathlib.Core.Bool.{Bool, true, false, cond}
 use mathlib.Core.List.{[], ◌∷◌}
 use Rattle.std.specs.Prelude.{Option, None as none, Some as some}
-use Prim.Native.Nat.{ℕ, zero, suc, ◌+◌, ◌<◌, ◌≤◌}
-use native.Mathlib.Decide.{dec_le}
+use Prim.Native.Nat.{ℕ, ◌<◌, ◌≤◌}
 use native.Mathlib.Omega.{arith}
-use lib.Dec.{eqb, leb}
+use lib.Dec.{eqb}
 use lib.ListN.{length, drop, get_or}
 use borrow.Author.Tests.{eq-eqb, ne_eqb}
-use Rattle.theory.specs.Kind.{kind}
-use Rattle.theory.specs.Optional.{is_some}
-use Rattle.theory.specs.Record.{Bytes, Shape, shape_of}
+use Rattle.theory.specs.Record.{Bytes}
 use Rattle.text.specs.Reading.{bind, below, number_end, numeral, Number, a_number, Word, first_word, index, past, bv_value}
 use Rattle.words.proofs.ReadLaws.{told_none, told_some}
 use Rattle.names.specs.declared.kinds.Index.{Index}
-use Rattle.std.specs.Prelude as rust
-use Rattle.names.specs.declared.kinds.Indices.{Indices}
-use Rattle.names.specs.declared.kinds.Indices.TheVariants as F
-use Rattle.names.specs.Kinds.{kind_at, kinds_end, Known, told_index, family_of}
-
--- ---- kinds by their numbers
-abbrev AllFrom : (ℕ → Type 0) → ℕ → ℕ → Type 0
-AllFrom p lo zero = Unit {0}
-AllFrom p lo (suc n) = p lo × AllFrom p (suc lo) n
-
-each : (p : ℕ → Type 0) (lo n : ℕ) → AllFrom p lo n → (k : ℕ) → lo ≤ k → k < lo + n → p k
-each p lo zero t k h l = absurd (omega arith)
-each p lo (suc n) t k h l = go (λ m. each p (suc lo) n t.1 k m (omega arith)) (dec_le (suc lo) k)
-  where
-    go : (suc lo ≤ k → p k) → Dec (suc lo ≤ k) → p k
-    go ih (yes m) = ih m
-    go ih (no m) = let e : lo ≡ k = omega arith in subst p e t.0
-
-never : {A : Type 0} → false ≡ true → A
-never e = absurd (let z : ◌≡◌ {A = ℕ} 0 1 = cc in omega arith)
-
-abbrev SameKind : ℕ → Type 0
-SameKind k = is_some (shape_of k) ≡ true → (x y : ℕ) → kind (kind_at k x y) ≡ k
-
-same_kinds : AllFrom SameKind 0 59
-unfolding kind_at shape_of
-same_kinds = (never, (never, (never, (never, (never, (never, (never, (never, (never, (never, (λ h x y. refl, (λ h x y. refl, (λ h x y. refl, (never, (never, (never, (never, (never, (never, (never, (λ h x y. refl, (λ h x y. refl, (λ h x y. refl, (λ h x y. refl, (λ h x y. refl, (λ h x y. refl, (never, (never, (never, (never, (λ h x y. refl, (λ h x y. refl, (never, (never, (never, (never, (never, (never, (never, (never, (λ h x y. refl, (λ h x y. refl, (λ h x y. refl, (λ h x y. refl, (λ h x y. refl, (λ h x y. refl, (λ h x y. refl, (λ h x y. refl, (λ h x y. refl, (λ h x y. refl, (λ h x y. refl, (λ h x y. refl, (λ h x y. refl, (λ h x y. refl, (λ h x y. refl, (λ h x y. refl, (λ h x y. refl, (λ h x y. refl, (λ h x y. refl, tt)))))))))))))))))))))))))))))))))))))))))))))))))))))))))))
-
--- a number that has a shape
-pub known : (k x y : ℕ) → k < kinds_end → is_some (shape_of k) ≡ true → Known (record { number = k; x = x; y = y })
-known k x y h e = record { below = h; same = each SameKind 0 59 same_kinds k (omega arith) h e x y }
-
-abbrev family_by_runs : ℕ → rust.Option Indices
-family_by_runs k =
-    cond ((leb 20 k && leb k 25) || eqb k 31 || (leb 40 k && leb k 56)) (rust.Some F.Plain)
-    (cond (eqb k 10 || eqb k 30 || eqb k 58) (rust.Some F.Indexed)
-    (cond (eqb k 11 || eqb k 57) (rust.Some F.TwiceIndexed)
-    (cond (eqb k 12) (rust.Some F.Valued) rust.None)))
-
-pub families : (k : ℕ) → k < 59 → family_of (shape_of k) ≡ family_by_runs k
-unfolding shape_of
-families k h = each (λ k. family_of (shape_of k) ≡ family_by_runs k) 0 59 (refl, (refl, (refl, (refl, (refl, (refl, (refl, (refl, (refl, (refl, (refl, (refl, (refl, (refl, (refl, (refl, (refl, (refl, (refl, (refl, (refl, (refl, (refl, (refl, (refl, (refl, (refl, (refl, (refl, (refl, (refl, (refl, (refl, (refl, (refl, (refl, (refl, (refl, (refl, (refl, (refl, (refl, (refl, (refl, (refl, (refl, (refl, (refl, (refl, (refl, (refl, (refl, (refl, (refl, (refl, (refl, (refl, (refl, (refl, tt))))))))))))))))))))))))))))))))))))))))))))))))))))))))))) k (omega arith) h
-
--- the shape of a family
-pub family_some : (q : Option Shape) {r : rust.Option Indices} → r ≡ family_of q → rust.is_some r ≡ true → is_some q ≡ true
-family_some none e f = cc
-family_some (some s) e f = refl
+use Rattle.names.specs.Kinds.{told_index}
 
 -- ---- an index
 after_word : (bs : Bytes) {w : Word} → first_word bs ≡ some w → index bs ≡ bind (below number_end (numeral w.name)) (λ n. some (a_number n w.rest))

@@ -10,7 +10,9 @@ use lib.ListN.{length, take, drop, get_or, length-drop, drop_of_length-le}
 use lib.Seq.{get_or-drop, drop-drop}
 use Rattle.std.proofs.lemmas.List.{take_rest}
 use borrow.Author.Tests.{eq-eqb, ne_eqb}
-use Rattle.std.specs.Prelude.{eqb}
+use Rattle.std.specs.Prelude.{Option, None as none, Some as some, eqb}
+use Rattle.std.specs.List.{AllWithin, HoldsAt}
+use Rattle.std.specs.Option.{MatchOption, unwrap_or}
 use Rattle.theory.specs.Record.{Bytes}
 use Rattle.text.specs.Convert.{lines, push}
 use Rattle.words.specs.Words.{piece}
@@ -60,18 +62,6 @@ pub record Lining (text : Bytes) (at i : ℕ) : Type 0 where
   pub inside : i ≤ length text
   pub clear : (k : ℕ) → at ≤ k → k < i → get_or text k 0 ≡ 10 → ⊥
 
-pub line_start : (text : Bytes) (at : ℕ) → at ≤ length text → Lining text at at
-line_start text at h = record { on = omega arith; inside = h; clear = λ k l m e. omega arith }
-
-pub line_turn : {text : Bytes} {at i : ℕ} → Lining text at i → i < length text → (get_or text i 0 ≡ 10 → ⊥) → Lining text at (i + 1)
-line_turn {text} {at} {i} g h f =
-    let o = g.on in
-    record { on = omega arith; inside = omega arith; clear = λ k l m e. go k l e m (dec_le i k) }
-  where
-    go : (k : ℕ) → at ≤ k → get_or text k 0 ≡ 10 → k < i + 1 → Dec (i ≤ k) → ⊥
-    go k l e m (yes p) = let q : k ≡ i = omega arith in f (sym (ap (λ (j : ℕ). get_or text j 0) q) ∙ e)
-    go k l e m (no p) = g.clear k l (omega arith) e
-
 line_ends : {text : Bytes} {at i : ℕ} → Lining text at i → (i ≡ length text) ⊎ (get_or text i 0 ≡ 10) → Ended text at i
 line_ends {text} {at} {i} g s = record { on = g.on; inside = g.inside; clear = g.clear; stop = λ h. newline h s; first = whole }
   where
@@ -94,11 +84,35 @@ line_ends {text} {at} {i} g s = record { on = g.on; inside = g.inside; clear = g
         first_line (drop at text) (i - at) (λ k l q. g.clear (at + k) (omega arith) (omega arith) (sym (get_or-drop at text k 0) ∙ q)) (rw length-drop (omega arith)) (stop s) (rw length-drop (omega arith))
         ∙ ap (λ (x : Bytes). piece at i text ∷ lines x) (drop-drop (suc (i - at)) at text ∙ ap (λ (j : ℕ). drop j text) e)
 
-pub line_newlined : {text : Bytes} {at i : ℕ} → Lining text at i → get_or text i 0 ≡ 10 → Ended text at i
-line_newlined g e = line_ends g (inr e)
+-- the first newline after `at`, or the end, as `position` says it
+pub line_found : (text : Bytes) (at : ℕ) → at ≤ length text → (r : Option ℕ)
+    → MatchOption r (AllWithin (λ b. b ≡ 10 → ⊥) (drop at text) 0 (length (drop at text)))
+    (λ n. (n < length (drop at text)) × HoldsAt (λ b. b ≡ 10) (drop at text) n × AllWithin (λ b. b ≡ 10 → ⊥) (drop at text) 0 n)
+    → {i : ℕ} → i ≡ at + unwrap_or r (length (drop at text)) → Ended text at i
+line_found text at h r m {i} e = go r m e
+  where
+    long : length (drop at text) ≡ length text - at
+    long = length-drop at text
 
-pub line_last : {text : Bytes} {at i : ℕ} → Lining text at i → length text ≤ i → Ended text at i
-line_last g h = let n = g.inside in line_ends g (inl (omega arith))
+    lining : (n : ℕ) → n ≤ length (drop at text) → AllWithin (λ b. b ≡ 10 → ⊥) (drop at text) 0 n → i ≡ at + n → Lining text at i
+    lining n l w q =
+        let s = long in
+        record {
+          on = omega arith;
+          inside = omega arith;
+          clear = λ k a b z. let f : at + (k - at) ≡ k = omega arith in
+              w (k - at) 0 (omega arith) (omega arith) (get_or-drop at text (k - at) 0 ∙ ap (λ (j : ℕ). get_or text j 0) f ∙ z);
+        }
+
+    go : (r : Option ℕ)
+        → MatchOption r (AllWithin (λ b. b ≡ 10 → ⊥) (drop at text) 0 (length (drop at text)))
+        (λ n. (n < length (drop at text)) × HoldsAt (λ b. b ≡ 10) (drop at text) n × AllWithin (λ b. b ≡ 10 → ⊥) (drop at text) 0 n)
+        → i ≡ at + unwrap_or r (length (drop at text)) → Ended text at i
+    go none m q =
+        let s = long in
+        line_ends (lining (length (drop at text)) (omega arith) m q) (inl (omega arith))
+    go (some n) m q =
+        line_ends (lining n (omega (arith, m.0)) m.2 q) (inr (ap (λ (j : ℕ). get_or text j 0) q ∙ sym (get_or-drop at text n 0) ∙ m.1 0))
 
 pub beyond_newline : (text : Bytes) (end : ℕ) → end < length text → Beyond text end (end + 1)
 beyond_newline text end h = record { on = omega arith; inside = omega arith; further = λ l. omega arith; same = refl }

@@ -1,38 +1,21 @@
 -- Sorts, declarations, and variables by their names.
-use mathlib.Core.Path.{◌≡◌, refl, sym, ap, subst, ◌∙◌}
+use mathlib.Core.Path.{◌≡◌, refl, sym, ap, ◌∙◌}
 use mathlib.Core.Bool.{Bool, true, false, ◌&&◌, not, cond}
 use mathlib.Core.List.{List, [], ◌∷◌}
 use Rattle.std.specs.Prelude.{Option, None as none, Some as some}
-use Prim.Native.Nat.{ℕ, suc, ◌+◌, ◌<◌, ◌≤◌}
-use native.Mathlib.Omega.{arith}
-use native.Mathlib.Numerals.{add-one}
-use lib.ListN.{length}
-use Rattle.theory.specs.Kind.{Op, BoolVar, BvVar}
+use Prim.Native.Nat.{ℕ, suc}
 use Rattle.theory.specs.Term.{same_numbers}
-use Rattle.theory.specs.Optional.{either}
-use Rattle.theory.specs.Record.{Bytes, shape_of}
+use Rattle.theory.specs.Record.{Bytes}
 use Rattle.text.specs.Tokens.{ascii, left, right, end, word, after}
 use Rattle.text.specs.Reading.{bind, Word, first_word, is_symbol, reserved, Declared, variable, find_name, Sorted, sort_in, declaration}
 use Rattle.text.specs.Convert.{lines}
 use Rattle.text.specs.Claim.{declared_by}
-use Rattle.names.specs.declared.kinds.Kind.{Kind}
-use Rattle.names.specs.Kinds.{kind_at, declarations, declared_in, Made}
+use Rattle.names.specs.Kinds.{declarations, declared_in}
 use Rattle.names.specs.declared.names.Sort as sort
 use Rattle.names.specs.declared.names.Declaration.{Declaration}
-use Rattle.names.specs.Names.{told_sort, told_declaration, Varies}
-use Rattle.words.proofs.ReadLaws.{reads_some, told_none, told_some}
+use Rattle.names.specs.Names.{told_sort, told_declaration}
+use Rattle.words.proofs.ReadLaws.{told_none, told_some}
 use Rattle.words.proofs.WordLaws.{same_differ}
-use Rattle.std.specs.Prelude as rust
-use Rattle.names.proofs.LineLaws.{lines_few}
-
--- ---- variables
-pub varies_vector : (k n : ℕ) → Varies k (rust.Some n) (record { number = 11; x = n; y = k })
-unfolding kind_at shape_of
-varies_vector k n = record { is = refl; known = record { below = omega arith; same = refl } }
-
-pub varies_bool : (k : ℕ) → Varies k rust.None (record { number = 10; x = k; y = 0 })
-unfolding kind_at shape_of
-varies_bool k = record { is = refl; known = record { below = omega arith; same = refl } }
 
 -- ---- sorts
 module _ {q : Option Sorted} where
@@ -43,11 +26,11 @@ module _ {q : Option Sorted} where
   some_sort r h e = told_some (λ s. record { width = s.width; rest = s.rest.now }) r h e
 
 -- ---- declarations
-declares_none : (l : Bytes) (ls : List Bytes) → declared_by l ≡ none → declarations (l ∷ ls) ≡ declarations ls
+pub declares_none : (l : Bytes) (ls : List Bytes) → declared_by l ≡ none → declarations (l ∷ ls) ≡ declarations ls
 unfolding declarations
 declares_none l ls e = rw (e, declarations)
 
-declares_some : (l : Bytes) (ls : List Bytes) {d : Declared} → declared_by l ≡ some d → declarations (l ∷ ls) ≡ d ∷ declarations ls
+pub declares_some : (l : Bytes) (ls : List Bytes) {d : Declared} → declared_by l ≡ some d → declarations (l ∷ ls) ≡ d ∷ declarations ls
 unfolding declarations
 declares_some l ls e = rw (e, declarations)
 
@@ -99,55 +82,10 @@ unnamed k w (l ∷ ls) s = go (unnamed k w ls s) (unnamed (suc k) w ls s) (decla
 pub no_name : (text w : Bytes) {b : Bool} → b ≡ is_symbol w → b ≡ false → find_name 0 w (declared_in text) ≡ none
 no_name text w e f = unnamed 0 w (lines text) (sym e ∙ f)
 
--- ---- the walk over declarations
+-- ---- what `declared_by` says
 module _ {q : Option Declared} where
   pub no_declaration : (r : Option Declaration) → told_declaration r ≡ q → r ≡ none → q ≡ none
   no_declaration r h e = told_none (λ d. record { name = d.name.now; width = d.width }) r h e
 
   pub some_declaration : (r : Option Declaration) → told_declaration r ≡ q → {d : Declaration} → r ≡ some d → q ≡ some (record { name = d.name.now; width = d.width })
   some_declaration r h e = told_some (λ d. record { name = d.name.now; width = d.width }) r h e
-
--- the walk over declarations, k of them before the lines that are still to come
-pub record Naming (text w : Bytes) (ls : List Bytes) (k : ℕ) : Type 0 where
-  pub low : k + length ls ≤ length text
-  pub leads : find_name 0 w (declared_in text) ≡ find_name k w (declarations ls)
-
-pub naming_start : (text w : Bytes) {ls : List Bytes} → ls ≡ lines text → Naming text w ls 0
-naming_start text w e = let f = lines_few text in subst (λ (ls : List Bytes). Naming text w ls 0) (sym e) (record { low = omega arith; leads = refl })
-
-module _ {text w : Bytes} {ls : List Bytes} {k : ℕ} (g : Naming text w ls k) where
-  pub naming_end : ls ≡ [] → find_name 0 w (declared_in text) ≡ none
-  unfolding declarations
-  naming_end e = g.leads ∙ ap (λ (ls : List Bytes). find_name k w (declarations ls)) e
-
-  module _ {l : Bytes} {more : List Bytes} (e : ls ≡ l ∷ more) where
-    at_line : find_name 0 w (declared_in text) ≡ find_name k w (declarations (l ∷ more))
-    at_line = g.leads ∙ ap (λ (ls : List Bytes). find_name k w (declarations ls)) e
-
-    fewer : k + suc (length more) ≤ length text
-    fewer = let l : length ls ≡ suc (length more) = ap length e in let h = g.low in omega arith
-
-    pub naming_few : k < length text
-    naming_few = let f = fewer in omega arith
-
-    pub naming_skip : declared_by l ≡ none → Naming text w more k
-    naming_skip n = let f = fewer in record { low = omega arith; leads = at_line ∙ ap (find_name k w) (declares_none l more n) }
-
-    module _ {d : Declared} (n : declared_by l ≡ some d) where
-      at_name : find_name 0 w (declared_in text) ≡ cond (same_numbers w d.name) (some (variable k d)) (find_name (suc k) w (declarations more))
-      at_name = at_line ∙ ap (find_name k w) (declares_some l more n)
-
-      pub naming_found : same_numbers w d.name ≡ true → find_name 0 w (declared_in text) ≡ some (variable k d)
-      naming_found t = at_name ∙ ap (λ (x : Bool). cond x (some (variable k d)) (find_name (suc k) w (declarations more))) t
-
-      pub naming_on : same_numbers w d.name ≡ false → Naming text w more (k + 1)
-      naming_on t =
-          let f = fewer in
-          record {
-            low = omega arith;
-            leads = at_name ∙ ap (λ (x : Bool). cond x (some (variable k d)) (find_name (suc k) w (declarations more))) t
-                ∙ ap (λ (j : ℕ). find_name j w (declarations more)) (sym (add-one k));
-          }
-
-pub made_variable : {q : Option Op} {k : ℕ} {w : rust.Option ℕ} {r : Kind} → q ≡ some (either (BoolVar k) (λ m. BvVar m k) w) → Varies k w r → Made q (rust.Some r)
-made_variable e v = reads_some (e ∙ ap some (sym v.is)) v.known

@@ -14,10 +14,11 @@ use Rattle.std.specs.Char.{is_ascii_digit}
 use Rattle.std.specs.List.{list_all}
 use Rattle.theory.specs.Term.{same_numbers}
 use Rattle.theory.specs.Optional.{is_some}
-use Rattle.theory.specs.Record.{Bytes, Shape, shape_of}
+use Rattle.theory.specs.Record.{Bytes}
+use Rattle.terms.specs.declared.kind.Kind.{Kind}
+use Rattle.terms.specs.Numbered.{shape}
 use Rattle.text.specs.Tokens.{ascii, in_symbol}
 use Rattle.text.specs.Spelling.{Spelled, named, is_named, kind_names}
-use Rattle.words.proofs.TableLaws.{kind_is_some}
 use Rattle.text.specs.Reading.{digit_value, number_from, number_in, leading_zero, numeral, all_symbol, is_symbol, bv_value, reserved}
 
 -- ---- digits
@@ -159,14 +160,14 @@ module _ (w : Bytes) where
   abbrev B : Bool
   B = is_some (bv_value w)
 
-  named_is : (r : Option ℕ) → option_map shape_of r ≡ option_map some (named w kind_names) → {b : Bool} → b ≡ rust.is_some r → is_named w kind_names ≡ b
-  named_is r h e = some_named w kind_names ∙ same (named w kind_names) ∙ sym (kind_is_some r (named w kind_names) h) ∙ sym e
+  named_is : (r : Option Kind) → option_map shape r ≡ named w kind_names → {b : Bool} → b ≡ rust.is_some r → is_named w kind_names ≡ b
+  named_is r h e = some_named w kind_names ∙ ap is_some (sym h) ∙ same r ∙ sym e
     where
-      same : (q : Option Shape) → is_some q ≡ rust.is_some q
+      same : (r : Option Kind) → is_some (option_map shape r) ≡ rust.is_some r
       same none = refl
-      same (some s) = refl
+      same (some k) = refl
 
-  pub reserved_kind : (r : Option ℕ) → option_map shape_of r ≡ option_map some (named w kind_names) → {b : Bool} → b ≡ rust.is_some r → b ≡ true → true ≡ reserved w
+  pub reserved_kind : (r : Option Kind) → option_map shape r ≡ named w kind_names → {b : Bool} → b ≡ rust.is_some r → b ≡ true → true ≡ reserved w
   unfolding reserved
   reserved_kind r h e f = or_1 P Q R S B (named_is r h e ∙ f)
 
@@ -182,7 +183,7 @@ module _ (w : Bytes) where
   unfolding reserved
   reserved_mark e = or_4 P Q R S B e
 
-  pub reserved_bv : (r : Option ℕ) → option_map shape_of r ≡ option_map some (named w kind_names) → {c : Bool} → c ≡ rust.is_some r → c ≡ false
+  pub reserved_bv : (r : Option Kind) → option_map shape r ≡ named w kind_names → {c : Bool} → c ≡ rust.is_some r → c ≡ false
       → Q ≡ false → R ≡ false → S ≡ false → {b : Bool} → b ≡ is_some (bv_value w) → b ≡ reserved w
   unfolding reserved
   reserved_bv r k e f g h i {b} j = j ∙ sym (or_false P Q R S B (named_is r k e ∙ f) g h i)

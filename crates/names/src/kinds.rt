@@ -1,21 +1,23 @@
 // Kinds of terms, and the numbers in them.
-ghost use Rattle.std.specs.Prelude.{◌≡◌, ◌<◌};
-ghost use Rattle.theory.specs.Record.{shape_of};
+ghost use Rattle.std.specs.Prelude.{◌≡◌};
+ghost use Rattle.terms.specs.Numbered.{shape};
 ghost use Rattle.text.specs.Reading.{below, value_end, index, bv_value};
-ghost use Rattle.names.specs.Kinds.{told_index, kinds_end, family_of};
+ghost use Rattle.names.specs.Kinds.{told_index, family_of};
 
 use crate::marks::first_word;
+use terms::kind::Kind;
 use words::numbers::numeral;
 
 // The largest number of a record's two bytes.
 const MAX_NUMBER: u64 = u16::MAX as u64;
 
-// A kind: its number in a job, and the numbers in it. 0 and 1 are `true` and `false`.
+// What a term is made by: `true`, `false`, or a kind of a record with the numbers in it, 0 where
+// the kind has fewer.
 #[derive(Clone, Copy)]
-pub struct Kind {
-    pub number: u32,
-    pub x: u64,
-    pub y: u64,
+pub enum Operator {
+    True,
+    False,
+    Of(Kind, u64, u64),
 }
 
 // A number that was read, and what stands after it.
@@ -50,17 +52,15 @@ pub enum Indices {
     Valued,
 }
 
-// The family of the kind of a number, if it has one.
-#[tactic(auto, using(crate::proofs::KindLaws::families, std::proofs::lemmas::Bool::Decides::nat_tests))]
-pub fn family(k: u32) -> Option<Indices>
-    requires { k < kinds_end }
-    ensures { result ≡ family_of (shape_of k) }
+// The numbers that are in a kind.
+pub fn family(kind: Kind) -> Indices
+    ensures { result ≡ family_of (shape kind) }
 {
-    match k {
-        20..=25 | 31 | 40..=56 => Some(Indices::Plain),
-        10 | 30 | 58 => Some(Indices::Indexed),
-        11 | 57 => Some(Indices::TwiceIndexed),
-        12 => Some(Indices::Valued),
-        _ => None,
+    match kind {
+        Kind::BoolVar | Kind::BvBitOf | Kind::SignExtend | Kind::ZeroExtend => Indices::Indexed,
+        Kind::RotateLeft | Kind::RotateRight | Kind::Repeat => Indices::Indexed,
+        Kind::BvVar | Kind::BvExtract => Indices::TwiceIndexed,
+        Kind::Const => Indices::Valued,
+        _ => Indices::Plain,
     }
 }

@@ -7,12 +7,9 @@ pub fn line_end(text: &[u8], at: usize) -> usize
     requires { at ≤ length text.now }
     ensures { Ended text.now at result }
 {
-    for i in at..text.len() {
-        if text[i] == b'\n' {
-            return i;
-        }
-    }
-    text.len()
+    let rest = &text[at..];
+    let length = rest.iter().position(|&b| b == b'\n');
+    at + length.unwrap_or(rest.len())
 }
 
 // Where the line after the newline at `end` starts.

@@ -5,7 +5,7 @@ ghost use Rattle.text.specs.Tokens.{left, right, end, word, after};
 ghost use Rattle.text.specs.Reading.{first_word};
 ghost use Rattle.names.specs.Marks.{rest_of, word_and_rest};
 
-use words::tokens::{Token, next_token, same};
+use words::tokens::{Token, next_token};
 
 // A left parenthesis.
 pub fn left_after(line: &[u8]) -> Option<&[u8]>
@@ -45,7 +45,7 @@ pub fn word_after<'a>(line: &'a [u8], wanted: &[u8]) -> Option<&'a [u8]>
     ensures { rest_of result ≡ after (word wanted.now) line.now }
 {
     let (word, rest) = first_word(line)?;
-    if same(word, wanted) { Some(rest) } else { None }
+    if word == wanted { Some(rest) } else { None }
 }
 
 // Is nothing left of the line?

@@ -2,15 +2,16 @@
 ghost use Rattle.std.specs.Prelude.{◌≡◌};
 ghost use Rattle.text.specs.Reading.{sort_in, find_name, variable};
 ghost use Rattle.text.specs.Claim.{declared_by};
-ghost use Rattle.names.specs.Kinds.{declared_in, Made, op_of, Known};
-ghost use Rattle.names.specs.Names.{told_sort, told_declaration, Varies};
+ghost use Rattle.theory.specs.Kind.{BoolVar, BvVar};
+ghost use Rattle.theory.specs.Optional.{either};
+ghost use Rattle.names.specs.Kinds.{declared_in, told_op, op_of};
+ghost use Rattle.names.specs.Names.{told_sort, told_declaration};
 
-use crate::kinds::{Kind, read_index};
+use crate::kinds::{Operator, read_index};
 use crate::lines::Lines;
 use crate::marks::{at_end, first_word, left_after, right_after, word_after};
 use crate::symbols::{is_symbol, reserved};
-use terms::kind;
-use words::tokens::same;
+use terms::kind::Kind;
 
 // A sort: the width of a vector, none for Bool, and what stands after it.
 #[derive(Clone, Copy)]
@@ -69,41 +70,25 @@ pub fn declared_by(line: &[u8]) -> Option<Declaration<'_>>
     })
 }
 
-// The kind of variable k.
-pub fn variable(k: u64, width: Option<u64>) -> Kind
-    ensures { Varies k width result }
+// Variable k.
+pub fn variable(k: u64, width: Option<u64>) -> Operator
+    ensures { op_of result ≡ either (BoolVar k) (λ n. BvVar n k) width }
 {
     match width {
-        Some(n) => Kind {
-            number: kind::Kind::BvVar as u32,
-            x: n,
-            y: k,
-        },
-        None => Kind {
-            number: kind::Kind::BoolVar as u32,
-            x: k,
-            y: 0,
-        },
+        Some(n) => Operator::Of(Kind::BvVar, n, k),
+        None => Operator::Of(Kind::BoolVar, k, 0),
     }
 }
 
 // The variable of a name among those that `declarations` declare.
-pub fn find_name(declarations: &[u8], word: &[u8]) -> Option<Kind>
-    ensures { Made (find_name 0 word.now (declared_in declarations.now)) result }
+pub fn find_name(declarations: &[u8], word: &[u8]) -> Option<Operator>
+    ensures { told_op result ≡ find_name 0 word.now (declared_in declarations.now) }
 {
     // Names are symbols: a constant is none, and costs no walk over the declarations.
     if !is_symbol(word) {
         return None;
     }
-    let mut k: u64 = 0;
-    for line in Lines::new(declarations) {
-        let Some(d) = declared_by(line) else {
-            continue;
-        };
-        if same(word, d.name) {
-            return Some(variable(k, d.width));
-        }
-        k += 1;
-    }
-    None
+    let declared = Lines::new(declarations).filter_map(|line| declared_by(line));
+    let (k, d) = declared.enumerate().find(|(_, d)| word == d.name)?;
+    Some(variable(k as u64, d.width))
 }

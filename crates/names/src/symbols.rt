@@ -7,7 +7,7 @@ ghost use Rattle.text.specs.Tokens.{in_symbol};
 ghost use Rattle.text.specs.Reading.{numeral, is_symbol, reserved};
 
 use words::tables::kind_named;
-use words::tokens::{in_symbol, same};
+use words::tokens::in_symbol;
 
 // Is each byte a digit?
 fn all_digits(word: &[u8]) -> bool
@@ -56,13 +56,13 @@ pub fn reserved(word: &[u8]) -> bool
     if kind_named(word).is_some() {
         return true;
     }
-    if same(word, b"true") {
+    if word == b"true".as_slice() {
         return true;
     }
-    if same(word, b"false") {
+    if word == b"false".as_slice() {
         return true;
     }
-    if same(word, b"_") {
+    if word == b"_".as_slice() {
         return true;
     }
     match word.strip_prefix(b"bv") {

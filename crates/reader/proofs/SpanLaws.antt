@@ -1,36 +1,57 @@
--- Closing parentheses, and how many arguments a kind has.
-use mathlib.Core.Path.{◌≡◌, refl, sym, ap, ap₂, subst, ◌∙◌}
-use mathlib.Core.Bool.{Bool, ◌&&◌, ◌||◌, cond}
-use Prim.Native.Nat.{ℕ, ◌<◌, ◌≤◌}
+-- How many arguments a kind has.
+use mathlib.Core.Path.{◌≡◌, refl, sym, ap, ap₂, ◌∙◌}
+use mathlib.Core.Bool.{Bool, ◌&&◌}
+use mathlib.Core.List.{[]}
+use Prim.Native.Nat.{ℕ, ◌≤◌}
 use native.Mathlib.Omega.{arith}
 use native.Mathlib.Decide.{dec_le}
 use lib.Dec.{eqb, leb}
 use borrow.Author.Tests.{eq-eqb, ne_eqb, le-leb, lt-leb}
 use Rattle.theory.specs.Kind.{Arity, exactly, many, arity, takes}
-use Rattle.theory.specs.Record.{shape_of}
-use Rattle.terms.specs.Bodies.{least, most}
-use Rattle.reader.specs.declared.reading.Span.{Span}
-use Rattle.names.specs.Kinds.{kind_at}
-use Rattle.reader.specs.Reader.{Spanned}
-use Rattle.writer.proofs.Moves.{each}
+use Rattle.theory.specs.Record.{make}
+use Rattle.terms.specs.Bodies.{least, most, form_of}
+use Rattle.terms.specs.Numbered.{shape}
+use Rattle.terms.specs.declared.kind.Form.{Form}
+use Rattle.terms.specs.declared.kind.Kind.{Kind}
+use Rattle.terms.specs.declared.kind.Kind.TheVariants as D
+use Rattle.names.specs.Kinds.{shaped}
 
--- ---- how many arguments
-abbrev span_by_runs : ℕ → Span
-span_by_runs k =
-    cond (eqb k 20 || eqb k 30 || (leb 40 k && leb k 41) || (leb 57 k && leb k 58)) (record { least = 1; most = 1 })
-    (cond ((leb 21 k && leb k 22) || eqb k 31 || (leb 42 k && leb k 46) || eqb k 56) (record { least = 1; most = 64 })
-    (cond ((leb 23 k && leb k 24) || (leb 47 k && leb k 55)) (record { least = 2; most = 2 })
-    (cond (eqb k 25) (record { least = 3; most = 3 }) (record { least = 0; most = 0 }))))
-
-abbrev SpanAt : ℕ → Type 0
-SpanAt k = (x y : ℕ) → (least (arity (kind_at k x y)) ≡ (span_by_runs k).least) × (most (arity (kind_at k x y)) ≡ (span_by_runs k).most)
-
-pub spans : (k : ℕ) {r : Span} → k < 59 → r ≡ span_by_runs k → Spanned k r
-unfolding kind_at shape_of
-spans k {r} h e = subst (Spanned k) (sym e) (record { low = λ x y. (at x y).0; high = λ x y. (at x y).1 })
-  where
-    at : SpanAt k
-    at = each SpanAt 0 59 (λ x y. (refl, refl), (λ x y. (refl, refl), (λ x y. (refl, refl), (λ x y. (refl, refl), (λ x y. (refl, refl), (λ x y. (refl, refl), (λ x y. (refl, refl), (λ x y. (refl, refl), (λ x y. (refl, refl), (λ x y. (refl, refl), (λ x y. (refl, refl), (λ x y. (refl, refl), (λ x y. (refl, refl), (λ x y. (refl, refl), (λ x y. (refl, refl), (λ x y. (refl, refl), (λ x y. (refl, refl), (λ x y. (refl, refl), (λ x y. (refl, refl), (λ x y. (refl, refl), (λ x y. (refl, refl), (λ x y. (refl, refl), (λ x y. (refl, refl), (λ x y. (refl, refl), (λ x y. (refl, refl), (λ x y. (refl, refl), (λ x y. (refl, refl), (λ x y. (refl, refl), (λ x y. (refl, refl), (λ x y. (refl, refl), (λ x y. (refl, refl), (λ x y. (refl, refl), (λ x y. (refl, refl), (λ x y. (refl, refl), (λ x y. (refl, refl), (λ x y. (refl, refl), (λ x y. (refl, refl), (λ x y. (refl, refl), (λ x y. (refl, refl), (λ x y. (refl, refl), (λ x y. (refl, refl), (λ x y. (refl, refl), (λ x y. (refl, refl), (λ x y. (refl, refl), (λ x y. (refl, refl), (λ x y. (refl, refl), (λ x y. (refl, refl), (λ x y. (refl, refl), (λ x y. (refl, refl), (λ x y. (refl, refl), (λ x y. (refl, refl), (λ x y. (refl, refl), (λ x y. (refl, refl), (λ x y. (refl, refl), (λ x y. (refl, refl), (λ x y. (refl, refl), (λ x y. (refl, refl), (λ x y. (refl, refl), (λ x y. (refl, refl), tt))))))))))))))))))))))))))))))))))))))))))))))))))))))))))) k (omega arith) h
+-- whatever the numbers in it
+arity_made : (k : Kind) (x y : ℕ) → arity (shaped (shape k) x y) ≡ arity (make (shape k) [])
+arity_made D.BoolVar x y = refl
+arity_made D.BvVar x y = refl
+arity_made D.Const x y = refl
+arity_made D.Not x y = refl
+arity_made D.And x y = refl
+arity_made D.Or x y = refl
+arity_made D.Xor x y = refl
+arity_made D.Equals x y = refl
+arity_made D.Ite x y = refl
+arity_made D.BvBitOf x y = refl
+arity_made D.BvBbTerm x y = refl
+arity_made D.BvNot x y = refl
+arity_made D.BvNeg x y = refl
+arity_made D.BvAnd x y = refl
+arity_made D.BvOr x y = refl
+arity_made D.BvXor x y = refl
+arity_made D.BvAdd x y = refl
+arity_made D.BvMul x y = refl
+arity_made D.BvXNor x y = refl
+arity_made D.BvComp x y = refl
+arity_made D.BvULt x y = refl
+arity_made D.BvSLt x y = refl
+arity_made D.BvShl x y = refl
+arity_made D.BvLShr x y = refl
+arity_made D.BvAShr x y = refl
+arity_made D.BvUDiv x y = refl
+arity_made D.BvURem x y = refl
+arity_made D.BvConcat x y = refl
+arity_made D.BvExtract x y = refl
+arity_made D.SignExtend x y = refl
+arity_made D.ZeroExtend x y = refl
+arity_made D.RotateLeft x y = refl
+arity_made D.RotateRight x y = refl
+arity_made D.Repeat x y = refl
 
 takes_span : (a : Arity) (n : ℕ) → takes a n ≡ (leb (least a) n && leb n (most a))
 takes_span many n = refl
@@ -41,5 +62,6 @@ takes_span (exactly k) n = go (dec_le k n) (dec_le n k)
     go (yes p) (no q) = ne_eqb n k (λ e. omega arith) ∙ sym (ap₂ (λ (x y : Bool). x && y) (le-leb k n p) (lt-leb n k (omega arith)))
     go (no p) q = ne_eqb n k (λ e. omega arith) ∙ sym (ap (λ (x : Bool). x && leb n k) (lt-leb k n (omega arith)))
 
-pub takes_by : (k x y : ℕ) {r : Span} (g : Spanned k r) (n : ℕ) → takes (arity (kind_at k x y)) n ≡ (leb r.least n && leb n r.most)
-takes_by k x y g n = takes_span (arity (kind_at k x y)) n ∙ ap₂ (λ (l m : ℕ). leb l n && leb n m) (g.low x y) (g.high x y)
+pub takes_by : (k : Kind) (x y : ℕ) {f : Form} → f ≡ form_of (shape k) → (n : ℕ) → takes (arity (shaped (shape k) x y)) n ≡ (leb f.least n && leb n f.most)
+takes_by k x y e n =
+    ap (λ (a : Arity). takes a n) (arity_made k x y) ∙ takes_span (arity (make (shape k) [])) n ∙ ap (λ (f : Form). leb f.least n && leb n f.most) (sym e)

@@ -11,9 +11,6 @@ use Rattle.text.specs.Writing.{placed_all, put_term, write, write_all}
 use Rattle.writer.specs.declared.places.Writer.{Writer}
 use Rattle.reader.specs.declared.reading.Read.{Read}
 use Rattle.reader.specs.declared.reading.List as list
-use Rattle.reader.specs.declared.reading.Span.{Span}
-use Rattle.terms.specs.Bodies.{least, most}
-use Rattle.names.specs.Kinds.{kind_at}
 use Rattle.writer.specs.Written.{job_of}
 
 -- a term's number, what is left of the line, and the job with the term
@@ -76,8 +73,3 @@ got_list w l = got_all l.numbers.items l.rest.now (job_of w)
 -- the same, where there are any
 abbrev pub told_list : Writer → rust.Option list.List → Option GotAll
 told_list w r = rust.option_map (got_list w) r
-
--- the arguments of a kind, whatever the numbers in it
-pub record Spanned (k : ℕ) (r : Span) : Type 0 where
-  pub low : (x y : ℕ) → least (arity (kind_at k x y)) ≡ r.least
-  pub high : (x y : ℕ) → most (arity (kind_at k x y)) ≡ r.most

@@ -1,15 +1,15 @@
 // A term's reader calls the reader of its arguments, which calls it again.
-ghost use Rattle.std.specs.Prelude.{◌≡◌, ◌<◌};
+ghost use Rattle.std.specs.Prelude.{◌≡◌};
 ghost use Rattle.theory.specs.Limit.{max_arguments};
 ghost use Rattle.theory.specs.Kind.{arity, takes};
-ghost use Rattle.names.specs.Kinds.{op_of, kinds_end, Known, declared_in};
+ghost use Rattle.names.specs.Kinds.{op_of, declared_in};
 ghost use Rattle.writer.specs.Written.{job_of, room, Moved};
-ghost use Rattle.reader.specs.Reader.{Spanned, leaf_write, read_write, read_write_all};
+ghost use Rattle.reader.specs.Reader.{leaf_write, read_write, read_write_all};
 ghost use Rattle.reader.specs.Reader.{fitting, finish, told_read, got_list, told_list};
 
 use arrayvec::ArrayVec;
 use heads::heads::{Start, begin};
-use names::kinds::Kind;
+use names::kinds::Operator;
 use names::marks::right_after;
 use terms::Term;
 use writer::places::Writer;
@@ -29,50 +29,29 @@ pub struct List<'a> {
     pub numbers: ArrayVec<u16, { Term::MAX_ARGUMENTS }>,
 }
 
-// How many arguments a kind has, from the least to the most.
-#[derive(Clone, Copy)]
-pub struct Span {
-    pub least: usize,
-    pub most: usize,
-}
-
-// The arguments of a kind, by document 01's table of kinds.
-fn arguments_of(k: u32) -> Span
-    requires { k < kinds_end }
-    ensures { Spanned k result }
+// Has an operator so many arguments?
+fn allowed(operator: Operator, count: usize) -> bool
+    ensures { result ≡ takes (arity (op_of operator)) count }
 {
-    match k {
-        20 | 30 | 40..=41 | 57..=58 => Span { least: 1, most: 1 },
-        21..=22 | 31 | 42..=46 | 56 => Span {
-            least: 1,
-            most: Term::MAX_ARGUMENTS,
-        },
-        23..=24 | 47..=55 => Span { least: 2, most: 2 },
-        25 => Span { least: 3, most: 3 },
-        _ => Span { least: 0, most: 0 },
+    match operator {
+        Operator::True | Operator::False => count == 0,
+        Operator::Of(kind, _, _) => {
+            let form = kind.form();
+            form.least <= count && count <= form.most
+        }
     }
 }
 
-// Has a kind so many arguments?
-fn allowed(kind: Kind, count: usize) -> bool
-    requires { Known kind }
-    ensures { result ≡ takes (arity (op_of kind)) count }
-{
-    let s = arguments_of(kind.number);
-    s.least <= count && count <= s.most
-}
-
-// Puts a term whose arguments are put, where its kind has so many.
-fn finish<'a>(kind: Kind, list: &List<'a>, writer: &mut Writer<'_>) -> Option<Read<'a>>
-    requires { Known kind }
+// Puts a term whose arguments are put, where its operator has so many.
+fn finish<'a>(operator: Operator, list: &List<'a>, writer: &mut Writer<'_>) -> Option<Read<'a>>
     ensures moved { Moved writer.old writer.new }
     ensures reads { told_read writer.new result
-        ≡ finish (room writer.old) (op_of kind) (got_list writer.old list.now) }
+        ≡ finish (room writer.old) (op_of operator) (got_list writer.old list.now) }
 {
-    if !allowed(kind, list.numbers.len()) {
+    if !allowed(operator, list.numbers.len()) {
         return None;
     }
-    let number = writer.put_term(kind, list.numbers.as_slice())?;
+    let number = writer.put_term(operator, list.numbers.as_slice())?;
     Some(Read {
         rest: list.rest,
         number,
@@ -80,13 +59,12 @@ fn finish<'a>(kind: Kind, list: &List<'a>, writer: &mut Writer<'_>) -> Option<Re
 }
 
 // Puts a term without arguments; `rest` is what stands after it.
-fn finish_leaf<'a>(rest: &'a [u8], kind: Kind, writer: &mut Writer<'_>) -> Option<Read<'a>>
-    requires { Known kind }
+fn finish_leaf<'a>(rest: &'a [u8], operator: Operator, writer: &mut Writer<'_>) -> Option<Read<'a>>
     ensures moved { Moved writer.old writer.new }
     ensures reads { told_read writer.new result
-        ≡ leaf_write (room writer.old) (op_of kind) rest.now (job_of writer.old) }
+        ≡ leaf_write (room writer.old) (op_of operator) rest.now (job_of writer.old) }
 {
-    let number = writer.put_term(kind, &[])?;
+    let number = writer.put_term(operator, &[])?;
     Some(Read { rest, number })
 }
 
@@ -104,13 +82,13 @@ pub fn read_term<'a>(
         (job_of writer.old) }
 {
     match begin(line, declarations)? {
-        Start::Leaf(kind, rest) => finish_leaf(rest, kind, writer),
-        Start::Branch(kind, rest) => {
+        Start::Leaf(operator, rest) => finish_leaf(rest, operator, writer),
+        Start::Branch(operator, rest) => {
             if nesting == 0 {
                 return None;
             }
             let list = read_arguments(rest, nesting - 1, declarations, writer)?;
-            finish(kind, &list, writer)
+            finish(operator, &list, writer)
         }
     }
 }

@@ -3,16 +3,17 @@ use mathlib.Core.Path.{◌≡◌, refl, sym, ap, subst, ◌∙◌}
 use mathlib.Core.Bool.{Bool, true, false, ◌&&◌, cond}
 use mathlib.Core.List.{[], ◌∷◌}
 use Rattle.std.specs.Prelude.{Option, None as none, Some as some}
-use Prim.Native.Nat.{ℕ, zero, suc, ◌+◌, ◌-◌, ◌*◌, ◌<◌, ◌≤◌}
+use Prim.Native.Nat.{ℕ, zero, suc, ◌+◌, ◌*◌, ◌<◌, ◌≤◌}
 use native.Mathlib.Decide.{dec_le}
 use native.Mathlib.Omega.{arith}
 use native.Mathlib.Nat.{mul-le-mul_right}
 use native.Mathlib.Numerals.{add-one}
-use lib.Dec.{T, eqb, ltb, leb, eqb→eq}
+use lib.Dec.{T, eqb, ltb, eqb→eq}
 use lib.Ieee.Fits.{and_l, and_r}
 use lib.ListN.{length, drop, get_or, drop_of_length-le}
 use lib.Seq.{drop-cons}
 use borrow.Author.Tests.{lt-ltb, le-ltb, eq-eqb, ne_eqb}
+use Rattle.std.specs.Char.{digit_value as to_digit}
 use Rattle.theory.specs.Record.{Bytes}
 use Rattle.text.specs.Reading.{digit_value, number_from, number_in, below, leading_zero}
 
@@ -29,15 +30,38 @@ each p lo (suc n) t b h k = go (λ l. each p (suc lo) n (and_r (p lo) _ t) b l (
     go ih (yes l) = ih l
     go ih (no l) = let e : lo ≡ b = omega arith in subst (λ (x : ℕ). T (p x)) e (and_l (p lo) _ t)
 
-pub digit_run : (g : ℕ → ℕ) (lo n : ℕ) → T (all_from (λ b. eqb (digit_value b) (g b)) lo n) → (b : ℕ) → lo ≤ b → b < lo + n → g b ≡ digit_value b
-digit_run g lo n t b h k = sym (eqb→eq (digit_value b) (g b) (each (λ b. eqb (digit_value b) (g b)) lo n t b h k))
+-- what `to_digit` of a character says: the same, but that it goes on after f
+digit_there : (b : ℕ) → b < 256 → to_digit b < 16 → digit_value b ≡ to_digit b
+digit_there b h k = go (ltb (to_digit b) 16) (lt-ltb (to_digit b) 16 k) (each (λ x. cond (ltb (to_digit x) 16) (eqb (digit_value x) (to_digit x)) (eqb (digit_value x) 16)) 0 256 tt b (omega arith) h)
+  where
+    go : (c : Bool) → c ≡ true → T (cond c (eqb (digit_value b) (to_digit b)) (eqb (digit_value b) 16)) → digit_value b ≡ to_digit b
+    go true e t = eqb→eq (digit_value b) (to_digit b) t
+    go false e t = absurd (let z : ◌≡◌ {A = ℕ} 0 1 = cc in omega arith)
 
--- what a digit is worth, by the runs in which digits stand
-abbrev digit_by_runs : ℕ → ℕ
-digit_by_runs b = cond (leb 48 b && leb b 57) (b - 48) (cond (leb 65 b && leb b 70) (b - 65 + 10) (cond (leb 97 b && leb b 102) (b - 97 + 10) 16))
+digit_past : (b : ℕ) → b < 256 → 16 ≤ to_digit b → digit_value b ≡ 16
+digit_past b h k = go (ltb (to_digit b) 16) (le-ltb (to_digit b) 16 k) (each (λ x. cond (ltb (to_digit x) 16) (eqb (digit_value x) (to_digit x)) (eqb (digit_value x) 16)) 0 256 tt b (omega arith) h)
+  where
+    go : (c : Bool) → c ≡ false → T (cond c (eqb (digit_value b) (to_digit b)) (eqb (digit_value b) 16)) → digit_value b ≡ 16
+    go true e t = absurd (let z : ◌≡◌ {A = ℕ} 0 1 = cc in omega arith)
+    go false e t = eqb→eq (digit_value b) 16 t
 
-pub digit_runs : (b : ℕ) → b < 256 → digit_value b ≡ digit_by_runs b
-digit_runs b h = sym (digit_run digit_by_runs 0 256 tt b (omega arith) h)
+pub digit_is : {base x b d : ℕ} → x ≡ b → b < 256 → base ≤ 16 → to_digit x < base → d ≡ to_digit x → (d ≡ digit_value b) × (d < base)
+digit_is {base} {x} {b} {d} f h k l e =
+    let g = digit_there x (subst (λ (y : ℕ). y < 256) (sym f) h) (omega arith) in
+    (e ∙ sym g ∙ ap digit_value f, subst (λ (y : ℕ). y < base) (sym e) l)
+
+pub digit_none : {base x b : ℕ} → x ≡ b → b < 256 → base ≤ 16 → (to_digit x < base → ⊥) → base ≤ digit_value b
+digit_none {base} {x} {b} f h k n = subst (λ (y : ℕ). base ≤ digit_value y) f (go (dec_le 16 (to_digit x)))
+  where
+    over : base ≤ to_digit x
+    over = omega arith
+
+    small : x < 256
+    small = subst (λ (y : ℕ). y < 256) (sym f) h
+
+    go : Dec (16 ≤ to_digit x) → base ≤ digit_value x
+    go (yes l) = let e = digit_past x small l in omega arith
+    go (no l) = let e = digit_there x small (omega arith) in omega (arith, over)
 
 -- ---- a number from its digits
 from_more : (base n d : ℕ) (ds : Bytes) → digit_value d < base → number_from base n (d ∷ ds) ≡ number_from base (base * n + digit_value d) ds

@@ -1,7 +1,7 @@
 -- Laws of bytes, words and tokens.
 use mathlib.Core.Path.{◌≡◌, refl, sym, ap, ap₂, subst, ◌∙◌}
 use mathlib.Core.Bool.{Bool, true, false, ◌&&◌, ◌||◌, not, cond}
-use mathlib.Core.List.{[], ◌∷◌, ◌++◌, append-nil, append_assoc}
+use mathlib.Core.List.{[], ◌∷◌, ◌++◌}
 use Prim.Native.Nat.{ℕ, zero, suc, ◌+◌, ◌-◌, ◌<◌, ◌≤◌}
 use native.Mathlib.Decide.{dec_le}
 use native.Mathlib.Omega.{arith}
@@ -9,14 +9,16 @@ use native.Mathlib.Numerals.{add-one}
 use lib.Dec.{eqb, leb}
 use lib.Dec as dec
 use lib.Ieee.Fits.{and_l, and_r}
-use lib.ListN.{length, take, drop, get_or, length-take, length-drop, drop_of_length-le}
-use lib.Seq.{drop-cons, take-suc, get_or-drop, ext_get_or}
+use lib.ListN.{length, take, drop, get_or, length-take, length-drop}
+use lib.Seq.{take-suc, get_or-drop}
 use borrow.Author.Tests.{eq-eqb, ne_eqb, eqb-true}
 use Rattle.std.specs.Borrow.{Bor}
 use Rattle.std.specs.Prelude.{Option, None as none, Some as some, MatchOption, option_map}
 use Rattle.std.proofs.lemmas.Bool.Decides.{Decides-eqb}
-use Rattle.std.proofs.lemmas.List.{take_all, length-take-le}
-use Rattle.std.proofs.lemmas.Slice.Eq.{strip_prefix_is}
+use Rattle.std.proofs.lemmas.Iterator.{index_from_first}
+use Rattle.std.specs.List.{AllWithin, HoldsAt}
+use Rattle.std.specs.Option.{unwrap_or}
+use Rattle.std.proofs.lemmas.Slice.Eq.{strip_prefix_is, bytes_eq-Decides}
 use Rattle.std.specs.Cmp.Lexicographic.{pointwise}
 use Rattle.theory.specs.Term.{same_numbers}
 use Rattle.theory.specs.Record.{Bytes}
@@ -68,13 +70,6 @@ front_none : (b : ℕ) (bs : Bytes) → in_word b ≡ false → front_word (b �
 unfolding front_word
 front_none b bs e = rw (e, front_word)
 
--- ---- the line at a place
-at_byte : (line : Bytes) (i : ℕ) → i < length line → drop i line ≡ get_or line i 0 ∷ drop (i + 1) line
-at_byte line i h = drop-cons line i 0 h ∙ ap (λ (j : ℕ). get_or line i 0 ∷ drop j line) (sym (add-one i))
-
-at_end : (line : Bytes) (i : ℕ) → length line ≤ i → drop i line ≡ []
-at_end line i h = drop_of_length-le line {i = i} h
-
 -- ---- blanks
 next_blank : (b : ℕ) (bs : Bytes) → is_blank b ≡ true → next (b ∷ bs) ≡ next bs
 unfolding next
@@ -84,55 +79,73 @@ next_black : (b : ℕ) (bs : Bytes) → is_blank b ≡ false → next (b ∷ bs)
 unfolding next
 next_black b bs e = rw (e, next)
 
--- the walk over blanks
-pub skip_turn : (line : Bytes) (i : ℕ) → i < length line → is_blank (get_or line i 0) ≡ true → next (drop (i + 1) line) ≡ next (drop i line)
-skip_turn line i h e = sym (ap next (at_byte line i h) ∙ next_blank (get_or line i 0) (drop (i + 1) line) e)
+-- how many blanks a line begins with
+abbrev pub blanks : Bytes → ℕ
+blanks [] = 0
+blanks (b ∷ bs) = cond (is_blank b) (suc (blanks bs)) 0
 
-pub skip_end : (line : Bytes) (i : ℕ) → length line ≤ i → next (drop i line) ≡ next line → next [] ≡ next line
-skip_end line i h e = sym (ap next (at_end line i h)) ∙ e
+blank_more : (b : ℕ) (bs : Bytes) → is_blank b ≡ true → blanks (b ∷ bs) ≡ blanks bs + 1
+blank_more b bs e = rw e (sym (add-one (blanks bs)))
 
--- ---- words
--- the word is what was passed and the word from here
-pub record Wording (line : Bytes) (i : ℕ) : Type 0 where
-  pub inside : i ≤ length line
-  pub is : front_word line ≡ take i line ++ front_word (drop i line)
+black_here : (b : ℕ) (bs : Bytes) → is_blank b ≡ false → blanks (b ∷ bs) ≡ 0
+black_here b bs e = rw e
 
-pub word_start : (line : Bytes) → Wording line 0
-word_start line = record { inside = omega arith; is = refl }
+past_blanks : (line : Bytes) → next (drop (blanks line) line) ≡ next line
+past_blanks [] = refl
+past_blanks (b ∷ bs) = go (is_blank b) refl (past_blanks bs)
+  where
+    go : (t : Bool) → is_blank b ≡ t → next (drop (blanks bs) bs) ≡ next bs → next (drop (cond t (suc (blanks bs)) 0) (b ∷ bs)) ≡ next (b ∷ bs)
+    go true e ih = ih ∙ sym (next_blank b bs e)
+    go false e ih = refl
 
-pub word_turn : {line : Bytes} {i : ℕ} → Wording line i → i < length line → in_word (get_or line i 0) ≡ true → Wording line (i + 1)
-word_turn {line} {i} w h e = record {
-  inside = omega arith;
-  is = w.is
-      ∙ ap (λ (x : Bytes). take i line ++ front_word x) (at_byte line i h)
-      ∙ ap (λ (x : Bytes). take i line ++ x) (front_more (get_or line i 0) (drop (i + 1) line) e)
-      ∙ sym (append_assoc (take i line) (get_or line i 0 ∷ []) (front_word (drop (i + 1) line)))
-      ∙ ap (λ (x : Bytes). x ++ front_word (drop (i + 1) line)) (sym (take-suc line i 0 h) ∙ ap (λ (j : ℕ). take j line) (sym (add-one i)));
-}
+black_after : (line : Bytes) → 0 < length (drop (blanks line) line) → is_blank (get_or (drop (blanks line) line) 0 0) ≡ false
+black_after [] h = absurd (omega arith)
+black_after (b ∷ bs) h = go (is_blank b) refl (black_after bs) h
+  where
+    go : (t : Bool) → is_blank b ≡ t → (0 < length (drop (blanks bs) bs) → is_blank (get_or (drop (blanks bs) bs) 0 0) ≡ false)
+        → 0 < length (drop (cond t (suc (blanks bs)) 0) (b ∷ bs)) → is_blank (get_or (drop (cond t (suc (blanks bs)) 0) (b ∷ bs)) 0 0) ≡ false
+    go true e ih h = ih h
+    go false e ih h = e
 
--- the word is what was passed
-word_ends : {line : Bytes} {i : ℕ} → Wording line i → front_word (drop i line) ≡ [] → take i line ≡ front_word line
-word_ends {line} {i} w e = sym (w.is ∙ ap (λ (x : Bytes). take i line ++ x) e ∙ append-nil (take i line))
+-- the first place where a test fails, or the end, as `position` says it
+abbrev pub FirstPlace : (ℕ → Bool) → Bytes → Option ℕ → Type 0
+FirstPlace test line r =
+    MatchOption r (AllWithin (λ b. test b ≡ true) line 0 (length line))
+    (λ i. (i < length line) × HoldsAt (λ b. test b ≡ false) line i × AllWithin (λ b. test b ≡ true) line 0 i)
 
-word_long : {line : Bytes} {i : ℕ} → Wording line i → take i line ≡ front_word line → drop i line ≡ drop (length (front_word line)) line
-word_long {line} {i} w e =
-    let n = w.inside in
-    let l : length (front_word line) ≡ i = ap length (sym e) ∙ length-take-le i line n in
-    ap (λ (j : ℕ). drop j line) (sym l)
+module _ (line : Bytes) (r : Option ℕ) (first : FirstPlace is_blank line r) (i : ℕ) (e : i ≡ unwrap_or r (length line)) where
+  blanks_are : blanks line ≡ i
+  blanks_are = index_from_first blanks (λ b. is_blank b ≡ false) (λ b. is_blank b ≡ true) refl black_here blank_more line r first ∙ sym e
 
-module _ {line : Bytes} {i : ℕ} (w : Wording line i) where
-  pub word_stop : i < length line → in_word (get_or line i 0) ≡ false → take i line ≡ front_word line
-  word_stop h e = word_ends w (ap front_word (at_byte line i h) ∙ front_none (get_or line i 0) (drop (i + 1) line) e)
+  pub skipped : {rest : Bytes} → rest ≡ drop i line → next rest ≡ next line
+  skipped f = ap next (f ∙ ap (λ (n : ℕ). drop n line) (sym blanks_are)) ∙ past_blanks line
 
-  pub word_past : i < length line → in_word (get_or line i 0) ≡ false → drop i line ≡ drop (length (front_word line)) line
-  word_past h e = word_long w (word_stop h e)
+  pub skipped_black : {rest : Bytes} → rest ≡ drop i line → 0 < length rest → is_blank (get_or rest 0 0) ≡ false
+  skipped_black f = subst (λ (bs : Bytes). 0 < length bs → is_blank (get_or bs 0 0) ≡ false) (ap (λ (n : ℕ). drop n line) blanks_are ∙ sym f) (black_after line)
 
-  pub word_last : length line ≤ i → line ≡ front_word line
+-- ---- the first word
+word_start : (line : Bytes) → take (length (front_word line)) line ≡ front_word line
+unfolding front_word
+word_start [] = refl
+word_start (b ∷ bs) = go (in_word b) (word_start bs)
+  where
+    go : (t : Bool) → take (length (front_word bs)) bs ≡ front_word bs
+        → take (length (elim t as (λ x. Bytes) [ true ↦ b ∷ front_word bs | false ↦ [] ])) (b ∷ bs) ≡ elim t as (λ x. Bytes) [ true ↦ b ∷ front_word bs | false ↦ [] ]
+    go true ih = ap (λ (x : Bytes). b ∷ x) ih
+    go false ih = refl
+
+module _ (line : Bytes) (r : Option ℕ) (first : FirstPlace in_word line r) (i : ℕ) (e : i ≡ unwrap_or r (length line)) where
+  word_long : length (front_word line) ≡ i
   unfolding front_word
-  word_last h = sym (take_all i line h) ∙ word_ends w (ap front_word (at_end line i h))
+  word_long =
+      index_from_first (λ (l : Bytes). length (front_word l)) (λ b. in_word b ≡ false) (λ b. in_word b ≡ true) refl
+      (λ b bs e. ap length (front_none b bs e)) (λ b bs e. ap length (front_more b bs e) ∙ sym (add-one (length (front_word bs)))) line r first ∙ sym e
 
-  pub word_over : length line ≤ i → [] ≡ drop (length (front_word line)) line
-  word_over h = sym (at_end line (length line) (omega arith)) ∙ ap (λ (x : Bytes). drop (length x) line) (word_last h)
+  pub word_split : take i line ≡ front_word line
+  word_split = ap (λ (n : ℕ). take n line) (sym word_long) ∙ word_start line
+
+  pub word_rest : drop i line ≡ drop (length (front_word line)) line
+  word_rest = ap (λ (n : ℕ). drop n line) (sym word_long)
 
 -- ---- pieces
 pub piece_more : (line : Bytes) (at i : ℕ) → at ≤ i → i < length line → piece at (i + 1) line ≡ piece at i line ++ (get_or line i 0 ∷ [])
@@ -178,35 +191,26 @@ module _ {line : Bytes} {b : ℕ} {bs : Bytes} (is : line ≡ b ∷ bs) (black :
       ap₂ (λ (u v : Bytes). followed (word u) v) (e ∙ ap front_word is) (d ∙ ap (λ (l : Bytes). drop (length (front_word l)) l) is) ∙ sym x ∙ at_token
 
 -- ---- the test for the same bytes
-pub same_refl : (x : Bytes) → same_numbers x x ≡ true
-same_refl [] = refl
-same_refl (a ∷ x) = rw (eq-eqb a a refl) (same_refl x)
+same_is : (x y : Bytes) → same_numbers x y ≡ pointwise eqb x y
+same_is [] [] = refl
+same_is [] (b ∷ y) = refl
+same_is (a ∷ x) [] = refl
+same_is (a ∷ x) (b ∷ y) = ap (λ (t : Bool). eqb a b && t) (same_is x y)
 
-pub same_sound : (x y : Bytes) → same_numbers x y ≡ true → x ≡ y
-same_sound [] [] e = refl
-same_sound [] (b ∷ y) e = absurd (let z : ◌≡◌ {A = ℕ} 0 1 = cc in omega arith)
-same_sound (a ∷ x) [] e = absurd (let z : ◌≡◌ {A = ℕ} 0 1 = cc in omega arith)
-same_sound (a ∷ x) (b ∷ y) e = go (same_sound x y) (eqb a b) refl e
-  where
-    go : (same_numbers x y ≡ true → x ≡ y) → (c : Bool) → eqb a b ≡ c → (c && same_numbers x y) ≡ true → a ∷ x ≡ b ∷ y
-    go ih true f d = ap₂ (λ (u : ℕ) (v : Bytes). u ∷ v) (eqb-true a b f) (ih d)
-    go ih false f d = absurd (let z : ◌≡◌ {A = ℕ} 0 1 = cc in omega arith)
+-- what `==` says
+pub same_said : (x y : Bytes) {b : Bool} → b ≡ pointwise eqb x y → same_numbers x y ≡ b
+same_said x y e = same_is x y ∙ sym e
+
+-- of a text that is written out
+pub same_as : (x z : Bytes) {y : Bytes} {b : Bool} → b ≡ pointwise eqb x y → y ≡ z → same_numbers x z ≡ b
+same_as x z {y} e d = ap (same_numbers x) (sym d) ∙ same_said x y e
 
 pub same_differ : (x y : Bytes) → (x ≡ y → ⊥) → same_numbers x y ≡ false
 same_differ x y h = go (same_numbers x y) refl
   where
     go : (b : Bool) → same_numbers x y ≡ b → same_numbers x y ≡ false
-    go true e = absurd (h (same_sound x y e))
+    go true e = absurd (h ((bytes_eq-Decides x y).0 (sym (same_is x y) ∙ e)))
     go false e = e
-
-pub same_long : (x y : Bytes) → (length x ≡ length y → ⊥) → same_numbers x y ≡ false
-same_long x y h = same_differ x y (λ e. h (ap length e))
-
-pub same_byte : (x y : Bytes) (i : ℕ) → (get_or x i 0 ≡ get_or y i 0 → ⊥) → same_numbers x y ≡ false
-same_byte x y i h = same_differ x y (λ e. h (ap (λ (l : Bytes). get_or l i 0) e))
-
-pub same_all : (x y : Bytes) → length x ≡ length y → ((k : ℕ) → k < length x → get_or x k 0 ≡ get_or y k 0) → same_numbers x y ≡ true
-same_all x y l h = let e : x ≡ y = ext_get_or 0 x y l h in ap (λ (z : Bytes). same_numbers x z) (sym e) ∙ same_refl x
 
 -- ---- symbols
 pub symbol_word : (b : ℕ) → (b ≡ 35 → ⊥) → (b ≡ 58 → ⊥) → in_word b ≡ in_symbol b

@@ -1,14 +1,14 @@
 -- Tables of words, and options of the code.
-use Rattle.std.specs.Prelude.{◌≡◌, cond, List, [], ◌∷◌, ℕ}
+use Rattle.std.specs.Prelude.{◌≡◌, cond, List, [], ◌∷◌}
 use Rattle.std.specs.Borrow.{Bor}
 use Rattle.std.specs.Prelude.{Option, None as none, Some as some, option_map}
 use Rattle.theory.specs.Term.{same_numbers}
 use Rattle.theory.specs.Record.{Bytes}
 
--- the number beside a word
-abbrev pub number_beside : Bytes → List (Bor Bytes × ℕ) → Option ℕ
-number_beside w [] = none
-number_beside w (r ∷ rs) = cond (same_numbers w r.0.now) (some r.1) (number_beside w rs)
+-- the value beside a word
+abbrev pub beside : {A : Type 0} → Bytes → List (Bor Bytes × A) → Option A
+beside w [] = none
+beside w (r ∷ rs) = cond (same_numbers w r.0.now) (some r.1) (beside w rs)
 
 -- the code's option is what is expected, and its value has a property
 pub record Reads {A B : Type 0} (tell : A → B) (Fits : A → Type 0) (expected : Option B) (r : Option A) : Type 0 where
@@ -16,5 +16,5 @@ pub record Reads {A B : Type 0} (tell : A → B) (Fits : A → Type 0) (expected
   pub fits : (a : A) → r ≡ some a → Fits a
 
 -- what a search of a table gives
-pub record Beside (w : Bytes) (rs : List (Bor Bytes × ℕ)) (r : Option ℕ) : Type 0 where
-  pub is : r ≡ number_beside w rs
+pub record Beside {A : Type 0} (w : Bytes) (rs : List (Bor Bytes × A)) (r : Option A) : Type 0 where
+  pub is : r ≡ beside w rs

@@ -1,20 +1,6 @@
 // Numbers in words.
 ghost use Rattle.std.specs.Prelude.{◌≡◌, ◌+◌, ◌≤◌, ◌<◌};
-ghost use Rattle.text.specs.Reading.{digit_value, below, number_in, numeral};
-
-// What a digit is worth, 16 for any other byte.
-#[tactic(auto, using(crate::proofs::NumberLaws::digit_runs, std::proofs::lemmas::Bool::Decides::nat_tests))]
-fn digit(b: u8) -> u64
-    ensures is { result ≡ digit_value b }
-    ensures small { result ≤ 16 }
-{
-    match b {
-        b'0'..=b'9' => u64::from(b - b'0'),
-        b'A'..=b'F' => u64::from(b - b'A') + 10,
-        b'a'..=b'f' => u64::from(b - b'a') + 10,
-        _ => 16,
-    }
-}
+ghost use Rattle.text.specs.Reading.{below, number_in, numeral};
 
 // The number of a word of digits of a base, up to `most`.
 pub fn number_in(base: u64, word: &[u8], most: u64) -> Option<u64>
@@ -27,11 +13,8 @@ pub fn number_in(base: u64, word: &[u8], most: u64) -> Option<u64>
     }
     let mut n: u64 = 0;
     for &b in word {
-        let d = digit(b);
-        if base <= d {
-            return None;
-        }
-        n = n.checked_mul(base)?.checked_add(d)?;
+        let d = char::from(b).to_digit(base as u32)?;
+        n = n.checked_mul(base)?.checked_add(u64::from(d))?;
         if most < n {
             return None;
         }

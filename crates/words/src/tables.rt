@@ -1,10 +1,10 @@
-// The names of kinds and rules, with their numbers.
-ghost use Rattle.std.specs.Prelude.{◌≡◌, ◌<◌, Some, IfSome, option_map};
-ghost use Rattle.theory.specs.Record.{shape_of};
+// The names of kinds and rules.
+ghost use Rattle.std.specs.Prelude.{◌≡◌, option_map};
+ghost use Rattle.terms.specs.Numbered.{shape};
 ghost use Rattle.text.specs.Spelling.{named, kind_names, rule_number};
 ghost use Rattle.words.specs.Tables.{Beside};
 
-use crate::tokens::same;
+use terms::kind::Kind;
 
 // The names of the rules, with their numbers.
 static RULES: [(&[u8], u32); 23] = [
@@ -33,44 +33,44 @@ static RULES: [(&[u8], u32); 23] = [
     (b"bitwise_slicing", 23),
 ];
 
-// The names of the kinds, with their numbers.
-static KINDS: [(&[u8], u32); 27] = [
-    (b"not", 20),
-    (b"and", 21),
-    (b"or", 22),
-    (b"xor", 23),
-    (b"=", 24),
-    (b"ite", 25),
-    (b"@bit_of", 30),
-    (b"@bbterm", 31),
-    (b"bvnot", 40),
-    (b"bvneg", 41),
-    (b"bvand", 42),
-    (b"bvor", 43),
-    (b"bvxor", 44),
-    (b"bvadd", 45),
-    (b"bvmul", 46),
-    (b"bvxnor", 47),
-    (b"bvcomp", 48),
-    (b"bvult", 49),
-    (b"bvslt", 50),
-    (b"bvshl", 51),
-    (b"bvlshr", 52),
-    (b"bvashr", 53),
-    (b"bvudiv", 54),
-    (b"bvurem", 55),
-    (b"concat", 56),
-    (b"extract", 57),
-    (b"sign_extend", 58),
+// The names of the kinds.
+static KINDS: [(&[u8], Kind); 27] = [
+    (b"not", Kind::Not),
+    (b"and", Kind::And),
+    (b"or", Kind::Or),
+    (b"xor", Kind::Xor),
+    (b"=", Kind::Equals),
+    (b"ite", Kind::Ite),
+    (b"@bit_of", Kind::BvBitOf),
+    (b"@bbterm", Kind::BvBbTerm),
+    (b"bvnot", Kind::BvNot),
+    (b"bvneg", Kind::BvNeg),
+    (b"bvand", Kind::BvAnd),
+    (b"bvor", Kind::BvOr),
+    (b"bvxor", Kind::BvXor),
+    (b"bvadd", Kind::BvAdd),
+    (b"bvmul", Kind::BvMul),
+    (b"bvxnor", Kind::BvXNor),
+    (b"bvcomp", Kind::BvComp),
+    (b"bvult", Kind::BvULt),
+    (b"bvslt", Kind::BvSLt),
+    (b"bvshl", Kind::BvShl),
+    (b"bvlshr", Kind::BvLShr),
+    (b"bvashr", Kind::BvAShr),
+    (b"bvudiv", Kind::BvUDiv),
+    (b"bvurem", Kind::BvURem),
+    (b"concat", Kind::BvConcat),
+    (b"extract", Kind::BvExtract),
+    (b"sign_extend", Kind::SignExtend),
 ];
 
-// The number beside a word in a table.
-fn number_of(table: &[(&[u8], u32)], word: &[u8]) -> Option<u32>
+// The value beside a word in a table.
+fn beside<T: Copy>(table: &[(&[u8], T)], word: &[u8]) -> Option<T>
     ensures { Beside word.now table.now result }
 {
-    for &(name, number) in table {
-        if same(word, name) {
-            return Some(number);
+    for &(name, value) in table {
+        if word == name {
+            return Some(value);
         }
     }
     None
@@ -80,13 +80,12 @@ fn number_of(table: &[(&[u8], u32)], word: &[u8]) -> Option<u32>
 pub fn rule_named(word: &[u8]) -> Option<u32>
     ensures { result ≡ rule_number word.now }
 {
-    number_of(&RULES, word)
+    beside(&RULES, word)
 }
 
-// The number of the kind of a name: the kinds are numbered from 20, 30 and 40 on.
-pub fn kind_named(word: &[u8]) -> Option<u32>
-    ensures shape { option_map shape_of result ≡ option_map Some (named word.now kind_names) }
-    ensures below { IfSome result (λ k. k < 59) }
+// The kind of a name.
+pub fn kind_named(word: &[u8]) -> Option<Kind>
+    ensures { option_map shape result ≡ named word.now kind_names }
 {
-    number_of(&KINDS, word)
+    beside(&KINDS, word)
 }

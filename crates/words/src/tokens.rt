@@ -1,6 +1,5 @@
 // The tokens of a line.
 ghost use Rattle.std.specs.Prelude.{◌≡◌, ◌<◌, length, drop, get_or, false};
-ghost use Rattle.theory.specs.Term.{same_numbers};
 ghost use Rattle.text.specs.Tokens.{is_blank, in_word, in_symbol, next, front_word};
 ghost use Rattle.words.specs.Words.{told_next};
 
@@ -56,12 +55,8 @@ fn skip_blanks(line: &[u8]) -> &[u8]
     ensures same { next result.now ≡ next line.now }
     ensures black { 0 < length result.now → is_blank (get_or result.now 0 0) ≡ false }
 {
-    for i in 0..line.len() {
-        if !is_blank(line[i]) {
-            return &line[i..];
-        }
-    }
-    &[]
+    let start = line.iter().position(|&b| !is_blank(b));
+    &line[start.unwrap_or(line.len())..]
 }
 
 // The word that a line begins with, and what stands after it.
@@ -69,12 +64,8 @@ fn split_word(line: &[u8]) -> (&[u8], &[u8])
     ensures word { result.0.now ≡ front_word line.now }
     ensures rest { result.1.now ≡ drop (length (front_word line.now)) line.now }
 {
-    for i in 0..line.len() {
-        if !in_word(line[i]) {
-            return line.split_at(i);
-        }
-    }
-    (line, &[])
+    let end = line.iter().position(|&b| !in_word(b));
+    line.split_at(end.unwrap_or(line.len()))
 }
 
 // The first token of a line.
@@ -111,11 +102,4 @@ pub fn next_token(line: &[u8]) -> Next<'_>
         token: Token::Word(word),
         rest,
     }
-}
-
-// Are these the same bytes?
-pub fn same(a: &[u8], b: &[u8]) -> bool
-    ensures { result ≡ same_numbers a.now b.now }
-{
-    a == b
 }

@@ -1,8 +1,7 @@
--- From one place of a job to the next; what holds of every number below a bound.
-use mathlib.Core.Path.{◌≡◌, refl, sym, ap, subst, ◌∙◌}
-use Prim.Native.Nat.{ℕ, zero, suc, ◌+◌, ◌-◌, ◌<◌, ◌≤◌}
+-- From one place of a job to the next.
+use mathlib.Core.Path.{◌≡◌, refl, sym, ap, ◌∙◌}
+use Prim.Native.Nat.{ℕ, ◌+◌, ◌-◌, ◌≤◌}
 use native.Mathlib.Omega.{arith}
-use native.Mathlib.Decide.{dec_le}
 use lib.ListN.{drop}
 use lib.Seq.{drop-drop}
 use Rattle.theory.specs.Record.{Bytes}
@@ -38,16 +37,3 @@ moved_on {a} {b} {c} p q =
       grown = omega arith;
       past = past_more a.out.now b.out.now c.out.now b.spot.done c.spot.done h q.past p.past;
     }
-
--- ---- all numbers from lo on, n of them
-abbrev pub AllFrom : (ℕ → Type 0) → ℕ → ℕ → Type 0
-AllFrom p lo zero = Unit {0}
-AllFrom p lo (suc n) = p lo × AllFrom p (suc lo) n
-
-pub each : (p : ℕ → Type 0) (lo n : ℕ) → AllFrom p lo n → (k : ℕ) → lo ≤ k → k < lo + n → p k
-each p lo zero t k h l = absurd (omega arith)
-each p lo (suc n) t k h l = go (λ m. each p (suc lo) n t.1 k m (omega arith)) (dec_le (suc lo) k)
-  where
-    go : (suc lo ≤ k → p k) → Dec (suc lo ≤ k) → p k
-    go ih (yes m) = ih m
-    go ih (no m) = let e : lo ≡ k = omega arith in subst p e t.0

@@ -1,25 +1,24 @@
 -- Laws of the places in a job: the walk over its records, and a record put at its end.
 use mathlib.Core.Path.{◌≡◌, refl, sym, ap, ap₂, subst, ◌∙◌}
-use mathlib.Core.Bool.{Bool, true, false, cond}
+use mathlib.Core.Bool.{Bool, cond}
 use mathlib.Core.List.{List, [], ◌∷◌, ◌++◌, append_assoc}
 use Rattle.std.specs.Prelude.{Option, None as none, Some as some}
-use Prim.Native.Nat.{ℕ, zero, suc, ◌+◌, ◌-◌, ◌*◌, ◌<◌, ◌≤◌}
+use Prim.Native.Nat.{ℕ, ◌+◌, ◌-◌, ◌*◌, ◌<◌, ◌≤◌}
 use native.Mathlib.Omega.{arith}
 use native.Mathlib.Numerals.{add-one}
-use lib.ListN.{length, take, drop, get_or, length-append, length-drop}
-use lib.Seq.{sets, sets-eq, length-sets, drop-drop, take_at, drop_at, take-suc, take-take, take-add, length-take-le, take_all}
-use borrow.Author.Tests.{eq-eqb, ne_eqb, le-leb, lt-leb}
+use lib.ListN.{length, take, drop, get_or, length-append}
+use lib.Seq.{sets, sets-eq, length-sets, take_at, drop_at, take-suc, take-take, take-add, length-take-le, take_all}
+use borrow.Author.Tests.{le-leb, lt-leb}
 use Rattle.theory.specs.Limit.{first_terms, number_bytes, max_arguments, max_job, value_bytes}
 use Rattle.theory.specs.Kind.{Op, kind}
-use Rattle.theory.specs.Term.{same_numbers}
-use Rattle.theory.specs.Record.{Bytes, little_endian, word, bytes_of, word_bytes, extent, whole, records_of, kind_of, step_kind, shape_of}
-use Rattle.terms.specs.Framing.{frame_of}
+use Rattle.theory.specs.Record.{Bytes, bytes_of, word_bytes, extent, kind_of, step_kind, Shape, plain, indexed, twice_indexed, valued, front}
+use Rattle.terms.specs.declared.kind.Kind.{Kind}
+use Rattle.terms.specs.declared.kind.Kind.TheVariants as D
+use Rattle.terms.specs.Numbered.{shape, number_of}
 use borrow.Rule.Slice.PartMut.{put_mid, Post-is}
-use Rattle.terms.proofs.Reading.{broken_learnt, whole_learnt}
 use Rattle.rows.proofs.RowLaws.{sets_append}
 use Rattle.text.specs.Reading.{bind}
-use Rattle.text.specs.Writing.{Clean, Lone, terms_of, kept, place_from, append, Placed, placed, keep, record_of, words_bytes, front_bytes, term_record}
-use Rattle.theory.proofs.Positions.{records_whole, records_broken}
+use Rattle.text.specs.Writing.{Clean, Lone, kept, place_from, append, Placed, placed, keep, record_of, words_bytes, front_bytes, term_record}
 use Rattle.text.proofs.Records.{stands, clean_more, kept_more}
 use Rattle.text.proofs.Encoding.{words_length, record_length}
 use Rattle.text.proofs.Placed.{small}
@@ -36,110 +35,9 @@ use Rattle.writer.specs.declared.places.Writer.{Writer}
 use Rattle.writer.specs.Written.{room}
 use Rattle.names.specs.declared.kinds.Indices.{Indices}
 use Rattle.names.specs.declared.kinds.Indices.TheVariants as F
-use Rattle.names.specs.Kinds.{kind_at, kinds_end, family_of}
+use Rattle.names.specs.Kinds.{shaped, family_of}
 use Rattle.writer.specs.Places.{so_far, row_records, Covered, Ready, Longer, Grows, key_bytes, Encoded}
-use Rattle.writer.proofs.Moves.{AllFrom, each}
 use Rattle.writer.proofs.CoverLaws.{part_is, covered_more, covered_table, record_ends, covered_row, found_row, found_rest}
-
--- ---- the walk
-pub record Walking (job wanted : Bytes) (first at place : ℕ) : Type 0 where
-  pub inside : at ≤ length job
-  pub low : place ≤ at + first
-  pub leads : place_from first wanted (kept job) ≡ place_from place wanted (terms_of (records_of (drop at job)))
-
-pub walk_start : (job wanted : Bytes) (first : ℕ) → Walking job wanted first 0 first
-unfolding kept
-walk_start job wanted first = record { inside = omega arith; low = omega arith; leads = refl }
-
--- the kind in the first record
-kind_take : (bs : Bytes) (n : ℕ) → 4 ≤ n → kind_of (take n bs) ≡ word (drop 2 bs)
-kind_take bs n h = ap little_endian (go bs n h)
-  where
-    go : (bs : Bytes) (n : ℕ) → 4 ≤ n → take 2 (drop 2 (take n bs)) ≡ take 2 (drop 2 bs)
-    go [] zero h = absurd (omega arith)
-    go [] (suc n) h = refl
-    go (a ∷ []) (suc zero) h = absurd (omega arith)
-    go (a ∷ []) (suc (suc n)) h = refl
-    go (a ∷ []) zero h = absurd (omega arith)
-    go (a ∷ b ∷ bs) zero h = absurd (omega arith)
-    go (a ∷ b ∷ bs) (suc zero) h = absurd (omega arith)
-    go (a ∷ b ∷ bs) (suc (suc n)) h = take-take 2 n bs (omega arith)
-
-module _ {job wanted : Bytes} {first at place : ℕ} (g : Walking job wanted first at place) where
-  bs : Bytes
-  bs = drop at job
-
-  pub walk_missing : {f : Option ℕ} → f ≡ frame_of (drop at job) → f ≡ none → none ≡ place_from first wanted (kept job)
-  walk_missing {f} e k =
-      sym (g.leads ∙ ap (λ (rs : List Bytes). place_from place wanted (terms_of rs)) (records_broken (drop at job) (broken_learnt (drop at job) (sym k ∙ e))))
-
-  module _ {f : Option ℕ} {size : ℕ} (e : f ≡ frame_of (drop at job)) (d : f ≡ some size) where
-    learnt : (whole (drop at job) ≡ true) × (size ≡ extent (drop at job))
-    learnt = whole_learnt (drop at job) (sym d ∙ e)
-
-    -- where the record ends
-    pub record Fits : Type 0 where
-      pub big : 4 ≤ size
-      pub ends : at + size ≤ length job
-
-    pub walk_fits : Fits
-    walk_fits =
-        let s = stands (drop at job) learnt.0 in
-        let q = learnt.1 in
-        let a = s.all in
-        let b = s.least in
-        let l : length (drop at job) ≡ length job - at = length-drop at job in
-        let i = g.inside in
-        record { big = omega arith; ends = omega arith }
-
-    cut_here : place_from first wanted (kept job) ≡ place_from place wanted (terms_of (take size (drop at job) ∷ records_of (drop (at + size) job)))
-    cut_here =
-        g.leads ∙ ap (λ (rs : List Bytes). place_from place wanted (terms_of rs)) (records_whole (drop at job) learnt.0)
-        ∙ ap (λ (n : ℕ). place_from place wanted (terms_of (take n (drop at job) ∷ records_of (drop n (drop at job))))) (sym learnt.1)
-        ∙ ap (λ (x : Bytes). place_from place wanted (terms_of (take size (drop at job) ∷ records_of x))) (drop-drop size at job)
-
-    kind_here : kind_of (take size (drop at job)) ≡ word (drop (at + 2) job)
-    kind_here = kind_take (drop at job) size walk_fits.big ∙ ap word (drop-drop 2 at job)
-
-    -- a step has no number
-    pub walk_step : word (drop (at + 2) job) ≡ step_kind → Walking job wanted first (at + size) place
-    walk_step k =
-        let w = walk_fits in
-        let b = w.big in
-        let l = g.low in
-        record {
-          inside = w.ends;
-          low = omega arith;
-          leads = cut_here ∙ ap (λ (c : Bool). place_from place wanted (elim c as (λ x. List Bytes) [ true ↦ terms_of (records_of (drop (at + size) job)) | false ↦ take size (drop at job) ∷ terms_of (records_of (drop (at + size) job)) ]))
-              (eq-eqb (kind_of (take size (drop at job))) step_kind (kind_here ∙ k));
-        }
-
-    a_term : (word (drop (at + 2) job) ≡ step_kind → ⊥)
-        → place_from first wanted (kept job) ≡ place_from place wanted (take size (drop at job) ∷ terms_of (records_of (drop (at + size) job)))
-    a_term k =
-        cut_here ∙ ap (λ (c : Bool). place_from place wanted (elim c as (λ x. List Bytes) [ true ↦ terms_of (records_of (drop (at + size) job)) | false ↦ take size (drop at job) ∷ terms_of (records_of (drop (at + size) job)) ]))
-        (ne_eqb (kind_of (take size (drop at job))) step_kind (λ q. k (sym kind_here ∙ q)))
-
-    piece_is : piece at (at + size) job ≡ take size (drop at job)
-    piece_is = let q : at + size - at ≡ size = omega arith in ap (λ (n : ℕ). take n (drop at job)) q
-
-    pub walk_found : (word (drop (at + 2) job) ≡ step_kind → ⊥) → same_numbers wanted (piece at (at + size) job) ≡ true → some place ≡ place_from first wanted (kept job)
-    walk_found k t =
-        sym (a_term k ∙ ap (λ (c : Bool). elim c as (λ x. Option ℕ) [ true ↦ some place | false ↦ place_from (suc place) wanted (terms_of (records_of (drop (at + size) job))) ])
-        (ap (same_numbers wanted) (sym piece_is) ∙ t))
-
-    pub walk_on : (word (drop (at + 2) job) ≡ step_kind → ⊥) → same_numbers wanted (piece at (at + size) job) ≡ false → Walking job wanted first (at + size) (place + 1)
-    walk_on k t =
-        let w = walk_fits in
-        let b = w.big in
-        let l = g.low in
-        record {
-          inside = w.ends;
-          low = omega arith;
-          leads = a_term k ∙ ap (λ (c : Bool). elim c as (λ x. Option ℕ) [ true ↦ some place | false ↦ place_from (suc place) wanted (terms_of (records_of (drop (at + size) job))) ])
-              (ap (same_numbers wanted) (sym piece_is) ∙ t)
-              ∙ ap (λ (j : ℕ). place_from j wanted (terms_of (records_of (drop (at + size) job)))) (sym (add-one place));
-        }
 
 -- ---- bytes put at the end
 module _ (out : Bytes) (done : ℕ) (r : Bytes) (fits : done + length r ≤ length out) where
@@ -355,40 +253,87 @@ module _ {out work : Bytes} {s : Spot} (g : Ready out work s) where
         ap (λ (x : Bytes). place_from (s.rows + 2) w (kept x)) (part_is s.covered s.done out covered_on)
         ∙ found_rest g.rows w told_here e
 
--- ---- the numbers in a kind
+-- ---- a kind with numbers in it
 -- their bytes by the family
-abbrev by_family : Option Indices → ℕ → ℕ → Bytes
-by_family none x y = []
-by_family (some F.Plain) x y = []
-by_family (some F.Indexed) x y = word_bytes x
-by_family (some F.TwiceIndexed) x y = word_bytes x ++ word_bytes y
-by_family (some F.Valued) x y = word_bytes x ++ bytes_of value_bytes y
+abbrev by_family : Indices → ℕ → ℕ → Bytes
+by_family F.Plain x y = []
+by_family F.Indexed x y = word_bytes x
+by_family F.TwiceIndexed x y = word_bytes x ++ word_bytes y
+by_family F.Valued x y = word_bytes x ++ bytes_of value_bytes y
 
-abbrev FrontAt : ℕ → Type 0
-FrontAt k = (x y : ℕ) → front_bytes (kind_at k x y) ≡ by_family (family_of (shape_of k)) x y
+-- the kind has its number, which is none of `true` and `false`, and these bytes
+record Numbered (k : Kind) (x y : ℕ) : Type 0 where
+  number : kind (shaped (shape k) x y) ≡ number_of k
+  high : first_terms ≤ number_of k
+  front_is : front_bytes (shaped (shape k) x y) ≡ by_family (family_of (shape k)) x y
 
-all_fronts : AllFrom FrontAt 0 59
-unfolding front_bytes kind_at shape_of
-all_fronts = (λ x y. refl, (λ x y. refl, (λ x y. refl, (λ x y. refl, (λ x y. refl, (λ x y. refl, (λ x y. refl, (λ x y. refl, (λ x y. refl, (λ x y. refl, (λ x y. refl, (λ x y. refl, (λ x y. refl, (λ x y. refl, (λ x y. refl, (λ x y. refl, (λ x y. refl, (λ x y. refl, (λ x y. refl, (λ x y. refl, (λ x y. refl, (λ x y. refl, (λ x y. refl, (λ x y. refl, (λ x y. refl, (λ x y. refl, (λ x y. refl, (λ x y. refl, (λ x y. refl, (λ x y. refl, (λ x y. refl, (λ x y. refl, (λ x y. refl, (λ x y. refl, (λ x y. refl, (λ x y. refl, (λ x y. refl, (λ x y. refl, (λ x y. refl, (λ x y. refl, (λ x y. refl, (λ x y. refl, (λ x y. refl, (λ x y. refl, (λ x y. refl, (λ x y. refl, (λ x y. refl, (λ x y. refl, (λ x y. refl, (λ x y. refl, (λ x y. refl, (λ x y. refl, (λ x y. refl, (λ x y. refl, (λ x y. refl, (λ x y. refl, (λ x y. refl, (λ x y. refl, (λ x y. refl, tt)))))))))))))))))))))))))))))))))))))))))))))))))))))))))))
+numbered : (k : Kind) (x y : ℕ) → Numbered k x y
+unfolding front_bytes
+numbered D.BoolVar x y = record { number = refl; high = omega arith; front_is = refl }
+numbered D.BvVar x y = record { number = refl; high = omega arith; front_is = refl }
+numbered D.Const x y = record { number = refl; high = omega arith; front_is = refl }
+numbered D.Not x y = record { number = refl; high = omega arith; front_is = refl }
+numbered D.And x y = record { number = refl; high = omega arith; front_is = refl }
+numbered D.Or x y = record { number = refl; high = omega arith; front_is = refl }
+numbered D.Xor x y = record { number = refl; high = omega arith; front_is = refl }
+numbered D.Equals x y = record { number = refl; high = omega arith; front_is = refl }
+numbered D.Ite x y = record { number = refl; high = omega arith; front_is = refl }
+numbered D.BvBitOf x y = record { number = refl; high = omega arith; front_is = refl }
+numbered D.BvBbTerm x y = record { number = refl; high = omega arith; front_is = refl }
+numbered D.BvNot x y = record { number = refl; high = omega arith; front_is = refl }
+numbered D.BvNeg x y = record { number = refl; high = omega arith; front_is = refl }
+numbered D.BvAnd x y = record { number = refl; high = omega arith; front_is = refl }
+numbered D.BvOr x y = record { number = refl; high = omega arith; front_is = refl }
+numbered D.BvXor x y = record { number = refl; high = omega arith; front_is = refl }
+numbered D.BvAdd x y = record { number = refl; high = omega arith; front_is = refl }
+numbered D.BvMul x y = record { number = refl; high = omega arith; front_is = refl }
+numbered D.BvXNor x y = record { number = refl; high = omega arith; front_is = refl }
+numbered D.BvComp x y = record { number = refl; high = omega arith; front_is = refl }
+numbered D.BvULt x y = record { number = refl; high = omega arith; front_is = refl }
+numbered D.BvSLt x y = record { number = refl; high = omega arith; front_is = refl }
+numbered D.BvShl x y = record { number = refl; high = omega arith; front_is = refl }
+numbered D.BvLShr x y = record { number = refl; high = omega arith; front_is = refl }
+numbered D.BvAShr x y = record { number = refl; high = omega arith; front_is = refl }
+numbered D.BvUDiv x y = record { number = refl; high = omega arith; front_is = refl }
+numbered D.BvURem x y = record { number = refl; high = omega arith; front_is = refl }
+numbered D.BvConcat x y = record { number = refl; high = omega arith; front_is = refl }
+numbered D.BvExtract x y = record { number = refl; high = omega arith; front_is = refl }
+numbered D.SignExtend x y = record { number = refl; high = omega arith; front_is = refl }
+numbered D.ZeroExtend x y = record { number = refl; high = omega arith; front_is = refl }
+numbered D.RotateLeft x y = record { number = refl; high = omega arith; front_is = refl }
+numbered D.RotateRight x y = record { number = refl; high = omega arith; front_is = refl }
+numbered D.Repeat x y = record { number = refl; high = omega arith; front_is = refl }
 
-module _ (k x y : ℕ) (h : k < kinds_end) {q : Option Indices} (e : q ≡ family_of (shape_of k)) where
-  front_is : {p : Option Indices} → q ≡ p → front_bytes (kind_at k x y) ≡ by_family p x y
-  front_is f = each FrontAt 0 59 all_fronts k (omega arith) (omega arith) x y ∙ ap (λ (p : Option Indices). by_family p x y) (sym e ∙ f)
+pub kind_number : (k : Kind) (x y : ℕ) → kind (shaped (shape k) x y) ≡ number_of k
+kind_number k x y = (numbered k x y).number
 
-  pub no_family : q ≡ none → front_bytes (kind_at k x y) ≡ []
-  no_family f = front_is f
+pub kind_high : (k : Kind) (x y : ℕ) → first_terms ≤ kind (shaped (shape k) x y)
+kind_high k x y = let n = numbered k x y in let h = n.high in let e = n.number in omega arith
 
-  pub plain_front : q ≡ some F.Plain → front_bytes (kind_at k x y) ≡ []
-  plain_front f = front_is f
+pub front_long : (k : Kind) (x y : ℕ) → length (front_bytes (shaped (shape k) x y)) ≡ front (shape k)
+front_long k x y = ap length (numbered k x y).front_is ∙ go (shape k)
+  where
+    go : (s : Shape) → length (by_family (family_of s) x y) ≡ front s
+    go (plain o) = refl
+    go (indexed f) = refl
+    go (twice_indexed f) = refl
+    go (valued f) = refl
 
-  pub one_front : q ≡ some F.Indexed → front_bytes (kind_at k x y) ≡ word_bytes x
-  one_front f = front_is f
+module _ (k : Kind) (x y : ℕ) {q : Indices} (e : q ≡ family_of (shape k)) where
+  front_by : {p : Indices} → q ≡ p → front_bytes (shaped (shape k) x y) ≡ by_family p x y
+  front_by f = (numbered k x y).front_is ∙ ap (λ (p : Indices). by_family p x y) (sym e ∙ f)
 
-  pub two_front : q ≡ some F.TwiceIndexed → front_bytes (kind_at k x y) ≡ word_bytes x ++ word_bytes y
-  two_front f = front_is f
+  pub plain_front : q ≡ F.Plain → front_bytes (shaped (shape k) x y) ≡ []
+  plain_front f = front_by f
 
-  pub value_front : q ≡ some F.Valued → front_bytes (kind_at k x y) ≡ word_bytes x ++ bytes_of value_bytes y
-  value_front f = front_is f
+  pub one_front : q ≡ F.Indexed → front_bytes (shaped (shape k) x y) ≡ word_bytes x
+  one_front f = front_by f
+
+  pub two_front : q ≡ F.TwiceIndexed → front_bytes (shaped (shape k) x y) ≡ word_bytes x ++ word_bytes y
+  two_front f = front_by f
+
+  pub value_front : q ≡ F.Valued → front_bytes (shaped (shape k) x y) ≡ word_bytes x ++ bytes_of value_bytes y
+  value_front f = front_by f
 
 -- ---- a record built in the array
 -- the array begins with these bytes

@@ -18,7 +18,7 @@ use Rattle.text.proofs.Encoding.{record_kind, record_lone}
 use Rattle.writer.specs.declared.places.Spot.{Spot}
 use Rattle.writer.specs.Places.{so_far, Covered, Ready}
 use Rattle.writer.proofs.CoverLaws.{covered_step}
-use Rattle.writer.proofs.PlaceLaws.{so_put, put_long, past_put, still_ready}
+use Rattle.writer.proofs.PlaceLaws.{so_put, put_long, past_put}
 
 -- four numbers in a row
 pub step_stored : (out : Bytes) (d rule k : ℕ)

@@ -2,13 +2,15 @@
 ghost use Rattle.std.specs.Prelude.{◌≡◌, ◌+◌, ◌≤◌, length};
 ghost use Rattle.std.proofs.lemmas.List.Edits.{sets};
 ghost use Rattle.theory.specs.Limit.{max_arguments};
+ghost use Rattle.terms.specs.Numbered.{shape};
 ghost use Rattle.text.specs.Writing.{front_bytes, step_record};
-ghost use Rattle.names.specs.Kinds.{op_of, Known};
+ghost use Rattle.names.specs.Kinds.{shaped};
 ghost use Rattle.writer.specs.Places.{Encoded, key_bytes};
 
-use names::kinds::{Indices, Kind, family};
+use names::kinds::{Indices, family};
 use rows::bytes::put_number_of;
 use terms::Term;
+use terms::kind::Kind;
 
 // The bytes of an array that is long enough for any term's record: a constant's kind has the
 // most bytes of numbers.
@@ -23,54 +25,39 @@ const LITERAL_AT: usize = Term::BODY_AT + Term::NUMBER_BYTES;
 // .. so that it has so many bytes.
 pub const STEP_BYTES: usize = LITERAL_AT + Term::NUMBER_BYTES;
 
-// The bytes of the numbers in a kind.
-fn front_size(kind: Kind) -> usize
-    requires { Known kind }
-    ensures { result ≡ length (front_bytes (op_of kind)) }
-{
-    match family(kind.number) {
-        Some(Indices::Indexed) => Term::NUMBER_BYTES,
-        Some(Indices::TwiceIndexed) => 2 * Term::NUMBER_BYTES,
-        Some(Indices::Valued) => Term::NUMBER_BYTES + Term::VALUE_BYTES,
-        _ => 0,
-    }
-}
-
 // Stores the numbers in a kind.
-fn put_front(kind: Kind, key: &mut [u8])
+fn put_front(kind: Kind, x: u64, y: u64, key: &mut [u8])
     requires sized { length key.old ≡ key_bytes }
-    requires known { Known kind }
-    ensures { key.new ≡ sets key.old 4 (front_bytes (op_of kind)) }
+    ensures { key.new ≡ sets key.old 4 (front_bytes (shaped (shape kind) x y)) }
 {
-    let x = kind.x as usize;
-    let y = kind.y as usize;
+    let x = x as usize;
+    let y = y as usize;
     let second = Term::BODY_AT + Term::NUMBER_BYTES;
-    match family(kind.number) {
-        Some(Indices::Indexed) => put_number_of::<{ Term::NUMBER_BYTES }>(key, Term::BODY_AT, x),
-        Some(Indices::TwiceIndexed) => {
+    match family(kind) {
+        Indices::Plain => {}
+        Indices::Indexed => put_number_of::<{ Term::NUMBER_BYTES }>(key, Term::BODY_AT, x),
+        Indices::TwiceIndexed => {
             put_number_of::<{ Term::NUMBER_BYTES }>(key, Term::BODY_AT, x);
             put_number_of::<{ Term::NUMBER_BYTES }>(key, second, y);
         }
-        Some(Indices::Valued) => {
+        Indices::Valued => {
             put_number_of::<{ Term::NUMBER_BYTES }>(key, Term::BODY_AT, x);
             put_number_of::<{ Term::VALUE_BYTES }>(key, second, y);
         }
-        _ => {}
     }
 }
 
-// Stores the record of a term, and returns its size.
-pub fn encode(kind: Kind, numbers: &[u16], key: &mut [u8]) -> usize
+// Stores the record of a term of a kind with the numbers x and y in it, and returns its size.
+pub fn encode(kind: Kind, x: u64, y: u64, numbers: &[u16], key: &mut [u8]) -> usize
     requires sized { length key.old ≡ key_bytes }
-    requires known { Known kind }
     requires few { length numbers.now ≤ max_arguments }
-    ensures { Encoded key.new (op_of kind) numbers.now result }
+    ensures { Encoded key.new (shaped (shape kind) x y) numbers.now result }
 {
-    let front = front_size(kind);
+    let front = kind.form().front;
     let size = Term::BODY_AT + front + Term::NUMBER_BYTES * numbers.len();
     put_number_of::<{ Term::NUMBER_BYTES }>(key, 0, size - Term::NUMBER_BYTES);
-    put_number_of::<{ Term::NUMBER_BYTES }>(key, Term::KIND_AT, kind.number as usize);
-    put_front(kind, key);
+    put_number_of::<{ Term::NUMBER_BYTES }>(key, Term::KIND_AT, u32::from(kind) as usize);
+    put_front(kind, x, y, key);
     let mut at = Term::BODY_AT + front;
     for &number in numbers {
         put_number_of::<{ Term::NUMBER_BYTES }>(key, at, usize::from(number));

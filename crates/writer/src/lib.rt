@@ -3,3 +3,4 @@
 
 mod encode;
 pub mod places;
+mod records;

@@ -7,16 +7,16 @@ ghost use Rattle.theory.proofs.Facts.{kept_facts};
 ghost use Rattle.text.specs.Writing.{Lone, kept, place_from, keep, put_term, put_step};
 ghost use Rattle.text.specs.Writing.{placed, placed_all};
 ghost use Rattle.text.proofs.Facts.{Clean-prop};
-ghost use Rattle.names.specs.Kinds.{op_of, Known};
+ghost use Rattle.names.specs.Kinds.{op_of};
 ghost use Rattle.writer.specs.Places.{Ready, Longer, Grows};
 
 use super::encode::{KEY_BYTES, STEP_BYTES, encode, store_step};
-use names::kinds::Kind;
+use super::records::Records;
+use names::kinds::Operator;
 use rows::FIRST_PLACE;
 use rows::layout::OFFSET_BYTES;
-use table::{Added, add_record, find_record};
+use table::{Added, Short, add_record, find_record};
 use terms::Term;
-use words::tokens::same;
 
 // The longest part of a job that rows can cover, in bytes: the offset in a row has three.
 const MAX_COVERED: usize = 1 << (8 * OFFSET_BYTES);
@@ -48,20 +48,11 @@ fn walk_records(job: &[u8], first: usize, wanted: &[u8]) -> Option<usize>
     requires { first ≤ max_terms number_bytes }
     ensures { result ≡ place_from first wanted.now (kept job.now) }
 {
-    let mut at: usize = 0;
-    let mut place = first;
-    while let Some(size) = Term::frame(job, at) {
-        let start = at;
-        at += size;
-        if Term::number(job, start + Term::KIND_AT) == Term::STEP_KIND {
-            continue;
-        }
-        if same(wanted, &job[start..at]) {
-            return Some(place);
-        }
-        place += 1;
-    }
-    None
+    let records = Records { rest: job };
+    let place = records
+        .filter(|record| Term::number(record, Term::KIND_AT) != Term::STEP_KIND)
+        .position(|record| wanted == record)?;
+    Some(first + place)
 }
 
 // Where the job stands with the term whose record is put at its end, up to `end`. It gets a row
@@ -82,7 +73,7 @@ fn cover(out: &[u8], work: &mut [u8], spot: Spot, end: usize) -> Spot
     if MAX_COVERED < end {
         return plain;
     }
-    let Some(added) = add_record::<{ Term::NUMBER_BYTES }, { Term::NUMBER_BYTES }>(
+    let Some(added) = add_record::<Short>(
         &out[..end],
         work,
         spot.rows,
@@ -127,7 +118,7 @@ impl<'a> Writer<'a> {
         ensures { result ≡ place_from first_terms wanted.now (kept (job_of self.now)) }
     {
         let spot = self.spot;
-        if let Some(place) = find_record::<{ Term::NUMBER_BYTES }, { Term::NUMBER_BYTES }>(
+        if let Some(place) = find_record::<Short>(
             &self.out[..spot.covered],
             self.work,
             spot.rows,
@@ -162,21 +153,22 @@ impl<'a> Writer<'a> {
         Some(spot.terms + FIRST_PLACE)
     }
 
-    // Puts a term of that kind with these arguments, unless an equal one is there, and returns its
-    // number; none where it does not fit.
-    pub fn put_term(&mut self, kind: Kind, numbers: &[u16]) -> Option<usize>
-        requires known { Known kind }
+    // Puts a term of that operator with these arguments, unless an equal one is there, and returns
+    // its number; none where it does not fit. `true` and `false` have no record: they are terms 0
+    // and 1.
+    pub fn put_term(&mut self, operator: Operator, numbers: &[u16]) -> Option<usize>
         requires few { length numbers.now ≤ max_arguments }
         ensures moved { Moved self.old self.new }
         ensures puts { told_put self.new result
-            ≡ put_term (room self.old) (op_of kind) (placed_all numbers.now (job_of self.old)) }
+            ≡ put_term (room self.old) (op_of operator) (placed_all numbers.now (job_of self.old)) }
     {
-        let number = kind.number as usize;
-        if number < FIRST_PLACE {
-            return Some(number);
-        }
+        let (kind, x, y) = match operator {
+            Operator::True => return Some(0),
+            Operator::False => return Some(1),
+            Operator::Of(kind, x, y) => (kind, x, y),
+        };
         let mut key = [0u8; KEY_BYTES];
-        let size = encode(kind, numbers, &mut key);
+        let size = encode(kind, x, y, numbers, &mut key);
         self.keep(&key[..size])
     }
 

@@ -1,25 +1,38 @@
+use borrow.Author.Rules.{rules}
+use borrow.Author.Tests.{tests}
+use mathlib.Core.Path.{ap, ◌∙◌}
 use native.Mathlib.Omega.{arith}
-use mathlib.Core.Path.{sym, ap, ◌∙◌}
-use Rattle.words.proofs.ReadLaws.{reads_none}
-use Rattle.names.specs.Lines.{lines_left}
+use Prim.Native.Nat.{◌<◌, ◌^◌}
+use lib.Dec.{eqb}
+use lib.ListN.{length}
+use Rattle.std.specs.Cmp.Lexicographic.{pointwise}
+use Rattle.std.proofs.lemmas.Iterator.Search.{find_from_yields_List}
+use Rattle.std.proofs.lemmas.Iterator.Consumers.{YieldsList-from_enumerate, YieldsList-at}
 use Rattle.text.specs.Convert.{lines}
-use Rattle.names.proofs.NameLaws.{no_name, some_declaration, naming_start, naming_end, naming_few, naming_found, naming_on, made_variable}
+use Rattle.names.proofs.LineLaws.{lines_few}
+use Rattle.names.specs.Kinds.{declarations, declared_in}
+use Rattle.names.specs.Lines.{lines_left}
+use Rattle.names.proofs.FindLaws.{YieldsList-from_declared, none_named, one_named}
 use Rattle.names.proofs.names.find_name.Goals as goal
 
-pub returns-then-not-is_symbol : goal.returns-then-not-is_symbol
-returns-then-not-is_symbol c = reads_none (no_name c.args.declarations.now c.args.word.now c.is_symbol.ensures c.if-not-is_symbol.true)
+pub find-requires-clause-can : goal.find-requires-clause-can
+find-requires-clause-can c =
+    let f = lines_few c.args.declarations.now in
+    let l : length (lines c.args.declarations.now) < 2 ^ 64 = omega (arith, f, c.well_formed) in
+    search rules
 
-pub loop-line-init : goal.loop-line-init
-loop-line-init c = naming_start c.args.declarations.now c.args.word.now (ap lines_left c.into_iter-line-iterator.ensures.into_iter_gives ∙ ap lines c.new-line-items.ensures)
-
-pub overflow_add-k : goal.overflow_add-k
-overflow_add-k c = omega (arith, naming_few c.loop-line.invariant c.in-Some.ensures.steps, c.well_formed)
-
-pub returns-then-same : goal.returns-then-same
-returns-then-same c = made_variable (naming_found c.loop-line.invariant c.in-Some.ensures.steps (some_declaration _ c.declared_by.ensures c.in-Some-declared_by.is) (sym c.same.ensures ∙ c.if-same.true)) c.variable.ensures
-
-pub loop-line-preserved : goal.loop-line-preserved
-loop-line-preserved c = naming_on c.loop-line.invariant c.in-Some.ensures.steps (some_declaration _ c.declared_by.ensures c.in-Some-declared_by.is) (sym c.same.ensures ∙ c.if-same.false)
+pub returns-in_err-k : goal.returns-in_err-k
+returns-in_err-k c =
+    let is = find_from_yields_List (λ p. pointwise eqb c.args.word.now p.1.name) c.find.new.self _ c.find.result c.find.ensures.ran
+    (YieldsList-from_enumerate (YieldsList-at c.enumerate.ensures.source (YieldsList-from_declared _ (λ f x r q k. search (rules, tests)) _)) c.enumerate.ensures.count)
+    (λ x b q k. search (rules, tests)) in
+    let same = ap (λ s. declarations (lines_left s)) c.filter_map-declared.ensures.source ∙ ap declared_in c.new.ensures in
+    rw c.from_residual.ensures (none_named c.args.word.now _ (declared_in c.args.declarations.now) c.find.result is same c.in_err-k.was)
 
 pub returns : goal.returns
-returns c = reads_none (naming_end c.loop-line.invariant c.in-None.ensures.steps.0)
+returns c =
+    let is = find_from_yields_List (λ p. pointwise eqb c.args.word.now p.1.name) c.find.new.self _ c.find.result c.find.ensures.ran
+    (YieldsList-from_enumerate (YieldsList-at c.enumerate.ensures.source (YieldsList-from_declared _ (λ f x r q k. search (rules, tests)) _)) c.enumerate.ensures.count)
+    (λ x b q k. search (rules, tests)) in
+    let same = ap (λ s. declarations (lines_left s)) c.filter_map-declared.ensures.source ∙ ap declared_in c.new.ensures in
+    one_named c.args.word.now _ (declared_in c.args.declarations.now) c.find.result is same c.in_ok-k.was c.variable.ensures

@@ -1,7 +1,7 @@
 use native.Mathlib.Omega.{arith}
 use mathlib.Core.Path.{sym, ap, ◌∙◌}
 use Rattle.std.specs.Prelude as rust
-use Rattle.words.proofs.ReadLaws.{fits_in, fits_not, told_none, read_none, read_some}
+use Rattle.words.proofs.ReadLaws.{fits_in, fits_not, told_none, told_some}
 use Rattle.names.proofs.MarkLaws.{rest_none, rest_some}
 use Rattle.writer.proofs.Moves.{moved_on}
 use Rattle.reader.proofs.ReaderLaws.{no_head, at_leaf}
@@ -42,29 +42,23 @@ read_arguments-returns-in_err-rest-clause-lists t c =
 pub read_arguments-returns-clause-lists : goal.read_arguments-returns-clause-lists
 read_arguments-returns-clause-lists t c = goes_out c.loop.invariant (rest_some _ c.right_after-2.ensures c.in_ok-rest.was)
 
-pub read_term-returns-in_err-kind-clause-reads : goal.read_term-returns-in_err-kind-clause-reads
-read_term-returns-in_err-kind-clause-reads t c = rw c.from_residual.ensures (sym (no_head _ _ _ _ _ (read_none c.begin.ensures c.in_err-kind.was)))
-
-pub read_term-finish_leaf-requires : goal.read_term-finish_leaf-requires
-read_term-finish_leaf-requires t c = c.begin.ensures.fits _ (c.in_ok-kind.was ∙ ap rust.Some c.in-Leaf.is)
+pub read_term-returns-in_err-operator-clause-reads : goal.read_term-returns-in_err-operator-clause-reads
+read_term-returns-in_err-operator-clause-reads t c = rw c.from_residual.ensures (sym (no_head _ _ _ _ _ (told_none _ _ c.begin.ensures c.in_err-operator.was)))
 
 pub read_term-returns-then-nesting-eq0-clause-reads : goal.read_term-returns-then-nesting-eq0-clause-reads
-read_term-returns-then-nesting-eq0-clause-reads t c = sym (at_zero _ _ _ _ _ _ _ c.if-nesting-eq0.true (read_some c.begin.ensures (c.in_ok-kind.was ∙ ap rust.Some c.in-Branch.is)))
+read_term-returns-then-nesting-eq0-clause-reads t c = sym (at_zero _ _ _ _ _ _ _ c.if-nesting-eq0.true (told_some _ _ c.begin.ensures (c.in_ok-operator.was ∙ ap rust.Some c.in-Branch.is)))
 
 pub read_term-returns-in_err-list-in-Branch-clause-reads : goal.read_term-returns-in_err-list-in-Branch-clause-reads
 read_term-returns-in_err-list-in-Branch-clause-reads t c =
     rw c.from_residual-in_err-list-in-Branch.ensures
-    (sym (at_none _ _ _ _ _ _ _ c.if-nesting-eq0.false (read_some c.begin.ensures (c.in_ok-kind.was ∙ ap rust.Some c.in-Branch.is)) (told_none _ _ c.read_arguments.ensures.lists c.in_err-list-in-Branch.was)))
-
-pub read_term-finish-requires : goal.read_term-finish-requires
-read_term-finish-requires t c = c.begin.ensures.fits _ (c.in_ok-kind.was ∙ ap rust.Some c.in-Branch.is)
+    (sym (at_none _ _ _ _ _ _ _ c.if-nesting-eq0.false (told_some _ _ c.begin.ensures (c.in_ok-operator.was ∙ ap rust.Some c.in-Branch.is)) (told_none _ _ c.read_arguments.ensures.lists c.in_err-list-in-Branch.was)))
 
 pub read_term-returns-in-Leaf-clause-reads : goal.read_term-returns-in-Leaf-clause-reads
-read_term-returns-in-Leaf-clause-reads t c = c.finish_leaf.ensures.reads ∙ sym (at_leaf _ _ _ _ _ _ _ (read_some c.begin.ensures (c.in_ok-kind.was ∙ ap rust.Some c.in-Leaf.is)))
+read_term-returns-in-Leaf-clause-reads t c = c.finish_leaf.ensures.reads ∙ sym (at_leaf _ _ _ _ _ _ _ (told_some _ _ c.begin.ensures (c.in_ok-operator.was ∙ ap rust.Some c.in-Leaf.is)))
 
 pub read_term-returns-in_ok-list-in-Branch : goal.read_term-returns-in_ok-list-in-Branch
 read_term-returns-in_ok-list-in-Branch t c = record {
   moved = moved_on c.read_arguments.ensures.moved c.finish.ensures.moved;
-  reads = branch_reads _ _ _ _ _ c.args.writer.now c.read_arguments.new.writer c.finish.new.writer c.finish.result c.if-nesting-eq0.false (read_some c.begin.ensures (c.in_ok-kind.was ∙ ap rust.Some c.in-Branch.is))
+  reads = branch_reads _ _ _ _ _ c.args.writer.now c.read_arguments.new.writer c.finish.new.writer c.finish.result c.if-nesting-eq0.false (told_some _ _ c.begin.ensures (c.in_ok-operator.was ∙ ap rust.Some c.in-Branch.is))
       c.read_arguments.ensures.moved c.read_arguments.ensures.lists c.in_ok-list-in-Branch.was c.finish.ensures.reads;
 }

@@ -3,4 +3,4 @@ use Rattle.words.proofs.tables.rule_named.Goals as goal
 
 pub returns : goal.returns
 unfolding rule_number
-returns c = c.number_of.ensures.is
+returns c = c.beside.ensures.is

@@ -1,22 +1,41 @@
-use mathlib.Core.Path.{sym, ◌∙◌}
+use borrow.Author.Rules.{rules}
+use borrow.Author.Tests.{tests}
+use mathlib.Core.Path.{refl, ap}
+use mathlib.Core.Logic.{inl}
 use native.Mathlib.Omega.{arith}
-use Rattle.writer.proofs.PlaceLaws.{walk_fits, walk_step, walk_on}
+use lib.Dec.{eqb}
+use lib.ListN.{length}
+use Rattle.std.specs.Cmp.Lexicographic.{pointwise}
+use Rattle.std.proofs.lemmas.Iterator.Search.{position_from_yields_List}
+use Rattle.std.proofs.lemmas.Iterator.Consumers.{YieldsList-from_filter, YieldsList-from_first, YieldsList-at}
+use Rattle.theory.specs.Record.{records_of}
+use Rattle.writer.specs.Records.{records_left}
+use Rattle.writer.proofs.RecordLaws.{records_few, bound_of, is_term, none_placed, one_placed}
 use Rattle.writer.proofs.places.walk_records.Goals as goal
 
-pub overflow_add-at : goal.overflow_add-at
-overflow_add-at c = omega (arith, walk_fits c.loop-size.invariant c.frame.ensures c.in-Some.is)
+pub position-requires-clause-fits : goal.position-requires-clause-fits
+position-requires-clause-fits c =
+    let f = records_few c.args.job.now in
+    let e = ap (λ s. length (records_left s)) c.filter.ensures.source in
+    inl (omega (arith, f, e, c.well_formed))
 
-pub loop-size-smaller-then-number-eq-STEP_KIND : goal.loop-size-smaller-then-number-eq-STEP_KIND
-loop-size-smaller-then-number-eq-STEP_KIND c = omega (arith, walk_fits c.loop-size.invariant c.frame.ensures c.in-Some.is)
+pub returns-in_err-place : goal.returns-in_err-place
+returns-in_err-place c =
+    let is = position_from_yields_List (pointwise eqb c.args.wanted.now) c.position.new.self _ c.position.result c.position.ensures.ran
+    (YieldsList-from_filter _ is_term (YieldsList-at c.filter.ensures.source (YieldsList-from_first (λ x. x.now) records_left (records_of c.args.job.now) refl)) c.filter.ensures.closure (λ x b q k. search (rules, tests)))
+    (λ x b q k. search (rules, tests)) in
+    rw c.from_residual.ensures (none_placed c.args.first c.args.wanted.now c.args.job.now c.position.result is c.in_err-place.was)
 
-pub loop-size-preserved-then-number-eq-STEP_KIND : goal.loop-size-preserved-then-number-eq-STEP_KIND
-loop-size-preserved-then-number-eq-STEP_KIND c = walk_step c.loop-size.invariant c.frame.ensures c.in-Some.is (sym c.number.ensures.value ∙ c.if-number-eq-STEP_KIND.true)
+pub overflow_add-result : goal.overflow_add-result
+overflow_add-result c =
+    let f = records_few c.args.job.now in
+    let e = ap (λ s. length (records_left s)) c.filter.ensures.source in
+    let b = bound_of c.position.result c.position.ensures.bound c.in_ok-place.was in
+    omega (arith, f, e, b, c.requires, c.well_formed)
 
-pub slice_bounds-same-end : goal.slice_bounds-same-end
-slice_bounds-same-end c = omega (arith, walk_fits c.loop-size.invariant c.frame.ensures c.in-Some.is)
-
-pub loop-size-smaller : goal.loop-size-smaller
-loop-size-smaller c = omega (arith, walk_fits c.loop-size.invariant c.frame.ensures c.in-Some.is)
-
-pub loop-size-preserved : goal.loop-size-preserved
-loop-size-preserved c = walk_on c.loop-size.invariant c.frame.ensures c.in-Some.is (λ q. c.if-number-eq-STEP_KIND.false (c.number.ensures.value ∙ q)) (sym c.same.ensures ∙ c.if-same.false)
+pub returns : goal.returns
+returns c =
+    let is = position_from_yields_List (pointwise eqb c.args.wanted.now) c.position.new.self _ c.position.result c.position.ensures.ran
+    (YieldsList-from_filter _ is_term (YieldsList-at c.filter.ensures.source (YieldsList-from_first (λ x. x.now) records_left (records_of c.args.job.now) refl)) c.filter.ensures.closure (λ x b q k. search (rules, tests)))
+    (λ x b q k. search (rules, tests)) in
+    one_placed c.args.first c.args.wanted.now c.args.job.now c.position.result is c.in_ok-place.was

@@ -1,9 +1,8 @@
-use mathlib.Core.Path.{◌∙◌}
-use Prim.Native.Nat.{◌≤◌}
-use native.Mathlib.Omega.{arith}
-use Rattle.theory.specs.Limit.{first_terms}
-use Rattle.theory.specs.Kind.{kind}
+use mathlib.Core.Path.{sym, ap, ◌∙◌}
 use Rattle.names.specs.Kinds.{op_of}
+use Rattle.text.specs.Writing.{placed_all, put_term}
+use Rattle.writer.specs.Written.{job_of, room}
+use Rattle.writer.proofs.PlaceLaws.{kind_high}
 use Rattle.writer.proofs.PutLaws.{term_lone, put_record}
 use Rattle.writer.proofs.places.Writer.put_term.Goals as goal
 
@@ -12,5 +11,5 @@ keep-requires-clause-lone c = term_lone _ _ c.requires.few c.encode-size.ensures
 
 pub returns-clause-puts : goal.returns-clause-puts
 returns-clause-puts c =
-    let high : first_terms ≤ kind (op_of c.args.kind) = omega (arith, c.requires.known.same) in
-    c.keep.ensures.puts ∙ put_record _ _ _ _ high c.type_inv.numbers c.encode-size.ensures.is
+    c.keep.ensures.puts ∙ put_record _ _ _ _ (kind_high c.in-Of.kind c.in-Of.x c.in-Of.y) c.type_inv.numbers c.encode-size.ensures.is
+    ∙ sym (ap (λ o. put_term (room c.args.self.now) (op_of o) (placed_all c.args.numbers.now (job_of c.args.self.now))) c.in-Of.is)
