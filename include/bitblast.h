@@ -11,7 +11,7 @@
  * own: calls on different memories may run at the same time.
  *
  * Stack: BB_STACK_BYTES are enough for any job and any text. Most of it is used by a text whose terms are nested 200 deep (some
- * 202 KiB), and of jobs by a division of width 64 (some 164 KiB), for which a default thread of some C libraries has no room.
+ * 205 KiB), and of jobs by a division of width 64 (some 164 KiB), for which a default thread of some C libraries has no room.
  *
  * Time: every call ends, but nothing interrupts it. A job may repeat its longest step, a division of width 64, in eight bytes for
  * each answer that has room; such a step took up to twelve milliseconds (docs/PERFORMANCE.md). So the time is bounded by the
