@@ -1,4 +1,3 @@
-pub mod CellLaws
 pub mod PlaceLaws
 pub mod ListLaws
 pub mod TermLaws

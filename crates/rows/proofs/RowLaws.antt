@@ -5,18 +5,18 @@ use mathlib.Core.Logic.{◌⊎◌, inl, inr, ⊎_elim}
 use mathlib.Core.List.{[], ◌∷◌, ◌++◌, append_assoc, append-nil}
 use borrow.Rule.Slice.PartMut.{put_mid, Post-is}
 use Prim.Native.Nat.{ℕ, zero, suc, ◌+◌, ◌*◌, ◌-◌, ◌/◌, ◌%◌, ◌^◌, ◌≤◌, ◌<◌}
-use native.Mathlib.Nat.{not-suc-le-zero, add-zero, mul-le-mul_right, pow-le-pow_right, pow-succ'}
-use native.Mathlib.Decide.{dec_lt, dec_le, ℕ_discrete}
+use native.Mathlib.Nat.{not-suc-le-zero, add-zero, mul-le-mul_right, pow-le-pow_right}
+use native.Mathlib.Decide.{dec_lt, ℕ_discrete}
 use native.Mathlib.Numerals.{add-one}
 use native.Mathlib.Omega.{arith}
 use lib.Dec.{eqb}
 use lib.ListN.{length-append, length-take, length-drop, get_or-append, drop_of_length-le, drop, get_or, length, set, take}
-use lib.Seq.{length-take-le, sets, drop-cons, get_or-take, get_or-drop, get_or_at, get_or-set_other, ext_get_or, length-sets, sets-eq, take_all, take_at, take-nil, drop_at, drop-drop, take-append-le}
+use lib.Seq.{length-take-le, sets, drop-cons, get_or-drop, get_or_at, get_or-set_other, length-sets, sets-eq, take_all, take_at, take-nil, drop_at, drop-drop, take-append-le}
 use borrow.Author.Tests.{eq-eqb, eqb-true, ne_eqb}
 use borrow.Author.Count.{below_more}
-use Rattle.theory.specs.Record.{AllBytes, Bytes, extent, little_endian, bytes_of, number_length}
+use Rattle.theory.specs.Record.{Bytes, extent, little_endian, bytes_of, number_length}
 use Rattle.terms.specs.Framing.{record_at}
-use Rattle.rows.specs.Layout.{Bounded, link_at, link_bytes, link_size, measure_at, missing, number_at, offset_at, offset_bytes, row_size}
+use Rattle.rows.specs.Layout.{link_at, link_bytes, link_size, measure_at, missing, number_at, offset_at, offset_bytes, row_size}
 use Rattle.rows.specs.Rows.{Rows, column, kept_as, place_from, row_bytes, row_record, stored_link, stored_row}
 use Rattle.theory.specs.Term.{same_numbers}
 use Rattle.theory.specs.Limit.{first_terms}
@@ -48,69 +48,6 @@ part_whole s at len w = w ∙ ap (λ (k : ℕ). take k (drop at s)) (let m : at 
 pub part_length : {whole : Bytes} (s : Bytes) (at len : ℕ) → whole ≡ take (at + len - at) (drop at s) → at + len ≤ length s → length whole ≡ len
 part_length s at len w h = rw (part_whole s at len w) (length-take-le len (drop at s) (omega (arith, length-drop at s)))
 
--- from the highest byte down: x is the number in the bytes passed, and `rest` are those below them
-pub record Reading (whole rest : Bytes) (x : ℕ) : Type 0 where
-  pub fewer : length rest ≤ length whole
-  pub sum : little_endian whole ≡ little_endian rest + 256 ^ length rest * x
-  pub bound : x < 256 ^ (length whole - length rest)
-  pub bytes : AllBytes rest
-
-last_byte : (left : Bytes) (b : ℕ) → AllBytes (left ++ (b ∷ [])) → AllBytes left × (b < 256)
-last_byte [] b h = (tt, h.0)
-last_byte (a ∷ left) b h = let r = last_byte left b h.1 in ((h.0, r.0), r.1)
-
-highest : (rest : Bytes) (b : ℕ) → little_endian (rest ++ (b ∷ [])) ≡ little_endian rest + 256 ^ length rest * b
-highest [] b = omega arith
-highest (a ∷ rest) b = let e : 256 ^ length (a ∷ rest) * b ≡ 256 * (256 ^ length rest * b) = rw (pow-succ') (omega arith) in omega (arith, highest rest b, e)
-
-pub reading_start : {whole : Bytes} → AllBytes whole → Reading whole whole 0
-reading_start {whole} h = record {
-  bytes = h;
-  fewer = omega arith;
-  sum = omega arith;
-  bound = let e : length whole - length whole ≡ 0 = omega arith in rw e (omega arith);
-}
-
-shorter : {rest : Bytes} (left : Bytes) (b : ℕ) → rest ≡ left ++ (b ∷ []) → length rest ≡ suc (length left)
-shorter left b e = rw e (length-append left (b ∷ []) ∙ add-one (length left))
-
--- there is room for one byte more
-pub reading_small : {whole rest : Bytes} {x : ℕ} (left : Bytes) (b : ℕ) → Reading whole rest x → rest ≡ left ++ (b ∷ []) → length whole ≤ 4 → 256 * x + b < 4294967296
-reading_small {whole} {rest} left b r e h =
-    let l : length whole - length rest ≤ 3 = omega (arith, shorter left b e) in
-    let q : 256 ^ (length whole - length rest) ≤ 256 ^ 3 = pow-le-pow_right (omega arith) l in
-    let h : b < 256 = (last_byte left b (subst AllBytes e r.bytes)).1 in
-    omega (arith, r.bound)
-
-pub reading_turn : {whole rest left : Bytes} {x : ℕ} (b : ℕ) → Reading whole rest x → rest ≡ left ++ (b ∷ []) → Reading whole left (256 * x + b)
-reading_turn {whole} {rest} {left} {x} b r e =
-    let l = last_byte left b (subst AllBytes e r.bytes) in
-    let h : b < 256 = l.1 in
-    let s = shorter left b e in
-    let f = r.fewer in
-    let m : length whole - length left ≡ suc (length whole - length rest) = omega arith in
-    let t : 256 ^ length rest ≡ 256 * 256 ^ length left = rw (s, pow-succ') refl in
-    let u : 256 ^ length rest * x ≡ 256 ^ length left * (256 * x) = rw t (omega arith) in
-    record {
-      bytes = l.0;
-      fewer = omega arith;
-      sum = r.sum ∙ ap (λ (bs : Bytes). little_endian bs + 256 ^ length rest * x) e ∙ (omega (arith, highest left b, u));
-      bound = rw (m, pow-succ') (omega (arith, r.bound));
-    }
-
-none_left : (rest : Bytes) → length rest ≡ 0 → rest ≡ []
-none_left [] e = refl
-none_left (b ∷ rest) e = absurd (omega (arith, e))
-
-pub reading_end : {whole rest : Bytes} {x : ℕ} (s : Bytes) (at len : ℕ) → Reading whole rest x → length rest ≡ 0 → whole ≡ take (at + len - at) (drop at s) → at + len ≤ length s
-    → Bounded x (number_at s at len) (256 ^ len)
-reading_end {whole} {rest} {x} s at len r e w h =
-    let l = part_length s at len w h in
-    let n : rest ≡ [] = none_left rest e in
-    let q : little_endian whole ≡ x = r.sum ∙ rw n (omega arith) in
-    let d : length whole - length rest ≡ len = omega (arith, l, e) in
-    record { value = sym q ∙ ap little_endian (part_whole s at len w); below = rw d at r.bound }
-
 -- the bytes of a number are stored one by one
 pub put_turn : (s : Bytes) (len i rest : ℕ) → i < len
     → sets s i (bytes_of (len - i) rest) ≡ sets (set s i (rest % 256)) (i + 1) (bytes_of (len - (i + 1)) (rest / 256))
@@ -123,17 +60,22 @@ put_turn s len i rest h =
 pub put_done : (s : Bytes) (len i rest : ℕ) → len ≤ i → sets s i (bytes_of (len - i) rest) ≡ s
 put_done s len i rest h = let e : len - i ≡ 0 = omega arith in rw e
 
--- stores into a part of s are stores into s
+-- a part of s that is written is stored into s
+pub part_put : (s bs : Bytes) (at len : ℕ) → at + len ≤ length s → length bs ≡ len → put_mid at (at + len - at) s bs ≡ sets s at bs
+part_put s bs at len h e =
+    let f : at + len ≡ at + length bs = omega (arith, e) in
+    ap (λ (y : Bytes). take at s ++ (bs ++ y)) (Post-is at (at + len) s (omega arith) ∙ ap (λ (j : ℕ). drop j s) f)
+    ∙ sym (append_assoc (take at s) bs (drop (at + length bs) s)) ∙ sym (sets-eq bs s at (omega (arith, e)))
+
+-- and so are stores into it
 pub part_stored : (s bs : Bytes) (at len : ℕ) → at + len ≤ length s → length bs ≡ len → put_mid at (at + len - at) s (sets (take (at + len - at) (drop at s)) 0 bs) ≡ sets s at bs
 part_stored s bs at len h e =
     let m : at + len - at ≡ len = omega arith in
     let part : Bytes = take (at + len - at) (drop at s) in
     let l : length part ≡ length bs = rw m (length-take-le len (drop at s) (omega (arith, length-drop at s))) ∙ sym e in
-    let w : sets part 0 bs ≡ bs
-    = sets-eq bs part 0 (omega (arith, l)) ∙ ap (λ (xs : Bytes). bs ++ xs) (drop_of_length-le part {i = 0 + length bs} (omega (arith, l))) ∙ append-nil bs in
-    let f : at + len ≡ at + length bs = omega (arith, e) in
-    ap₂ (λ (x y : Bytes). take at s ++ (x ++ y)) w (Post-is at (at + len) s (omega arith) ∙ ap (λ (j : ℕ). drop j s) f)
-    ∙ sym (append_assoc (take at s) bs (drop (at + length bs) s)) ∙ sym (sets-eq bs s at (omega (arith, e)))
+    ap (put_mid at (at + len - at) s)
+    (sets-eq bs part 0 (omega (arith, l)) ∙ ap (λ (xs : Bytes). bs ++ xs) (drop_of_length-le part {i = 0 + length bs} (omega (arith, l))) ∙ append-nil bs)
+    ∙ part_put s bs at len h e
 
 -- one run of stores after the other
 pub sets_append : (s : Bytes) (i : ℕ) (a b : Bytes) → sets s i (a ++ b) ≡ sets (sets s i a) (i + length a) b
@@ -251,26 +193,8 @@ module _ (job x : Bytes) (at : ℕ) (inside : at + extent (drop at job) ≤ leng
   pub length_record : length (record_at job at) ≡ extent (drop at job)
   length_record = simp (length-take, length-drop) (omega arith)
 
-  pub record_byte : (k : ℕ) → k < extent (drop at job) → get_or (record_at job at) k 0 ≡ get_or job (at + k) 0
-  record_byte k h = rw (get_or-take, get_or-drop)
-
-  pub record_equal : length x ≡ extent (drop at job) → ((k : ℕ) → k < length x → get_or job (at + k) 0 ≡ get_or x k 0) → x ≡ record_at job at
-  record_equal l h =
-      ext_get_or 0 x (record_at job at) (l ∙ sym length_record)
-      (λ k b. sym (h k b) ∙ sym (record_byte k (omega arith)))
-
   pub record_long : (length x ≡ extent (drop at job) → ⊥) → x ≡ record_at job at → ⊥
   record_long h e = h (ap length e ∙ length_record)
-
-  pub record_other : (k : ℕ) → k < length x → length x ≡ extent (drop at job) → (get_or job (at + k) 0 ≡ get_or x k 0 → ⊥) → x ≡ record_at job at → ⊥
-  record_other k b l h e = h (sym (record_byte k (omega arith)) ∙ sym (ap (λ (y : Bytes). get_or y k 0) e))
-
--- ---- the walk over the bytes, from the last
-
--- from byte m on, the bytes at `at` of the job and x agree
-pub record AgreeFrom (job x : Bytes) (at m : ℕ) : Type 0 where
-  pub low : m ≤ length x
-  pub bytes : (k : ℕ) → m ≤ k → k < length x → get_or job (at + k) 0 ≡ get_or x k 0
 
 -- ---- a run of stores
 

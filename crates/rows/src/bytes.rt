@@ -10,11 +10,9 @@ pub fn number_of<const N: usize>(s: &[u8], at: usize) -> usize
     requires short { N ≤ 4 }
     ensures { Bounded result (number_at s.now at N) (256 ^ N) }
 {
-    let mut x: usize = 0;
-    for &byte in s[at..at + N].iter().rev() {
-        x = 256 * x + usize::from(byte);
-    }
-    x
+    let mut bytes = [0; 8];
+    bytes[..N].copy_from_slice(&s[at..at + N]);
+    usize::from_le_bytes(bytes)
 }
 
 // The number at a place, of up to four bytes.

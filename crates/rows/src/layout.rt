@@ -2,7 +2,7 @@
 // are Term's.
 
 // What stands for no place.
-pub const MISSING: u32 = 4294967295;
+pub const MISSING: u32 = u32::MAX;
 
 // The place of row 0: `true` and `false` come before it.
 pub const FIRST_PLACE: usize = 2;

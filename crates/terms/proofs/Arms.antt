@@ -70,16 +70,6 @@ module _ {c : ℕ} {job : Bytes} {s : Shape} {body size before : ℕ} (h : Fits 
       ap (λ (m : ℕ). term (make s (drop body job)) (words c n (drop m (drop body job)))) h.front_is
       ∙ said n (subst (Sized c (front s)) len p.0) (ap (λ (m : ℕ). (m - front s) / c) (sym len) ∙ t)
 
-  -- the front lies in the job
-  pub front_inside : body + before ≤ length job
-  front_inside =
-      let b = part job body size in
-      let len : length b ≡ size = length_part job body size h.end in
-      let p = (fits_sized c (front s) (takes (arity (make s b))) b h.fit).0.long in
-      let f = h.front_is in
-      let l = h.end in
-      omega arith
-
 -- a kind with a list of arguments: it lies in the job
 pub many_there : {c : ℕ} {job : Bytes} {body size before : ℕ} (o : Op) → Fits c job (plain o) body size before → arity o ≡ many
     → {list : Args} → list ≡ record { at = body; count = size / c; bytes = c }
@@ -149,9 +139,6 @@ module _ {c : ℕ} {job : Bytes} {body size before : ℕ} (o : Op) (h : Fits c j
     plain_three a r = ap (term o) (sym (arg_3 h p q r)) ∙ exactly_there h 3 (λ b. a)
 
 module _ {c : ℕ} {job : Bytes} {body size before : ℕ} (o : ℕ → Op) (h : Fits c job (indexed o) body size before) {i : ℕ} (p : i ≡ index_at job body 0) where
-  pub indexed_none : ((i : ℕ) → arity (o i) ≡ exactly 0) → term (o i) [] ≡ made c (indexed o) (part job body size)
-  indexed_none a = ap (λ (n : ℕ). term (o n) []) (p ∙ index_first job body) ∙ exactly_there h 0 (λ b. a (word b))
-
   pub indexed_one : ((i : ℕ) → arity (o i) ≡ exactly 1) → {x : ℕ} → x ≡ argument_in c job (body + before) 0
       → term (o i) (x ∷ []) ≡ made c (indexed o) (part job body size)
   indexed_one a q = ap₂ (λ (n : ℕ) (ks : List ℕ). term (o n) ks) (p ∙ index_first job body) (sym (arg_1 h q)) ∙ exactly_there h 1 (λ b. a (word b))

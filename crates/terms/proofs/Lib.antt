@@ -1,3 +1,4 @@
+pub mod LittleEndian
 pub mod Numbers
 pub mod Parts
 pub mod Forms

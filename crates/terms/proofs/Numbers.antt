@@ -1,9 +1,9 @@
--- Bytes, and numbers in bytes: the loop that sums the bytes of a number from the highest down.
+-- Bytes, and numbers in a few of them.
 use mathlib.Core.Path.{◌≡◌, refl, sym, ap, ap₂, ◌∙◌}
 use mathlib.Core.Bool.{Bool, true, false, cond}
 use mathlib.Core.List.{[], ◌∷◌}
-use Prim.Native.Nat.{ℕ, suc, ◌+◌, ◌-◌, ◌*◌, ◌^◌, ◌<◌, ◌≤◌}
-use native.Mathlib.Nat.{add-zero, pow-succ', pow-le-pow_right}
+use Prim.Native.Nat.{ℕ, suc, ◌+◌, ◌*◌, ◌^◌, ◌<◌, ◌≤◌}
+use native.Mathlib.Nat.{add-zero, pow-le-pow_right}
 use native.Mathlib.Omega.{arith}
 use mir.Syntax.{w8}
 use mir.Val.{Fits}
@@ -28,33 +28,6 @@ all_bytes (b ∷ bs) f = ((f 0).fits, all_bytes bs (λ i. f (suc i)))
 digit : (m : ℕ) (bs : Bytes) → little_endian (take (suc m) bs) ≡ get_or bs 0 0 + 256 * little_endian (take m (drop 1 bs))
 digit m [] = rw take-nil
 digit m (b ∷ bs) = refl
-
--- x is the number in the bytes i to n - 1
-pub record Summing (bs : Bytes) (n x i : ℕ) : Type 0 where
-  pub passed : i ≤ n
-  pub sum : x ≡ little_endian (take (n - i) (drop i bs))
-  pub bound : x < 256 ^ (n - i)
-
-module _ {bs : Bytes} {n : ℕ} where
-  pub sum_turn : {x i b : ℕ} → Summing bs n x i → 0 < i → b ≡ get_or bs (i - 1) 0 → b < 256 → Summing bs n (256 * x + b) (i - 1)
-  sum_turn {x} {i} {b} s h e l =
-      let p = s.passed in
-      let m : n - (i - 1) ≡ suc (n - i) = omega arith in
-      let j : i - 1 + 1 ≡ i = omega arith in
-      let z : i - 1 + 0 ≡ i - 1 = omega arith in
-      record {
-        passed = omega arith;
-        sum = rw (m, digit (n - i) (drop (i - 1) bs), get_or-drop (i - 1) bs 0 0, z, drop-drop 1 (i - 1) bs, j, ← e, ← s.sum) (omega arith);
-        bound = rw (m, pow-succ') (omega (arith, s.bound));
-      }
-
-  -- there is room for one byte more
-  pub sum_small : {x i : ℕ} → Summing bs n x i → n ≤ 8 → 0 < i → x < 72057594037927936
-  sum_small {x} {i} s h k =
-      let p = s.passed in
-      let l : n - i ≤ 7 = omega arith in
-      let q : 256 ^ (n - i) ≤ 256 ^ 7 = pow-le-pow_right (omega arith) l in
-      omega (arith, s.bound)
 
 -- ---- a number of few bytes, byte by byte
 byte_of : (s : Bytes) (at k : ℕ) → get_or (drop k (drop at s)) 0 0 ≡ get_or s (at + k) 0

@@ -1,5 +1,5 @@
 // The numbers in a job's bytes, and where a record ends.
-ghost use Rattle.std.specs.Prelude.{◌≡◌, ◌^◌, ◌<◌, ◌≤◌, take, drop, get_or};
+ghost use Rattle.std.specs.Prelude.{◌≡◌, ◌^◌, ◌<◌, ◌≤◌, take, drop};
 ghost use Rattle.theory.specs.Limit.{number_bytes, long_bytes, value_bytes, max_terms};
 ghost use Rattle.theory.specs.Record.{little_endian, word, number_length};
 ghost use Rattle.terms.specs.Framing.{frame_of};
@@ -7,28 +7,17 @@ ghost use Rattle.terms.specs.Framing.{frame_of};
 use super::Term;
 
 impl Term {
-    // Byte i after the place `at`, or 0 past the end.
-    pub(crate) fn byte(s: &[u8], at: usize, i: usize) -> u64
-        ensures value { result ≡ get_or (drop at s.now) i 0 }
-        ensures bound { result < 256 }
-    {
-        if s.len() <= at || s.len() - at <= i {
-            return 0;
-        }
-        u64::from(s[at + i])
-    }
-
-    // The number in the n bytes from `at` on, lowest byte first.
-    pub(crate) fn bytes(s: &[u8], at: usize, n: usize) -> u64
+    // The number in the n bytes from `at` on, lowest byte first. A byte past the end is 0.
+    fn bytes(s: &[u8], at: usize, n: usize) -> u64
         requires { n ≤ 8 }
         ensures value { result ≡ little_endian (take n (drop at s.now)) }
         ensures bound { result < 256 ^ n }
     {
-        let mut x: u64 = 0;
-        for i in (0..n).rev() {
-            x = 256 * x + Term::byte(s, at, i);
-        }
-        x
+        let rest = &s[at.min(s.len())..];
+        let there = n.min(rest.len());
+        let mut bytes = [0; 8];
+        bytes[..there].copy_from_slice(&rest[..there]);
+        u64::from_le_bytes(bytes)
     }
 
     // The number at `at`.
@@ -36,12 +25,11 @@ impl Term {
         ensures value { result ≡ word (drop at s.now) }
         ensures bound { result < 256 ^ number_bytes }
     {
-        // Two bytes that are there are read at once, since every record is read by this; the others
-        // one by one.
+        // Two bytes that are there are read at once, since every record is read by this.
         if s.len() < Term::NUMBER_BYTES || s.len() - Term::NUMBER_BYTES < at {
             return Term::bytes(s, at, Term::NUMBER_BYTES) as u32;
         }
-        (u64::from(s[at]) + 256 * u64::from(s[at + 1])) as u32
+        u32::from(u16::from_le_bytes([s[at], s[at + 1]]))
     }
 
     // The term's number at `at`, of so many bytes.
@@ -52,7 +40,11 @@ impl Term {
         if bytes == Term::NUMBER_BYTES {
             return Term::number(s, at);
         }
-        Term::bytes(s, at, bytes) as u32
+        // Four bytes that are there are read at once: an argument's in a long job.
+        match s[at.min(s.len())..].first_chunk() {
+            Some(&four) if bytes == Term::LONG_BYTES => u32::from_le_bytes(four),
+            _ => Term::bytes(s, at, bytes) as u32,
+        }
     }
 
     // The bytes of a term's number in a job: four where it begins with 02 00 67 00, the record of
@@ -62,7 +54,7 @@ impl Term {
         ensures { result ≡ number_length job.now }
     {
         let is_long = 2 * Term::NUMBER_BYTES <= job.len()
-            && Term::number(job, 0) == 2
+            && Term::number(job, 0) as usize == Term::NUMBER_BYTES
             && Term::number(job, Term::NUMBER_BYTES) == u32::from(Term::LONG_KIND);
         if is_long {
             Term::LONG_BYTES
@@ -86,7 +78,10 @@ impl Term {
     pub fn value(s: &[u8], at: usize) -> u64
         ensures { result ≡ little_endian (take value_bytes (drop at s.now)) }
     {
-        Term::bytes(s, at, Term::VALUE_BYTES)
+        match s[at.min(s.len())..].first_chunk() {
+            Some(&bytes) => u64::from_le_bytes(bytes),
+            None => Term::bytes(s, at, Term::VALUE_BYTES),
+        }
     }
 
     // The bytes of the whole record at the place `at` of a job, if one stands there.

@@ -1,33 +1,21 @@
--- from the highest byte down, x is the number in the bytes passed
-use mathlib.Core.Path.{◌≡◌, sym, subst}
+-- the part that is read is stored in eight zeros
+use mathlib.Core.Path.{◌≡◌, refl, ap, ◌∙◌}
 use native.Mathlib.Omega.{arith}
-use Prim.Native.Nat.{◌+◌, ◌-◌}
-use lib.ListN.{take, drop, length}
-use Rattle.theory.specs.Record.{AllBytes}
-use Rattle.theory.proofs.Bytes.{take_bytes, drop_bytes}
+use lib.ListN.{take, drop}
+use Rattle.theory.specs.Record.{little_endian}
+use Rattle.theory.proofs.Bytes.{drop_bytes}
 use Rattle.terms.proofs.Numbers.{all_bytes}
-use Rattle.rows.proofs.RowLaws.{part_length, reading_start, reading_turn, reading_small, reading_end}
+use Rattle.terms.proofs.LittleEndian.{below, padded}
+use Rattle.rows.proofs.RowLaws.{part_length, part_whole}
 use Rattle.rows.proofs.bytes.number_of.Goals as goal
-
-pub loop-byte-init : goal.loop-byte-init
-loop-byte-init g c =
-    let e : c.into_iter-byte-iterator.result.iter.rest.now ≡ take (c.args.at + g.row.N - c.args.at) (drop c.args.at c.args.s.now) = rw (c.into_iter-byte-iterator.ensures.into_iter_gives, c.rev-byte-items.ensures.source) c.iter.ensures.rest in
-    reading_start (subst AllBytes (sym e) (take_bytes _ _ (drop_bytes _ _ (all_bytes c.args.s.now c.type_inv.s))))
-
-pub overflow_mul-x : goal.overflow_mul-x
-overflow_mul-x g c =
-    let e : c.into_iter-byte-iterator.result.iter.rest.now ≡ take (c.args.at + g.row.N - c.args.at) (drop c.args.at c.args.s.now) = rw (c.into_iter-byte-iterator.ensures.into_iter_gives, c.rev-byte-items.ensures.source) c.iter.ensures.rest in
-    omega (arith, reading_small _ _ c.loop-byte.invariant c.in-Some.ensures.steps (omega (arith, part_length c.args.s.now c.args.at g.row.N e c.requires.inside)))
-
-pub overflow_add-x : goal.overflow_add-x
-overflow_add-x g c =
-    let e : c.into_iter-byte-iterator.result.iter.rest.now ≡ take (c.args.at + g.row.N - c.args.at) (drop c.args.at c.args.s.now) = rw (c.into_iter-byte-iterator.ensures.into_iter_gives, c.rev-byte-items.ensures.source) c.iter.ensures.rest in
-    omega (arith, reading_small _ _ c.loop-byte.invariant c.in-Some.ensures.steps (omega (arith, part_length c.args.s.now c.args.at g.row.N e c.requires.inside)), c.from.ensures)
-
-pub loop-byte-preserved : goal.loop-byte-preserved
-loop-byte-preserved g c = rw c.from.ensures (reading_turn _ c.loop-byte.invariant c.in-Some.ensures.steps)
 
 pub returns : goal.returns
 returns g c =
-    let e : c.into_iter-byte-iterator.result.iter.rest.now ≡ take (c.args.at + g.row.N - c.args.at) (drop c.args.at c.args.s.now) = rw (c.into_iter-byte-iterator.ensures.into_iter_gives, c.rev-byte-items.ensures.source) c.iter.ensures.rest in
-    reading_end c.args.s.now c.args.at g.row.N c.loop-byte.invariant c.in-None.ensures.steps.0 e c.requires.inside
+    let a = c.args in
+    let n = g.row.N in
+    let e = c.copy_from_slice.ensures.after in
+    let v : c.from_le_bytes.result ≡ little_endian (take n (drop a.at a.s.now))
+    = c.from_le_bytes.ensures
+    ∙ padded {k = n} c.copy_from_slice.new.self _ refl refl (part_length a.s.now a.at n e c.requires.inside) (omega (arith, c.requires.short))
+    ∙ ap little_endian (part_whole a.s.now a.at n e) in
+    record { value = v; below = rw v (below n (drop a.at a.s.now) (drop_bytes _ _ (all_bytes a.s.now c.type_inv.s))) }

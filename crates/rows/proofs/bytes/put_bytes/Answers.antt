@@ -4,7 +4,7 @@ use Prim.Native.Nat.{ℕ, ◌+◌, ◌-◌}
 use native.Mathlib.Omega.{arith}
 use lib.ListN.{take, drop}
 use lib.Seq.{sets}
-use Rattle.theory.specs.Record.{Bytes, bytes_of}
+use Rattle.theory.specs.Record.{bytes_of}
 use borrow.Rule.Slice.PartMut.{put_mid}
 use Rattle.rows.proofs.RowLaws.{length_bytes, part_length, part_stored, put_done, put_turn}
 use Rattle.rows.proofs.bytes.put_bytes.Goals as goal

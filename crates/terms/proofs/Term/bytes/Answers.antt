@@ -1,13 +1,20 @@
--- `Term::bytes`: going down from the highest byte, x is the number in the bytes passed (Numbers, `Summing`). i falls.
+-- `Term::bytes`: those that are there are stored in eight zeros.
+use mathlib.Core.Path.{◌≡◌, refl, ap, ◌∙◌}
+use Prim.Native.Nat.{◌-◌}
 use native.Mathlib.Omega.{arith}
-use Rattle.terms.proofs.Numbers.{sum_turn, sum_small}
+use lib.ListN.{take, drop, length, length-take}
+use Rattle.theory.specs.Record.{little_endian}
+use Rattle.theory.proofs.Bytes.{drop_bytes}
+use Rattle.terms.proofs.Numbers.{all_bytes}
+use Rattle.terms.proofs.LittleEndian.{bytes_there, below, padded}
 use Rattle.terms.proofs.Term.bytes.Goals as goal
 
-pub overflow_mul-x : goal.overflow_mul-x
-overflow_mul-x c = omega (arith, sum_small c.loop-i.invariant c.requires c.loop-i-test.true)
-
-pub overflow_add-x : goal.overflow_add-x
-overflow_add-x c = omega (arith, sum_small c.loop-i.invariant c.requires c.loop-i-test.true, c.byte.ensures.bound)
-
-pub loop-i-preserved : goal.loop-i-preserved
-loop-i-preserved c = sum_turn c.loop-i.invariant c.loop-i-test.true c.byte.ensures.value c.byte.ensures.bound
+pub returns : goal.returns
+returns c =
+    let a = c.args in
+    let e = c.copy_from_slice.ensures.after in
+    let v : c.from_le_bytes.result ≡ little_endian (take a.n (drop a.at a.s.now))
+    = c.from_le_bytes.ensures
+    ∙ padded {k = c.min-there.result} c.copy_from_slice.new.self _ refl refl (omega (arith, ap length e, length-take c.min-there.result (take (length a.s.now - c.min.result) (drop c.min.result a.s.now)), c.min-there.ensures)) (omega (arith, c.min-there.ensures, c.requires))
+    ∙ ap little_endian (e ∙ bytes_there a.s.now a.at a.n c.min.ensures c.min-there.ensures) in
+    record { value = v; bound = rw v (below a.n (drop a.at a.s.now) (drop_bytes _ _ (all_bytes a.s.now c.type_inv.s))) }
