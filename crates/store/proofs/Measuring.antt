@@ -2,11 +2,13 @@
 use mathlib.Core.Path.{◌≡◌, refl, sym, ap, ap₂, ◌∙◌, subst}
 use mathlib.Core.Bool.{Bool, true, false, true≢false, ◌||◌, cond}
 use mathlib.Core.List.{List, [], ◌∷◌, map}
-use Rattle.std.specs.Prelude.{None as none, Some as some}
+use Rattle.std.specs.Prelude.{Option, Result, Ok, Err, None as none, Some as some}
+use Rattle.std.specs.Bool.{then_some}
+use Rattle.std.specs.Result.{result_ok}
 use Prim.Native.Nat.{ℕ, suc, ◌-◌, ◌/◌, ◌<◌, ◌≤◌}
 use native.Mathlib.Omega.{arith}
 use lib.Dec.{T, eqb, eqb→eq, leb, leb→le}
-use lib.Ieee.Fits.{and_l}
+use lib.Ieee.Fits.{and_l, and_r}
 use lib.ListN.{length, length-drop}
 use borrow.Author.Tests.{ne_eqb}
 use Rattle.theory.specs.Kind.{Op, Not, And, Or, Xor, Equals, Ite, BvBbTerm, kind}
@@ -17,7 +19,58 @@ use Rattle.theory.specs.Record.{Bytes, word, kind_of, body_of, front, shape_of, 
 use Rattle.theory.proofs.Basics.{some_inj}
 use Rattle.theory.proofs.Bytes.{Sound, says_term, term_kind, words_length}
 use Rattle.theory.proofs.Sorts.{sized, sorts_sized}
-use Rattle.store.specs.Measure.{is_gate, has_depth, measure, measure_in, depth_in, width_in, bool_depth, bool_in}
+use Rattle.terms.specs.declared.kind.Kind.{Kind}
+use Rattle.terms.specs.declared.kind.Kind.TheVariants as D
+use Rattle.terms.specs.declared.kind.UnknownKind.{UnknownKind}
+use Rattle.terms.specs.Numbered.{number_of, Decodes}
+use Rattle.terms.proofs.Forms.{known_kind}
+use Rattle.store.specs.Measure.{KindNumbered, is_gate, has_depth, measure, measure_in, depth_in, width_in, bool_depth, bool_in}
+
+-- ---- kinds by their numbers
+pub kind_read : {n m : ℕ} (r : Result Kind UnknownKind) → m ≡ n → Decodes m r → KindNumbered n (result_ok r)
+kind_read (Ok k) e d = d ∙ e
+kind_read (Err u) e d = λ k f. let g = sym (known_kind k (f ∙ sym e)) ∙ d.1 in cc
+
+module _ {n : ℕ} (h : (k : Kind) → number_of k ≡ n → ⊥) where
+  no_gate_number : is_gate n ≡ false
+  no_gate_number = go (is_gate n) refl
+    where
+      go : (b : Bool) → is_gate n ≡ b → b ≡ false
+      go false e = refl
+      go true e =
+          let t : T (is_gate n) = subst T (sym e) tt in
+          let a = leb→le 20 n (and_l (leb 20 n) _ t) in
+          let b = leb→le n 25 (and_r (leb 20 n) _ t) in
+          let h0 : 20 ≡ n → ⊥ = h D.Not in
+          let h1 : 21 ≡ n → ⊥ = h D.And in
+          let h2 : 22 ≡ n → ⊥ = h D.Or in
+          let h3 : 23 ≡ n → ⊥ = h D.Xor in
+          let h4 : 24 ≡ n → ⊥ = h D.Equals in
+          let h5 : 25 ≡ n → ⊥ = h D.Ite in
+          absurd (omega arith)
+
+  no_kind : (is_gate n ≡ false) × (eqb n 31 ≡ false)
+  no_kind = (no_gate_number, ne_eqb n 31 (λ e. h D.BvBbTerm (sym e)))
+
+-- where no kind has the number
+module _ (n : ℕ) {r : Option Kind} (e : r ≡ none) (h : KindNumbered n r) where
+  none_tests : (is_gate n ≡ false) × (eqb n 31 ≡ false)
+  none_tests = no_kind (subst (KindNumbered n) e h)
+
+  pub none_depth : false ≡ has_depth n
+  none_depth = sym (ap₂ (λ (p q : Bool). p || q) none_tests.0 none_tests.1)
+
+  pub none_width : (b z m : ℕ) → m ≡ width_in b n z m
+  unfolding width_in
+  none_width b z m = rw (none_tests.0, none_tests.1)
+
+  pub none_bool : (m : ℕ) → then_some {T = ℕ} (eqb m 0) 0 ≡ bool_in n m
+  unfolding bool_in
+  none_bool m = rw (none_tests.0, none_tests.1) (go (eqb m 0))
+    where
+      go : (b : Bool) → then_some {T = ℕ} b 0 ≡ cond b (some 0) none
+      go true = refl
+      go false = refl
 
 -- ---- widths
 no_width : (b : Bool) → sort_width (guard b bool) ≡ 0

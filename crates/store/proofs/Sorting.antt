@@ -1,7 +1,7 @@
 -- The sort and the depth of the term at a place, by its row.
 use mathlib.Core.Path.{◌≡◌, refl, sym, ap, subst, ◌∙◌}
 use mathlib.Core.List.{[], map}
-use Rattle.std.specs.Prelude.{Option, Some as some}
+use Rattle.std.specs.Prelude.{Some as some}
 use native.Mathlib.Nat.{add-zero}
 use Prim.Native.Nat.{ℕ, zero, suc, ◌+◌, ◌-◌, ◌^◌, ◌<◌, ◌≤◌}
 use native.Mathlib.Omega.{arith}
@@ -31,10 +31,10 @@ use Rattle.store.proofs.Measuring.{depth_is, depth_least, width_is, bool_is}
 use Rattle.store.proofs.Keeping.{row_kept, row_says, row_sound}
 
 -- ---- the sort of a term, by its width
-by_width : (s : Sort) → T (good s) → T (sized s) → (sort_width s ≡ 0 → bool ≡ s) × ((sort_width s ≡ 0 → ⊥) → bv (sort_width s) ≡ s)
-by_width bool g z = (λ e. refl, λ f. absurd (f refl))
-by_width (bv n) g z = (λ e. absurd (let h = leb→le 1 n (and_l (leb 1 n) _ z) in omega arith), λ f. refl)
-by_width bad g z = elim g [ ]
+no_width_bool : (s : Sort) → T (good s) → T (sized s) → sort_width s ≡ 0 → bool ≡ s
+no_width_bool bool g z e = refl
+no_width_bool (bv n) g z e = absurd (let h = leb→le 1 n (and_l (leb 1 n) _ z) in omega arith)
+no_width_bool bad g z e = elim g [ ]
 
 width_least : (s : Sort) → T (sized s) → sort_width s ≤ 64
 width_least bad h = omega arith
@@ -43,7 +43,7 @@ width_least (bv n) h = leb→le n 64 (and_r (leb 1 n) _ h)
 
 module _ {job work : Bytes} {n : ℕ} (s : Shelf job work n) where
   -- `true` and `false`
-  pub low_sort : (p : ℕ) → p < first_terms → bool ≡ sort_of (tree_at (listed job work n) p)
+  low_sort : (p : ℕ) → p < first_terms → bool ≡ sort_of (tree_at (listed job work n) p)
   unfolding fold guard
   low_sort zero h = ap sort_of (sym (tree_0 (listed job work n) s.well))
   low_sort (suc zero) h = ap sort_of (sym (tree_1 (listed job work n) s.well))
@@ -144,20 +144,10 @@ module _ {job work : Bytes} {n : ℕ} (s : Shelf job work n) where
         rw (kind_is ce, row_measure me, row_tree)
         (bool_is q.op (from_list (map (tree_at (listed job work n)) q.args)) row_fine)
 
-  -- the sort of a row's term, by its width
-  module _ (p : ℕ) (h : first_terms ≤ p) (l : p < first_terms + n) where
-    row_place : first_terms + (p - first_terms) ≡ p
-    row_place = omega arith
+  -- a term that has no width is a Bool
+  pub place_bool : (p : ℕ) → p < first_terms + n → {w : ℕ} → w ≡ sort_width (sort_of (tree_at (listed job work n) p)) → w ≡ 0 → bool ≡ sort_of (tree_at (listed job work n) p)
+  place_bool p l e z = no_width_bool _ (good_at (listed job work n) p s.sorted (omega (arith, s.count))) (sorts_sized (tree_at (listed job work n) p)) (sym e ∙ z)
 
-    row_by : (sort_width (sort_of (tree_at (listed job work n) p)) ≡ 0 → bool ≡ sort_of (tree_at (listed job work n) p))
-        × ((sort_width (sort_of (tree_at (listed job work n) p)) ≡ 0 → ⊥) → bv (sort_width (sort_of (tree_at (listed job work n) p))) ≡ sort_of (tree_at (listed job work n) p))
-    row_by = by_width _ (good_at (listed job work n) p s.sorted (omega (arith, s.count))) (sorts_sized (tree_at (listed job work n) p))
-
-    pub at_place : {w : ℕ} → w ≡ sort_width (sort_of (tree_at (listed job work n) (first_terms + (p - first_terms)))) → w ≡ sort_width (sort_of (tree_at (listed job work n) p))
-    at_place e = e ∙ ap (λ (i : ℕ). sort_width (sort_of (tree_at (listed job work n) i))) row_place
-
-    pub row_bool : {w : ℕ} → w ≡ sort_width (sort_of (tree_at (listed job work n) (first_terms + (p - first_terms)))) → w ≡ 0 → bool ≡ sort_of (tree_at (listed job work n) p)
-    row_bool e z = row_by.0 (sym (at_place e) ∙ z)
-
-    pub row_kind : {d : ℕ} → d ≡ root_kind (tree_at (listed job work n) (first_terms + (p - first_terms))) → d ≡ root_kind (tree_at (listed job work n) p)
-    row_kind e = e ∙ ap (λ (i : ℕ). root_kind (tree_at (listed job work n) i)) row_place
+  -- the kind of a row's term
+  pub row_kind : (p : ℕ) → first_terms ≤ p → {d : ℕ} → d ≡ root_kind (tree_at (listed job work n) (first_terms + (p - first_terms))) → d ≡ root_kind (tree_at (listed job work n) p)
+  row_kind p h e = e ∙ ap (λ (i : ℕ). root_kind (tree_at (listed job work n) i)) (let z : first_terms + (p - first_terms) ≡ p = omega arith in z)

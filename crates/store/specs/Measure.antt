@@ -1,12 +1,19 @@
 -- The measure of a term: the one number that its row keeps. No term needs both its depth and its width to be kept: the gates are Bools, the
 -- width of a BvBbTerm is the number of its arguments, and any other term has depth 0.
-use Rattle.std.specs.Prelude.{Bool, ◌&&◌, ◌||◌, cond, ℕ, ◌-◌, ◌/◌, leb, eqb}
+use Rattle.std.specs.Prelude.{◌≡◌, Bool, ◌&&◌, ◌||◌, cond, ℕ, ◌-◌, ◌/◌, leb, eqb}
 use Rattle.std.specs.Prelude.{Option, None as none, Some as some}
 use Rattle.theory.specs.Limit.{number_bytes}
 use Rattle.theory.specs.Kind.{Not, Ite, BvBbTerm, kind}
 use Rattle.theory.specs.Term.{Term, node}
 use Rattle.theory.specs.Sort.{bool, same_sort, sort_of, sort_width}
 use Rattle.theory.specs.Depth.{depth}
+use Rattle.terms.specs.declared.kind.Kind.{Kind}
+use Rattle.terms.specs.Numbered.{number_of}
+
+-- the kind that has a number
+abbrev pub KindNumbered : ℕ → Option Kind → Type 0
+KindNumbered n none = (k : Kind) → number_of k ≡ n → ⊥
+KindNumbered n (some k) = number_of k ≡ n
 
 -- the kinds from Not to Ite
 abbrev pub is_gate : ℕ → Bool

@@ -147,21 +147,12 @@ impl<'a> Kept<'a> {
         self.terms().term_on(place)
     }
 
-    // The sort of the term at a place: `true` and `false` are Bools, and a row has its term's
-    // width, 0 for a Bool.
+    // The sort of the term at a place.
     pub fn sort_at(&self, place: u32) -> Sort
         requires { place < first_terms + self.now.lookup.rows }
         ensures { sort_read result ≡ sort_of (kept_term self.now place) }
     {
-        let k = place as usize;
-        if k < rows::FIRST_PLACE {
-            return Sort::Bool;
-        }
-        let width = self.terms().row_width(k - rows::FIRST_PLACE);
-        if width == 0 {
-            return Sort::Bool;
-        }
-        Sort::Bv(width as u32)
+        self.terms().sort_on(place)
     }
 
     // The depth of the term at a place: `true` and `false` have depth 0, and a row has its term's.

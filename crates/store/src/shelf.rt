@@ -2,6 +2,7 @@
 // more, and the links of the rows are free for other use.
 ghost use Rattle.std.specs.Prelude.{◌≡◌, ◌+◌, ◌<◌};
 ghost use Rattle.theory.specs.Limit.{first_terms};
+ghost use Rattle.theory.specs.Sort.{sort_of};
 ghost use Rattle.theory.specs.Depth.{depth};
 ghost use Rattle.theory.specs.Record.{number_length};
 ghost use Rattle.rows.specs.Layout.{Bounded, place_end};
@@ -11,8 +12,9 @@ ghost use Rattle.store.specs.Shelf.{Shelf};
 
 use super::gates::{FALSE, TRUE};
 use super::measures::{bool_in, depth_in, width_in};
+use super::sorts::Sort;
 use rows::bytes::number;
-use table::{Long, Numbers, Short};
+use table::{Lengths, Long, Short};
 use terms::{Item, Term};
 
 // A job's bytes, the memory it lends, and how many rows are kept in it: the terms that its records
@@ -36,6 +38,7 @@ struct Row {
 impl<'a> Terms<'a> {
     ghost use Rattle.store.specs.KeptTerms.{Holds, IsTermOn, Stands};
     ghost use Rattle.store.specs.KeptTerms.{kept_term, kept_width, root_kind};
+    ghost use Rattle.store.specs.Sorts.{sort_read};
 
     pub fn new(job: &'a [u8], work: &'a [u8], rows: usize) -> Terms<'a>
         requires { Shelf job.now work.now rows }
@@ -67,7 +70,7 @@ impl<'a> Terms<'a> {
     }
 
     // What stands at row k.
-    fn row_as<N: Numbers>(&self, k: usize) -> Row
+    fn row_as<N: Lengths>(&self, k: usize) -> Row
         requires kept { k < self.now.rows }
         requires own { N.BYTES ≡ number_length self.now.job.now }
         ensures { Stands self.now k result }
@@ -80,7 +83,7 @@ impl<'a> Terms<'a> {
     }
 
     // The width of row k's term, 0 for a Bool.
-    fn row_width_as<N: Numbers>(&self, k: usize) -> usize
+    fn row_width_as<N: Lengths>(&self, k: usize) -> usize
         requires kept { k < self.now.rows }
         requires own { N.BYTES ≡ number_length self.now.job.now }
         ensures { Bounded result (kept_width self.now (first_terms + k)) 256 }
@@ -103,7 +106,7 @@ impl<'a> Terms<'a> {
     }
 
     // The depth of row k's term.
-    fn row_depth_as<N: Numbers>(&self, k: usize) -> usize
+    fn row_depth_as<N: Lengths>(&self, k: usize) -> usize
         requires kept { k < self.now.rows }
         requires own { N.BYTES ≡ number_length self.now.job.now }
         ensures { Bounded result (depth (kept_term self.now (first_terms + k))) place_end }
@@ -124,7 +127,7 @@ impl<'a> Terms<'a> {
     }
 
     // The depth of row k's term where it is a Bool.
-    fn bool_depth_as<N: Numbers>(&self, k: usize) -> Option<u32>
+    fn bool_depth_as<N: Lengths>(&self, k: usize) -> Option<u32>
         requires kept { k < self.now.rows }
         requires own { N.BYTES ≡ number_length self.now.job.now }
         ensures { result ≡ bool_depth (kept_term self.now (first_terms + k)) }
@@ -159,6 +162,17 @@ impl<'a> Terms<'a> {
             return 0;
         }
         self.row_width(k - rows::FIRST_PLACE) as u32
+    }
+
+    // The sort of the term at a place.
+    pub fn sort_on(&self, place: u32) -> Sort
+        requires { place < first_terms + self.now.rows }
+        ensures { sort_read result ≡ sort_of (kept_term self.now place) }
+    {
+        match self.width_on(place) {
+            0 => Sort::Bool,
+            width => Sort::Bv(width),
+        }
     }
 
     // The number of the kind of the term at a place: `true` has 0, `false` 1, and a row the one in

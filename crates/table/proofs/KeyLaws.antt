@@ -1,8 +1,8 @@
 -- Laws of a record that is built in an array, number by number.
 use mathlib.Core.Path.{◌≡◌, refl, sym, ap, subst, ◌∙◌}
-use mathlib.Core.Bool.{Bool, true, false, ◌&&◌, and-false, cond}
+use mathlib.Core.Bool.{Bool, true, false, and-false, cond}
 use mathlib.Core.List.{List, [], ◌∷◌, ◌++◌, append_assoc, append-nil}
-use Prim.Native.Nat.{ℕ, zero, suc, ◌+◌, ◌*◌, ◌-◌, ◌%◌, ◌^◌, ◌≤◌, ◌<◌}
+use Prim.Native.Nat.{ℕ, zero, suc, ◌+◌, ◌*◌, ◌-◌, ◌/◌, ◌%◌, ◌^◌, ◌≤◌, ◌<◌}
 use Rattle.std.specs.Prelude.{Option, None as none, Some as some}
 use native.Mathlib.Nat.{not-suc-le-zero, le_of_suc-le-suc, mul-le-mul_right}
 use native.Mathlib.Numerals.{add-one}
@@ -10,6 +10,7 @@ use native.Mathlib.Omega.{arith}
 use lib.Dec.{ltb}
 use lib.ListN.{length-append, length-replicate, drop, get_or, length, replicate, take}
 use lib.Seq.{sets, sets-eq, length-sets, length-take-le, take_at, take-suc, take_all}
+use Rattle.std.specs.Int.{to_le_bytes, w32, w64}
 use borrow.Author.Tests.{le-ltb, lt-ltb}
 use Rattle.theory.specs.Record.{Bytes, bytes_of}
 use Rattle.rows.specs.Layout.{missing}
@@ -33,9 +34,6 @@ take_sets l i vs h =
 
 pub written_none : (key : Bytes) → Written (length key) key [] 0
 written_none key = record { long = refl; bytes = refl }
-
-pub written_start : Written key_bytes (replicate key_bytes 0) [] 0
-written_start = record { long = length-replicate {A = ℕ} key_bytes 0; bytes = refl }
 
 pub written_more : {size : ℕ} {key p : Bytes} {at : ℕ} → Written size key p at → (k x : ℕ) → at + k ≤ size → {after : Bytes} → after ≡ sets key at (bytes_of k x)
     → Written size after (p ++ bytes_of k x) (at + k)
@@ -198,24 +196,35 @@ pub built_new : (space : ℕ) {nb kind end : ℕ} {xs : List ℕ} {key : Bytes} 
     → Roomy nb (length xs) space → end ≤ space
 built_new space b is r = let i = built_inside b is (roomy_new space r) in let l = length-replicate {A = ℕ} space 0 in omega arith
 
+-- ---- a number's lowest bytes
+
+pub low_bytes : (k x : ℕ) → k ≤ 4 → take k (to_le_bytes w32 x) ≡ bytes_of k x
+low_bytes zero x h = refl
+low_bytes (suc zero) x h = refl
+low_bytes (suc (suc zero)) x h = refl
+low_bytes (suc (suc (suc zero))) x h = let e : x / 65536 ≡ x / 256 / 256 = omega arith in rw e refl
+low_bytes (suc (suc (suc (suc zero)))) x h =
+    let e : x / 65536 ≡ x / 256 / 256 = omega arith in let f : x / 16777216 ≡ x / 256 / 256 / 256 = omega arith in rw (e, f) refl
+low_bytes (suc (suc (suc (suc (suc k))))) x h = absurd (omega arith)
+
+-- all eight of a value
+value_low : (x : ℕ) → to_le_bytes w64 x ≡ bytes_of value_bytes x
+value_low x =
+    let a : x / 65536 ≡ x / 256 / 256 = omega arith in
+    let b : x / 16777216 ≡ x / 65536 / 256 = omega arith in
+    let c : x / 4294967296 ≡ x / 16777216 / 256 = omega arith in
+    let d : x / 1099511627776 ≡ x / 4294967296 / 256 = omega arith in
+    let e : x / 281474976710656 ≡ x / 1099511627776 / 256 = omega arith in
+    let f : x / 72057594037927936 ≡ x / 281474976710656 / 256 = omega arith in
+    rw (f, e, d, c, b, a) refl
+
 -- ---- an index and an argument
 
-pub indexed_end : (nb x : ℕ) {size : ℕ} {key : Bytes} (kind index at len : ℕ) → x < last_number nb → at ≡ 6 + nb → len ≡ 4 + nb
-    → Written size key (((([] ++ bytes_of number_bytes len) ++ bytes_of number_bytes kind) ++ bytes_of number_bytes index) ++ bytes_of nb x) (6 + nb)
-    → (rows : List Bytes) → place_of (take at key) rows ≡ place_indexed nb kind index x rows
-unfolding place_indexed record_of words_bytes all_places
-indexed_end nb x {size} {key} kind index at len h a b w rows =
-    let l : length (bytes_of number_bytes index ++ (bytes_of nb x ++ [])) ≡ 2 + nb
-    = ap (λ (n : ℕ). suc (suc n)) (ap length (append-nil (bytes_of nb x)) ∙ length_bytes nb x) ∙ (let e : suc (suc nb) ≡ 2 + nb = omega arith in e) in
-    ap (λ (n : ℕ). place_of (take n key) rows) a
-    ∙ ap (λ (bs : Bytes). place_of bs rows)
-    (w.bytes ∙ ap (λ (bs : Bytes). (bytes_of number_bytes len ++ bytes_of number_bytes kind) ++ (bytes_of number_bytes index ++ bs)) (sym (append-nil (bytes_of nb x)))
-    ∙ ap (λ (n : ℕ). (bytes_of number_bytes n ++ bytes_of number_bytes kind) ++ (bytes_of number_bytes index ++ (bytes_of nb x ++ []))) (let e : len ≡ 2 + length (bytes_of number_bytes index ++ (bytes_of nb x ++ [])) = omega arith in e))
-    ∙ chosen (ltb x (last_number nb)) (place_of ((bytes_of number_bytes (2 + length (bytes_of number_bytes index ++ (bytes_of nb x ++ []))) ++ bytes_of number_bytes kind) ++ (bytes_of number_bytes index ++ (bytes_of nb x ++ []))) rows) (lt-ltb x (last_number nb) h)
-  where
-    chosen : (t : Bool) (p : ℕ) → t ≡ true → p ≡ cond (t && true) p missing
-    chosen true p e = refl
-    chosen false p e = absurd (let z : ◌≡◌ {A = ℕ} 0 1 = cc in omega arith)
+pub indexed_is : {nb k x : ℕ} (kind index : ℕ) {bs : Bytes} → bs ≡ to_le_bytes w32 x → k ≡ nb → nb ≤ 4 → x < last_number nb → (rows : List Bytes)
+    → place_of (record_of kind (bytes_of number_bytes index ++ take k bs)) rows ≡ place_indexed nb kind index x rows
+unfolding place_indexed all_places
+indexed_is {nb} {k} {x} kind index e f l h rows =
+    rw (e, f, low_bytes nb x l, lt-ltb x (last_number nb) h, words_bytes_one nb x) refl
 
 pub indexed_none : (nb x kind index : ℕ) → last_number nb ≤ x → (rows : List Bytes) → missing ≡ place_indexed nb kind index x rows
 unfolding place_indexed all_places
@@ -223,8 +232,7 @@ indexed_none nb x kind index h rows = rw (le-ltb x (last_number nb) h)
 
 -- ---- a constant
 
-pub constant_end : {size : ℕ} {key : Bytes} (kind width value : ℕ)
-    → Written size key (((([] ++ bytes_of number_bytes 12) ++ bytes_of number_bytes kind) ++ bytes_of number_bytes width) ++ bytes_of value_bytes value) 14
-    → (rows : List Bytes) → place_of (take 14 key) rows ≡ place_constant kind width value rows
-unfolding place_constant record_of
-constant_end kind width value w rows = ap (λ (x : Bytes). place_of x rows) w.bytes
+pub constant_is : (kind width value : ℕ) (rows : List Bytes)
+    → place_of (record_of kind (bytes_of number_bytes width ++ to_le_bytes w64 value)) rows ≡ place_constant kind width value rows
+unfolding place_constant
+constant_is kind width value rows = rw (value_low value) refl

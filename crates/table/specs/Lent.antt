@@ -13,10 +13,6 @@ abbrev pub kept_over : ℕ → Bytes → Bytes → ℕ → List Bytes
 kept_over b job work n = kept_as (link_bytes b) job work n
 
 module _ {X Y : Type 0} (job : Both (Bor Bytes) X) (work : Both (Bor Bytes) Y) (n : ℕ) where
-  -- the kept records, where terms' numbers have b bytes
-  abbrev pub records_as : ℕ → List Bytes
-  records_as b = kept_as (link_bytes b) job.entry.now work.entry.now n
-
   -- by the job's own number length
   abbrev pub kept_records : List Bytes
   kept_records = kept job.entry.now work.entry.now n

@@ -4,3 +4,4 @@ pub mod Keys
 pub mod Lent
 pub mod Falls
 pub mod Walk
+pub mod LookedUp

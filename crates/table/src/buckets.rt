@@ -8,7 +8,7 @@ ghost use Rattle.table.specs.Buckets.{most_rows, heads_start, most_heads, most_h
 ghost use Rattle.table.specs.Buckets.{head_count, seed_bytes, fold, hash_end, hash_of};
 ghost use Rattle.table.specs.Buckets.{bucket_of, first_in, first_of, stored_head};
 
-use super::lengths::Numbers;
+use super::lengths::Lengths;
 use rows::bytes::{number, number_of, put_number};
 use rows::layout::{FIXED_BYTES, OFFSET_BYTES};
 use terms::Term;
@@ -36,7 +36,7 @@ const HASH_END: usize = 2147483648;
 pub const SEED_BYTES: usize = 4;
 
 // How many terms fit into a work memory of `len` bytes.
-fn terms_in<N: Numbers>(len: usize) -> usize
+fn terms_in<N: Lengths>(len: usize) -> usize
     ensures { result ≡ len / term_bytes N.BYTES }
 {
     len / (FIXED_BYTES + 2 * N::BYTES)
@@ -44,14 +44,14 @@ fn terms_in<N: Numbers>(len: usize) -> usize
 
 // How many rows it can ever hold.
 #[tactic(auto, unfolding(crate::specs::Buckets::most_rows))]
-fn most_rows<N: Numbers>(len: usize) -> usize
+fn most_rows<N: Lengths>(len: usize) -> usize
     ensures { result ≡ most_rows N.BYTES len }
 {
     terms_in::<N>(len).min(Term::max_terms(N::BYTES))
 }
 
 // Where the heads start in a work memory of `len` bytes: after as many rows as it can ever hold.
-fn heads_start<N: Numbers>(len: usize) -> usize
+fn heads_start<N: Lengths>(len: usize) -> usize
     ensures { (result ≡ heads_start N.BYTES len) × (result ≤ len) }
 {
     most_rows::<N>(len) * (OFFSET_BYTES + 2 * N::LINK_BYTES)
@@ -59,7 +59,7 @@ fn heads_start<N: Numbers>(len: usize) -> usize
 
 // The most heads of a table, by the bytes of a link.
 #[tactic(auto, using(std::proofs::lemmas::Bool::Decides::nat_tests), unfolding(crate::specs::Buckets::most_heads_of))]
-fn most_heads<N: Numbers>() -> usize
+fn most_heads<N: Lengths>() -> usize
     ensures { result ≡ most_heads_of N.LINK_BYTES }
 {
     if N::LINK_BYTES == Term::NUMBER_BYTES {
@@ -70,7 +70,7 @@ fn most_heads<N: Numbers>() -> usize
 }
 
 // How many heads there are.
-fn head_count<N: Numbers>(len: usize, start: usize) -> usize
+fn head_count<N: Lengths>(len: usize, start: usize) -> usize
     requires { start ≤ len }
     ensures { result ≡ head_count N.LINK_BYTES len start }
 {
@@ -115,7 +115,7 @@ pub struct Heads {
 
 impl Heads {
     // Those of a work memory of `len` bytes.
-    pub fn of<N: Numbers>(len: usize) -> Heads
+    pub fn of<N: Lengths>(len: usize) -> Heads
         ensures start { result.start ≡ heads_start N.BYTES len }
         ensures count { result.count ≡ head_count N.LINK_BYTES len result.start }
         ensures inside { result.start ≤ len }
@@ -141,7 +141,7 @@ impl Heads {
     }
 
     // One more than the newest row of bucket j, of n rows.
-    pub fn first_in<N: Numbers>(self, work: &[u8], n: usize, j: usize) -> usize
+    pub fn first_in<N: Lengths>(self, work: &[u8], n: usize, j: usize) -> usize
         requires { 0 < self.count → self.start + self.count * N.LINK_BYTES ≤ length work.now }
         ensures { result ≡ first_in N.LINK_BYTES work.now n self.start self.count j }
     {
@@ -153,7 +153,7 @@ impl Heads {
     }
 
     // Stores v in the head of bucket j, where there is one.
-    pub fn put<N: Numbers>(self, work: &mut [u8], j: usize, v: usize)
+    pub fn put<N: Lengths>(self, work: &mut [u8], j: usize, v: usize)
         requires { 0 < self.count → self.start + self.count * N.LINK_BYTES ≤ length work.old }
         ensures { work.new ≡ stored_head N.LINK_BYTES work.old self.start self.count j v }
     {
@@ -165,7 +165,7 @@ impl Heads {
 }
 
 // One more than the newest row of a record's bucket, of n rows.
-pub fn first_of<N: Numbers>(work: &[u8], n: usize, wanted: &[u8]) -> usize
+pub fn first_of<N: Lengths>(work: &[u8], n: usize, wanted: &[u8]) -> usize
     ensures { result ≡ first_of N.BYTES work.now n wanted.now }
 {
     let heads = Heads::of::<N>(work.len());

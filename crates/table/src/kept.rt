@@ -1,27 +1,26 @@
-// The kept records: find one, add one, drop the newest.
+// The kept records: find one, add one.
 ghost use Rattle.std.specs.Prelude.{◌≡◌, ◌+◌, ◌*◌, ◌^◌, ◌≤◌, ◌<◌, length, drop};
 ghost use Rattle.theory.specs.Limit.{first_terms};
 ghost use Rattle.theory.specs.Record.{extent, number_length};
 ghost use Rattle.rows.specs.Layout.{link_bytes, row_size};
-ghost use Rattle.rows.specs.Rows.{kept, place_of};
-ghost use Rattle.table.specs.Lent.{records_as, kept_over};
-ghost use Rattle.table.specs.Buckets.{TableAs, Table, TableOf};
-ghost use Rattle.table.specs.Buckets.{added_row, dropped_row, unless_missing};
-ghost use Rattle.table.specs.Promise.{TermLimit, room_for, Grown, Cut};
+ghost use Rattle.rows.specs.Rows.{place_of};
+ghost use Rattle.table.specs.Lent.{kept_over};
+ghost use Rattle.table.specs.Buckets.{TableAs, Table, added_row, unless_missing};
+ghost use Rattle.table.specs.Promise.{TermLimit, room_for, Grown};
 
 use super::buckets::{Heads, first_of};
-use super::lengths::{Long, Numbers, Short};
+use super::lengths::{Lengths, Long, Short};
 use super::walk::walk;
 use rows::bytes::number_of;
 use rows::layout::{FIRST_PLACE, FIXED_BYTES};
-use rows::{link_at, offset_as, put_row};
+use rows::put_row;
 use std::marker::PhantomData;
 use terms::Term;
 
 // A job's bytes, the memory it lends, and how many rows are kept in it: the records that are looked
 // up, where numbers are as long as N says.
 #[derive(Drop)]
-pub struct Records<'a, N: Numbers> {
+pub struct KeptRecords<'a, N: Lengths> {
     job: &'a [u8],
     work: &'a [u8],
     rows: usize,
@@ -29,14 +28,16 @@ pub struct Records<'a, N: Numbers> {
     ghost table: { TableAs N.BYTES job.now work.now rows },
 }
 
-impl<'a, N: Numbers> Records<'a, N> {
+impl<'a, N: Lengths> KeptRecords<'a, N> {
+    ghost use Rattle.table.specs.LookedUp.{looked_up};
+
+    // Those of the first `rows` rows, where the buckets over these are right.
     #[inline]
-    pub fn new(job: &'a [u8], work: &'a [u8], rows: usize) -> Records<'a, N>
+    pub fn new(job: &'a [u8], work: &'a [u8], rows: usize) -> KeptRecords<'a, N>
         requires { TableAs N.BYTES job.now work.now rows }
-        ensures { kept_over N.BYTES result.job.now result.work.now result.rows
-            ≡ kept_over N.BYTES job.now work.now rows }
+        ensures { looked_up result ≡ kept_over N.BYTES job.now work.now rows }
     {
-        Records {
+        KeptRecords {
             job,
             work,
             rows,
@@ -47,8 +48,7 @@ impl<'a, N: Numbers> Records<'a, N> {
     // The place of the record `wanted`.
     #[inline]
     pub fn find(&self, wanted: &[u8]) -> Option<u32>
-        ensures { result ≡ unless_missing (place_of wanted.now
-            (kept_over N.BYTES self.now.job.now self.now.work.now self.now.rows)) }
+        ensures { result ≡ unless_missing (place_of wanted.now (looked_up self.now)) }
     {
         let first = first_of::<N>(self.work, self.rows, wanted);
         walk::<N>(self.job, self.work, self.rows, first, wanted)
@@ -57,11 +57,11 @@ impl<'a, N: Numbers> Records<'a, N> {
 
 // The place of the record `wanted` among n kept ones.
 #[inline]
-pub fn find_record<N: Numbers>(job: &[u8], work: &[u8], n: usize, wanted: &[u8]) -> Option<u32>
+pub fn find_record<N: Lengths>(job: &[u8], work: &[u8], n: usize, wanted: &[u8]) -> Option<u32>
     requires { TableAs N.BYTES job.now work.now n }
-    ensures { result ≡ unless_missing (place_of wanted.now (records_as job work n N.BYTES)) }
+    ensures { result ≡ unless_missing (place_of wanted.now (kept_over N.BYTES job.now work.now n)) }
 {
-    Records::<N>::new(job, work, n).find(wanted)
+    KeptRecords::<N>::new(job, work, n).find(wanted)
 }
 
 // What adding a record answers: the place of the kept record that equals it, or that of the new
@@ -73,7 +73,7 @@ pub enum Added {
 }
 
 // Is there memory and a place for one row more than n, where there may be `limit` terms?
-fn has_room<N: Numbers>(n: usize, limit: usize, len: usize) -> bool
+fn has_room<N: Lengths>(n: usize, limit: usize, len: usize) -> bool
     requires { first_terms + n < 4294967296 }
     ensures { result ≡ room_for N.BYTES limit n len }
 {
@@ -92,7 +92,7 @@ fn has_room<N: Numbers>(n: usize, limit: usize, len: usize) -> bool
 // it is the rack's. Copied into its callers: its arguments and its result then stay in registers
 // (docs/PERFORMANCE.md).
 #[inline(always)]
-pub fn add_record<N: Numbers>(
+pub fn add_record<N: Lengths>(
     job: &[u8],
     work: &mut [u8],
     n: usize,
@@ -143,7 +143,7 @@ pub fn add(
 }
 
 // Stores row n before the row `first` of bucket j.
-fn add_row<N: Numbers>(
+fn add_row<N: Lengths>(
     work: &mut [u8],
     n: usize,
     heads: Heads,
@@ -161,42 +161,4 @@ fn add_row<N: Numbers>(
 {
     put_row(work, N::LINK_BYTES, n, offset, measure, first);
     heads.put::<N>(work, j, n + 1);
-}
-
-// Drops the rows from m up: of n kept records the first m stay. The newest row first: it is the
-// head of its bucket, so that dropping it is one store.
-fn drop_rows_as<N: Numbers>(job: &[u8], work: &mut [u8], n: usize, m: usize)
-    requires kept { TableAs N.BYTES job.now work.old n }
-    requires fewer { m ≤ n }
-    ensures { Cut N.BYTES job.now work.old work.new n m }
-{
-    let heads = Heads::of::<N>(work.len());
-    for k in (m..n).rev() {
-        drop_row::<N>(job, work, k, heads);
-    }
-}
-
-// The same in the job's own number length.
-pub fn drop_rows(job: &[u8], work: &mut [u8], n: usize, m: usize)
-    requires kept { Table job.now work.old n }
-    requires fewer { m ≤ n }
-    ensures { Cut (number_length job.now) job.now work.old work.new n m }
-{
-    if Term::number_length(job) == Term::NUMBER_BYTES {
-        drop_rows_as::<Short>(job, work, n, m);
-        return;
-    }
-    drop_rows_as::<Long>(job, work, n, m);
-}
-
-// Drops the last row, k: its bucket starts at the row before it.
-fn drop_row<N: Numbers>(job: &[u8], work: &mut [u8], k: usize, heads: Heads)
-    requires { TableOf N.LINK_BYTES job.now work.old (k + 1) heads.start heads.count }
-    ensures { work.new ≡ dropped_row N.LINK_BYTES job.now work.old k heads.start heads.count }
-{
-    let at = offset_as(work, N::LINK_BYTES, k);
-    let end = at + number_of::<{ Term::NUMBER_BYTES }>(job, at) + Term::NUMBER_BYTES;
-    let j = heads.bucket(work, &job[at..end]);
-    let before = link_at(work, N::LINK_BYTES, k);
-    heads.put::<N>(work, j, before);
 }

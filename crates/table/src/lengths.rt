@@ -9,7 +9,7 @@ use rows::layout::LONG_LINK_BYTES;
 use terms::Term;
 
 // How long the numbers of terms are in a job, and the links in the rows over it.
-pub trait Numbers {
+pub trait Lengths {
     ghost BYTES: { ℕ };
 
     const BYTES: usize;
@@ -26,7 +26,7 @@ pub trait Numbers {
 // Numbers of two bytes, and links as long.
 pub struct Short;
 
-impl Numbers for Short {
+impl Lengths for Short {
     ghost BYTES = { number_bytes };
 
     const BYTES: usize = Term::NUMBER_BYTES;
@@ -43,7 +43,7 @@ impl Numbers for Short {
 // Numbers of four bytes.
 pub struct Long;
 
-impl Numbers for Long {
+impl Lengths for Long {
     ghost BYTES = { long_bytes };
 
     const BYTES: usize = Term::LONG_BYTES;

@@ -1,14 +1,15 @@
 // Records that a caller names by their arguments: built in an array, and looked up.
 ghost use Rattle.std.specs.Prelude.{◌≡◌, [], ◌∷◌, ◌≤◌, length};
 ghost use Rattle.theory.specs.Limit.{max_arguments, long_bytes};
-ghost use Rattle.table.specs.Lent.{records_as, kept_over, list_place};
+ghost use Rattle.table.specs.Lent.{kept_over, list_place};
+ghost use Rattle.table.specs.LookedUp.{looked_up};
 ghost use Rattle.table.specs.Buckets.{TableAs, Table, unless_missing};
 ghost use Rattle.table.specs.Keys.{list_bytes, Roomy, Built, place_list};
 
 use super::buckets::{BODY_AT, KIND_AT};
-use super::kept::Records;
+use super::kept::KeptRecords;
 use super::keys::{KEY_BYTES, last_number};
-use super::lengths::{Long, Numbers, Short};
+use super::lengths::{Lengths, Long, Short};
 use rows::bytes::{put_number, put_number_of};
 use rows::layout::MISSING;
 use terms::Term;
@@ -16,9 +17,10 @@ use terms::Term;
 // An array that is long enough for the most arguments.
 const LIST_BYTES: usize = BODY_AT + Term::LONG_BYTES * Term::MAX_ARGUMENTS;
 
-// Builds the record of a kind with arguments in the array lent, and returns its length;
-// none where a number is none that these bytes hold, or the last of them, which is no place.
-fn build_key<N: Numbers>(kind: u32, args: &[u32], key: &mut [u8]) -> Option<usize>
+// Builds the record of a kind with arguments in the array lent, and returns its length. None where
+// an argument is no place: it is above what the bytes of a number hold, or the last number that
+// they hold, which stands for no place.
+fn build_key<N: Lengths>(kind: u32, args: &[u32], key: &mut [u8]) -> Option<usize>
     requires { Roomy N.BYTES (length args.now) (length key.old) }
     ensures { Built N.BYTES kind args.now (length key.old) key.new result }
 {
@@ -38,7 +40,7 @@ fn build_key<N: Numbers>(kind: u32, args: &[u32], key: &mut [u8]) -> Option<usiz
     Some(at)
 }
 
-impl<'a, N: Numbers> Records<'a, N> {
+impl<'a, N: Lengths> KeptRecords<'a, N> {
     // The place of the record of a kind with arguments, which is built in an array of S bytes. Each
     // instance is compiled for its lengths: that of short numbers into the loops over a circuit's
     // gates, since steps look up little else.
@@ -46,8 +48,7 @@ impl<'a, N: Numbers> Records<'a, N> {
     fn find_built<const S: usize>(&self, kind: u32, args: &[u32]) -> Option<u32>
         requires roomy { Roomy N.BYTES (length args.now) S }
         requires bounded { S ≤ list_bytes }
-        ensures { result ≡ unless_missing (place_list N.BYTES kind args.now
-            (kept_over N.BYTES self.now.job.now self.now.work.now self.now.rows)) }
+        ensures { result ≡ unless_missing (place_list N.BYTES kind args.now (looked_up self.now)) }
     {
         let mut key = [0u8; S];
         let end = build_key::<N>(kind, args, &mut key)?;
@@ -75,7 +76,7 @@ fn find_arguments<const S: usize>(job: &[u8], work: &[u8], n: usize, kind: u32, 
     ensures { result ≡ list_place job work n kind args.now }
 {
     if Term::number_length(job) == Term::NUMBER_BYTES {
-        let place = Records::<Short>::new(job, work, n).find_built::<S>(kind, args);
+        let place = KeptRecords::<Short>::new(job, work, n).find_built::<S>(kind, args);
         return place.unwrap_or(MISSING);
     }
     find_long::<S>(job, work, n, kind, args).unwrap_or(MISSING)
@@ -94,9 +95,9 @@ fn find_long<const S: usize>(
     requires roomy { Roomy long_bytes (length args.now) S }
     requires bounded { S ≤ list_bytes }
     ensures { result ≡ unless_missing
-        (place_list long_bytes kind args.now (records_as job work n long_bytes)) }
+        (place_list long_bytes kind args.now (kept_over long_bytes job.now work.now n)) }
 {
-    Records::<Long>::new(job, work, n).find_built::<S>(kind, args)
+    KeptRecords::<Long>::new(job, work, n).find_built::<S>(kind, args)
 }
 
 // The place of the record of a kind with one argument.

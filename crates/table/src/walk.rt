@@ -7,7 +7,7 @@ ghost use Rattle.rows.specs.Rows.{kept_as, place_of};
 ghost use Rattle.table.specs.Buckets.{Sought, unless_missing};
 ghost use Rattle.table.specs.Falls.{Falls};
 
-use super::lengths::Numbers;
+use super::lengths::Lengths;
 use rows::bytes::number_of;
 use rows::layout::FIRST_PLACE;
 use rows::{link_at, offset_as};
@@ -59,7 +59,7 @@ impl<'a> Iterator for Bucket<'a> {
 
 // The place of a record among the first n rows: row by row of its bucket, whose newest is `first`.
 #[inline]
-pub fn walk<N: Numbers>(
+pub fn walk<N: Lengths>(
     job: &[u8],
     work: &[u8],
     n: usize,

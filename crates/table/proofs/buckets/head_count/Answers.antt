@@ -7,4 +7,4 @@ pub returns-then-left-lt-SEED_BYTES : goal.returns-then-left-lt-SEED_BYTES
 returns-then-left-lt-SEED_BYTES g c = count_none _ _ _ c.if-left-lt-SEED_BYTES.true
 
 pub returns : goal.returns
-returns g c = c.min.ensures ∙ ap (λ (l : ℕ). min ((c.args.len - c.args.start - 4) / l) c.most_heads.result) c.LINK_BYTES.ensures ∙ ap (λ (m : ℕ). min ((c.args.len - c.args.start - 4) / g.N.Numbers.LINK_BYTES) m) c.most_heads.ensures ∙ count_is g.N.Numbers.LINK_BYTES c.args.len c.args.start
+returns g c = c.min.ensures ∙ ap (λ (l : ℕ). min ((c.args.len - c.args.start - 4) / l) c.most_heads.result) c.LINK_BYTES.ensures ∙ ap (λ (m : ℕ). min ((c.args.len - c.args.start - 4) / g.N.Lengths.LINK_BYTES) m) c.most_heads.ensures ∙ count_is g.N.Lengths.LINK_BYTES c.args.len c.args.start

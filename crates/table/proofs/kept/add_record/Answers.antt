@@ -10,23 +10,23 @@ use Rattle.table.proofs.AddLaws.{grown_found, grown_new, grown_spent, part_recor
 use Rattle.table.proofs.kept.add_record.Goals as goal
 
 pub walk-requires : goal.walk-requires
-walk-requires g c = sought_from _ (framed g.N.Numbers.BYTES g.N.Numbers.linked c.of-heads.ensures.start c.of-heads.ensures.count c.requires.kept) c.bucket-j.ensures c.first_in-first.ensures
+walk-requires g c = sought_from _ (framed g.N.Lengths.BYTES g.N.Lengths.linked c.of-heads.ensures.start c.of-heads.ensures.count c.requires.kept) c.bucket-j.ensures c.first_in-first.ensures
 
 pub returns-in-Some : goal.returns-in-Some
-returns-in-Some g c = grown_found _ _ _ _ _ _ _ c.requires.kept (walk_told g.N.Numbers.BYTES _ _ _ _ _ g.N.Numbers.linked c.number_of.ensures.value c.walk.ensures) c.in-Some.is
+returns-in-Some g c = grown_found _ _ _ _ _ _ _ c.requires.kept (walk_told g.N.Lengths.BYTES _ _ _ _ _ g.N.Lengths.linked c.number_of.ensures.value c.walk.ensures) c.in-Some.is
 
 pub has_room-requires : goal.has_room-requires
 has_room-requires g c = rows_small c.requires.kept.rows
 
 pub returns-then-not-has_room : goal.returns-then-not-has_room
-returns-then-not-has_room g c = grown_spent _ _ _ _ _ _ _ c.requires.kept (told_missing (walk_told g.N.Numbers.BYTES _ _ _ _ _ g.N.Numbers.linked c.number_of.ensures.value c.walk.ensures) c.in_default.is)
+returns-then-not-has_room g c = grown_spent _ _ _ _ _ _ _ c.requires.kept (told_missing (walk_told g.N.Lengths.BYTES _ _ _ _ _ g.N.Lengths.linked c.number_of.ensures.value c.walk.ensures) c.in_default.is)
     (sym c.has_room.ensures ∙ c.if-not-has_room.true)
 
 pub add_row-requires : goal.add_row-requires
-add_row-requires g c = let t = (framed g.N.Numbers.BYTES g.N.Numbers.linked c.of-heads.ensures.start c.of-heads.ensures.count c.requires.kept) in
-    let r = room_true g.N.Numbers.BYTES c.args.limit c.args.n (length c.args.work.now) (sym c.has_room.ensures ∙ c.if-not-has_room.false) in
+add_row-requires g c = let t = (framed g.N.Lengths.BYTES g.N.Lengths.linked c.of-heads.ensures.start c.of-heads.ensures.count c.requires.kept) in
+    let r = room_true g.N.Lengths.BYTES c.args.limit c.args.n (length c.args.work.now) (sym c.has_room.ensures ∙ c.if-not-has_room.false) in
     record {
-      inside = row_memory g.N.Numbers.BYTES c.args.n (length c.args.work.now) g.N.Numbers.linked r.1 (let m = r.0 in omega arith);
+      inside = row_memory g.N.Lengths.BYTES c.args.n (length c.args.work.now) g.N.Lengths.linked r.1 (let m = r.0 in omega arith);
       cells = λ h. omega (arith, t.cells h);
       few = let s = rows_small t.rows in omega arith;
     }
@@ -37,8 +37,8 @@ overflow_cast-result g c = let r = rows_small c.requires.kept.rows in omega arit
 pub returns : goal.returns
 returns g c = let p = c.requires in
     let a = c.args in
-    grown_new _ _ _ _ _ _ _ p.kept p.limited p.inside p.measured (told_missing (walk_told g.N.Numbers.BYTES _ _ _ _ _ g.N.Numbers.linked c.number_of.ensures.value c.walk.ensures) c.in_default.is)
+    grown_new _ _ _ _ _ _ _ p.kept p.limited p.inside p.measured (told_missing (walk_told g.N.Lengths.BYTES _ _ _ _ _ g.N.Lengths.linked c.number_of.ensures.value c.walk.ensures) c.in_default.is)
     (sym c.has_room.ensures ∙ c.if-not-has_room.false)
-    g.N.Numbers.linked c.of-heads.ensures.start c.of-heads.ensures.count
+    g.N.Lengths.linked c.of-heads.ensures.start c.of-heads.ensures.count
     (c.bucket-j.ensures ∙ ap (λ (x : Bytes). bucket_of a.work.now c.of-heads.result.count x) (part_record a.job.now a.at c.number_of.result c.number_of.ensures.value))
     c.first_in-first.ensures c.add_row.ensures

@@ -14,12 +14,12 @@ cheap n b l h = mul-le-mul_left n (let f = l.few_bytes in let z : 4 + 2 * b ≤ 
 
 pub returns-then-max_terms-n : goal.returns-then-max_terms-n
 returns-then-max_terms-n g c = let a = c.args in
-    room_numbers g.N.Numbers.BYTES a.limit a.n a.len (omega (arith, c.max_terms.ensures ∙ ap max_terms c.BYTES.ensures, c.if-max_terms-n.true))
+    room_numbers g.N.Lengths.BYTES a.limit a.n a.len (omega (arith, c.max_terms.ensures ∙ ap max_terms c.BYTES.ensures, c.if-max_terms-n.true))
 
 pub returns-then-limit-n : goal.returns-then-limit-n
-returns-then-limit-n g c = let a = c.args in room_numbers g.N.Numbers.BYTES a.limit a.n a.len (omega (arith, c.if-limit-n.true))
+returns-then-limit-n g c = let a = c.args in room_numbers g.N.Lengths.BYTES a.limit a.n a.len (omega (arith, c.if-limit-n.true))
 
 pub returns : goal.returns
 returns g c = let a = c.args in
-    room_memory g.N.Numbers.BYTES a.limit a.n a.len refl (rw c.BYTES-2.ensures (omega arith))
+    room_memory g.N.Lengths.BYTES a.limit a.n a.len refl (rw c.BYTES-2.ensures (omega arith))
     (omega (arith, c.max_terms.ensures ∙ ap max_terms c.BYTES.ensures, c.if-max_terms-n.false, c.if-limit-n.false))

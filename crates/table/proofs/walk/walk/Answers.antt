@@ -17,7 +17,7 @@ loop-row-init g c = let a = c.args in let i = c.into_iter-row-iterator.ensures.i
   ap (λ (b : Bucket). b.work.now) i,
   (
     ap (λ (b : Bucket). b.link_bytes) i ∙ c.LINK_BYTES.ensures,
-    subst (λ (held : ℕ). Seeking g.N.Numbers.LINK_BYTES a.job.now a.work.now a.n a.wanted.now held) (sym (ap (λ (b : Bucket). b.held) i)) (seek_start c.requires),
+    subst (λ (held : ℕ). Seeking g.N.Lengths.LINK_BYTES a.job.now a.work.now a.n a.wanted.now held) (sym (ap (λ (b : Bucket). b.held) i)) (seek_start c.requires),
   ),
 )
 
@@ -41,7 +41,7 @@ loop-row-preserved g c =
       (
         t.length_is ∙ i.1.0,
         seek_next i.1.1 more (c.offset_as.ensures.value ∙ ap₂ (λ (l k : ℕ). offset_at l c.args.work.now k) c.LINK_BYTES-in-loop-row.ensures t.item_is)
-            (t.next_is ∙ ap₂ (λ (l : ℕ) (w : Bytes). link_at l w c.in-Some.row) i.1.0 i.0 ∙ ap (link_at g.N.Numbers.LINK_BYTES c.args.work.now) t.item_is)
+            (t.next_is ∙ ap₂ (λ (l : ℕ) (w : Bytes). link_at l w c.in-Some.row) i.1.0 i.0 ∙ ap (link_at g.N.Lengths.LINK_BYTES c.args.work.now) t.item_is)
             (λ e. let z = sym (same_equal e) ∙ sym c.is_record.ensures ∙ c.if-is_record.false in cc),
       ),
     )

@@ -16,5 +16,5 @@ number-requires c = let r = (let stands_here : let at = c.offset_at-at.result in
 pub returns : goal.returns
 returns c = let h = c.if-k-lt-FIRST_PLACE.false in
     let l = c.requires in
-    row_kind c.args.self.now.shelf c.args.place h l
+    row_kind c.args.self.now.shelf c.args.place h
     (row_root c.args.self.now.shelf (c.args.place - 2) (omega arith) refl refl c.offset_at-at.ensures.value c.number.ensures.value)

@@ -4,7 +4,7 @@ use Prim.Native.Nat.{ℕ}
 use Rattle.table.specs.Promise.{Cut}
 use Rattle.table.proofs.Face.{table_long}
 use Rattle.terms.proofs.Numbers.{long_length}
-use Rattle.table.proofs.kept.drop_rows.Goals as goal
+use Rattle.table.proofs.drops.drop_rows.Goals as goal
 
 pub returns : goal.returns
 returns c = let a = c.args in

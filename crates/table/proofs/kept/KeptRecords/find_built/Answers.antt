@@ -4,7 +4,7 @@ use native.Mathlib.Omega.{arith}
 use Rattle.table.specs.Buckets.{unless_missing}
 use Rattle.table.proofs.BucketLaws.{told_none}
 use Rattle.table.proofs.KeyLaws.{built_missing, built_new, built_place}
-use Rattle.table.proofs.kept.Records.find_built.Goals as goal
+use Rattle.table.proofs.kept.KeptRecords.find_built.Goals as goal
 
 pub returns-in_err-end : goal.returns-in_err-end
 returns-in_err-end g c = c.from_residual.ensures ∙ told_none (sym (built_missing c.build_key.ensures c.in_err-end.was _))

@@ -2,7 +2,7 @@ use mathlib.Core.Path.{ap, ◌∙◌}
 use Prim.Native.Nat.{ℕ}
 use Rattle.rows.specs.Layout.{link_at, offset_at}
 use Rattle.table.proofs.MemoryLaws.{drop_is}
-use Rattle.table.proofs.kept.drop_row.Goals as goal
+use Rattle.table.proofs.drops.drop_row.Goals as goal
 
 pub returns : goal.returns
 returns g c = c.put.ensures
