@@ -159,11 +159,7 @@ impl<'a> Arguments<'a> {
     pub fn deepest(&self) -> usize
         ensures { Bounded result (deepest_argument self.now) place_end }
     {
-        let mut most: usize = 0;
-        for i in 0..self.count() {
-            most = most.max(self.depth(i));
-        }
-        most
+        (0..self.count()).fold(0, |most, i| most.max(self.depth(i)))
     }
 
     // The depth of the deepest argument where all are Bools: one look at each argument.

@@ -33,21 +33,12 @@ pub fn of_width(n: u32) -> Option<Sort>
 pub fn of_value(n: u32, x: u64) -> Option<Sort>
     ensures { sort_or_bad result ≡ guard (is_width n && ltb x (2 ^ n)) (bv n) }
 {
-    if n < 1 {
-        return None;
-    }
-    if Term::MAX_WIDTH < n {
-        return None;
-    }
+    let sort = of_width(n)?;
     // Every value fits into 64 bits.
     if n == Term::MAX_WIDTH {
-        return Some(Sort::Bv(n));
+        return Some(sort);
     }
-    if x < (1u64 << n) {
-        Some(Sort::Bv(n))
-    } else {
-        None
-    }
+    (x < (1u64 << n)).then_some(sort)
 }
 
 // Bit i of a term of this sort.

@@ -34,9 +34,9 @@ use Rattle.terms.specs.contracts.Term as E
 use Rattle.store.specs.Store.{Store, listed}
 use Rattle.store.specs.Terms.{TermAt}
 use Rattle.store.specs.declared.gates.Kept.{Kept}
-use Rattle.store.specs.Kept.{IsTermAt, kept_term}
+use Rattle.store.specs.Kept.{IsTermAt, kept_term, kept_width}
 use Rattle.store.proofs.Keeping.{store_of}
-use Rattle.operand_rules.specs.Rules.{OneFits, Two, Same}
+use Rattle.operand_rules.specs.Rules.{Operand, OneFits, Same}
 use Rattle.operand_rules.proofs.Tests.{same_eqb}
 use Rattle.theory.proofs.Basics.{true_T}
 use Rattle.theory.proofs.Sound.{same_sort_eq}
@@ -185,15 +185,11 @@ one_fitting o a g =
 module _ (k : Kept) {p : ℕ} {t : Decoded} (s : IsTermAt k p t) (there : p < first_terms + k.lookup.rows) where
   module _ (o : Op) (asks : (ss : List Sort) → fitting o ss ≡ alike ss) where
     -- of an operation of two bit-vectors of one width
-    pub two_given : (x y claim : ℕ) → op_of t ≡ o → operands_of t ≡ TwoArgs x y → claim < first_terms + k.lookup.rows → Two k x y claim
-    two_given x y claim e d c =
+    pub two_given : {x y : ℕ} → (op_of t ≡ o) × (operands_of t ≡ TwoArgs x y) → Operand k x (kept_width k x) × Operand k y (kept_width k x)
+    two_given {x} {y} (e, d) =
         let g = two_alike s (store_of k) there o asks (kept_term k x) (kept_term k y) (fits s (store_of k) there o (TwoArgs x y) e d) in
         let b = is_bv (sort_of (kept_term k x)) g.0 in
-        record {
-          left = record { there = left_below s x y _ d there; sort = b };
-          right = record { there = right_below s x y _ d there; sort = sym g.1 ∙ b };
-          claimed = c;
-        }
+        (record { there = left_below s x y _ d there; sort = b }, record { there = right_below s x y _ d there; sort = sym g.1 ∙ b })
 
   -- of an operation of one bit-vector whose kind may have numbers in it
   pub one_fits : (o : Op) (asks : (r : Sort) → T (fitting o (r ∷ [])) → T (is_bv_sort r)) (x claim : ℕ) → op_of t ≡ o → operands_of t ≡ OneArg x

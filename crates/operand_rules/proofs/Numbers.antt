@@ -1,6 +1,6 @@
 -- The numbers of the store's terms: circuits of numbers are the numbers of circuits, and the last test of a rule.
 use mathlib.Core.Path.{◌≡◌, sym, ap, ap₂, subst, ◌∙◌}
-use mathlib.Core.Bool.{Bool, true, false, ◌&&◌, cond}
+use mathlib.Core.Bool.{Bool, true, false, cond}
 use mathlib.Core.List.{List, map}
 use Prim.Native.Nat.{ℕ, ◌+◌, ◌<◌, ◌≤◌}
 use native.Mathlib.Omega.{arith}
@@ -8,9 +8,9 @@ use lib.Dec.{T, eqb, eqb→eq, leb, leb→le}
 use lib.Ieee.Fits.{and_l, and_r}
 use lib.ListN.{length, length-map}
 use Rattle.theory.specs.Limit.{first_terms}
-use Rattle.theory.specs.Kind.{Op, False, BvBbTerm, kind, many, takes}
-use Rattle.theory.specs.Term.{Term, Terms, node, nil, same_term, fold, folds, to_list, from_list}
-use Rattle.theory.specs.Sort.{Sort, bad, bool, bv, guard, all_are, sort_width, sort_op, sort_of}
+use Rattle.theory.specs.Kind.{Op, False, BvBbTerm, kind}
+use Rattle.theory.specs.Term.{Term, Terms, node, nil, same_term, fold, to_list, from_list}
+use Rattle.theory.specs.Sort.{Sort, bad, bool, bv, sort_width, sort_of}
 use Rattle.theory.specs.Value.{value, truth}
 use Rattle.theory.specs.Specimen.{x_and_y}
 use Rattle.theory.specs.Gates.{term_gates}
@@ -24,7 +24,7 @@ use Rattle.theory.proofs.Natural.{Hom}
 use Rattle.theory.proofs.Same.{same_eq, eq_same}
 use Rattle.theory.proofs.Distinct.{tree_1}
 use Rattle.theory.proofs.Sorts.{sized, sorts_sized}
-use Rattle.theory.proofs.Blast.{bits_of, folds_from_list, to_from_list}
+use Rattle.theory.proofs.Blast.{bits_of, to_from_list}
 use Rattle.theory.proofs.Places.{tree_at, tree_of, more_below}
 use Rattle.terms.specs.declared.Args.{Args}
 use Rattle.terms.specs.declared.Term.{Term as Decoded}
@@ -39,7 +39,7 @@ use Rattle.store.specs.Kept.{IsTermAt, kept_terms, kept_term, kept_bits, kept_nu
 use Rattle.store.proofs.Keeping.{store_of}
 use Rattle.store.proofs.Lookup.{Few, number_hom, number_exact, bb_hom}
 use Rattle.store.proofs.Claims.{own_numbers, select_numbers, compare_number}
-use Rattle.operand_rules.specs.Rules.{Operand}
+use Rattle.operand_rules.specs.Rules.{Operand, BitsOf}
 use Rattle.theory.proofs.Basics.{true_T, T_same}
 
 -- the width of a bit-vector is 1 to 64
@@ -64,15 +64,6 @@ other_bits u o ts e d =
 pub bb_bits : (us : List Term) → get_term_bits (bb us) ≡ us
 unfolding get_term_bits
 bb_bits us = to_from_list us
-
-pub bb_width : (us : List Term) (w : ℕ) → sort_of (bb us) ≡ bv w → length us ≡ w
-unfolding fold guard
-bb_width us w e =
-    sym (length-map us sort_of) ∙ sym (ap length (folds_from_list sort_op us)) ∙ guarded (takes many (length (folds sort_op (from_list us))) && all_are bool (folds sort_op (from_list us))) (length (folds sort_op (from_list us))) w e
-  where
-    guarded : (b : Bool) (m k : ℕ) → guard b (bv m) ≡ bv k → m ≡ k
-    guarded true m k d = ap sort_width d
-    guarded false m k d = absurd (let z : ◌≡◌ {A = ℕ} 0 1 = ap (λ (x : Sort). is_bv_number x) d in omega arith)
 
 pub few : (k : Kept) → Few (number_length k.lookup.job.now) (kept_terms k)
 few k =
@@ -141,3 +132,7 @@ pub bits_length : {k : Kept} {x w : ℕ} {xs : List ℕ} → Operand k x w → x
 bits_length {k} {x} {w} o e =
     let b = bits_of (x_and_y 0 0) (kept_term k x) w o.sort in
     ap length e ∙ length-map (kept_bits k x) (kept_number k) ∙ sym (length-map (kept_bits k x) (value (x_and_y 0 0))) ∙ ap length b.reads ∙ length-map b.bits truth ∙ b.size
+
+-- the bits of an operand
+pub operand_bits : {k : Kept} {x w : ℕ} {xs : List ℕ} → Operand k x w → xs ≡ map (kept_number k) (kept_bits k x) → BitsOf k xs (kept_term k x)
+operand_bits o e = record { sort = o.sort ∙ ap bv (sym (bits_length o e)); bits = e }

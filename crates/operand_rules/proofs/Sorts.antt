@@ -27,9 +27,13 @@ use Rattle.store.specs.Sorts.{sort_read}
 use Rattle.store.specs.declared.sorts.Sort.{Sort}
 use Rattle.store.specs.declared.sorts.Sort.TheVariants.{Bv}
 use Rattle.store.proofs.Lookup.{bit_hom, constant_hom}
-use Rattle.operand_rules.specs.Rules.{Operand, width_bits}
+use Rattle.operand_rules.specs.Rules.{Operand}
 use Rattle.operand_rules.proofs.Numbers.{few}
 use Rattle.theory.proofs.Indexed.{bits_same}
+
+-- the bits of a width, as a constant of that width
+abbrev pub width_bits : ℕ → List Term
+width_bits w = get_term_bits (node (Const w w) nil)
 
 -- a width fits into as many bits
 const_sort : (w : ℕ) → 1 ≤ w → w ≤ 64 → sort_of (node (Const w w) nil) ≡ bv w

@@ -1,12 +1,12 @@
 -- Verdicts as the code has them, and what a rule's check may take for granted.
-use Rattle.std.specs.Prelude.{◌≡◌, List, [], ◌∷◌, ℕ, T, ◌+◌, ◌<◌}
+use Rattle.std.specs.Prelude.{◌≡◌, List, [], ◌∷◌, map, length, ℕ, T, ◌+◌, ◌<◌}
 use Rattle.theory.specs.Limit.{first_terms}
-use Rattle.theory.specs.Kind.{Op, Const}
-use Rattle.theory.specs.Term.{Term, node, nil}
+use Rattle.theory.specs.Kind.{Op}
+use Rattle.theory.specs.Term.{Term}
 use Rattle.theory.specs.Sort.{bv, fitting, sort_of}
 use Rattle.theory.specs.Bits.{get_term_bits}
 use Rattle.store.specs.declared.gates.Kept.{Kept}
-use Rattle.store.specs.Kept.{kept_term, kept_width}
+use Rattle.store.specs.Kept.{kept_term, kept_number, kept_width}
 use Rattle.operand_rules.specs.declared.Verdict.{Verdict}
 use Rattle.theory.specs.Verdict as Said
 use Rattle.operand_rules.specs.declared.Verdict.TheVariants as R
@@ -40,11 +40,10 @@ pub record OneFits (k : Kept) (o : Op) (x claim : ℕ) : Type 0 where
   pub one : One k x claim
   pub fits : T (fitting o (sort_of (kept_term k x) ∷ []))
 
--- an operation of two bit-vectors of one width, and the claim
-pub record Two (k : Kept) (x y claim : ℕ) : Type 0 where
-  pub left : Operand k x (kept_width k x)
-  pub right : Operand k y (kept_width k x)
-  pub claimed : claim < first_terms + k.lookup.rows
+-- t is a bit-vector, and xs are the numbers of its bits
+pub record BitsOf (k : Kept) (xs : List ℕ) (t : Term) : Type 0 where
+  pub sort : sort_of t ≡ bv (length xs)
+  pub bits : xs ≡ map (kept_number k) (get_term_bits t)
 
 -- an equation of two terms of one sort, and the claim
 pub record Same (k : Kept) (x y claim : ℕ) : Type 0 where
@@ -52,7 +51,3 @@ pub record Same (k : Kept) (x y claim : ℕ) : Type 0 where
   pub right : y < first_terms + k.lookup.rows
   pub same : sort_of (kept_term k y) ≡ sort_of (kept_term k x)
   pub claimed : claim < first_terms + k.lookup.rows
-
--- the bits of a width, as a constant of that width
-abbrev pub width_bits : ℕ → List Term
-width_bits w = get_term_bits (node (Const w w) nil)

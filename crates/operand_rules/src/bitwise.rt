@@ -18,7 +18,7 @@ use crate::bits::{compare_bits, get_term_bits, width_at};
 use crate::literal::Literal;
 use crate::operation::{Binary, Unary, binary_rule, unary_rule};
 use circuits::adder::negate;
-use circuits::bits::{eqs, nots};
+use circuits::bits::{Bits, eqs, nots};
 use store::gates::Kept;
 use terms::Term;
 
@@ -40,11 +40,8 @@ impl Binary for Equivalence {
     }
 
     // The claim is the term of the bits' equations.
-    fn check(self, kept: &Kept, x: u32, y: u32, claim: u32) -> Verdict {
-        let w = width_at(kept, x);
-        let xs = get_term_bits(kept, x, w);
-        let ys = get_term_bits(kept, y, w);
-        compare_bits(&kept.lookup, &eqs(&kept.lookup, &xs, &ys), claim)
+    fn check(self, kept: &Kept, x: &Bits, y: &Bits, claim: u32) -> Verdict {
+        compare_bits(&kept.lookup, &eqs(&kept.lookup, x, y), claim)
     }
 }
 

@@ -11,9 +11,9 @@ ghost use Rattle.operand_rules.specs.Literal.{literal_term};
 ghost use Rattle.operand_rules.specs.Rules.{verdict_of};
 
 use crate::Verdict;
-use crate::bits::{get_term_bits, width_at};
 use crate::literal::Literal;
 use crate::operation::{Binary, binary_rule};
+use circuits::bits::Bits;
 use circuits::compare::bitblast_ult;
 use store::gates::Kept;
 use terms::Term;
@@ -37,11 +37,8 @@ impl Binary for Less {
     }
 
     // The claim is the circuit of x < y.
-    fn check(self, kept: &Kept, x: u32, y: u32, claim: u32) -> Verdict {
-        let w = width_at(kept, x);
-        let xs = get_term_bits(kept, x, w);
-        let ys = get_term_bits(kept, y, w);
-        crate::compare(bitblast_ult(&kept.lookup, &xs, &ys), claim)
+    fn check(self, kept: &Kept, x: &Bits, y: &Bits, claim: u32) -> Verdict {
+        crate::compare(bitblast_ult(&kept.lookup, x, y), claim)
     }
 }
 
@@ -71,11 +68,8 @@ impl Binary for SignedLess {
     }
 
     // The claim is the circuit of x < y, of signed numbers.
-    fn check(self, kept: &Kept, x: u32, y: u32, claim: u32) -> Verdict {
-        let w = width_at(kept, x);
-        let xs = get_term_bits(kept, x, w);
-        let ys = get_term_bits(kept, y, w);
-        crate::compare(circuits::compare::slt(&kept.lookup, &xs, &ys), claim)
+    fn check(self, kept: &Kept, x: &Bits, y: &Bits, claim: u32) -> Verdict {
+        crate::compare(circuits::compare::slt(&kept.lookup, x, y), claim)
     }
 }
 

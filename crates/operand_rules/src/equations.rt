@@ -12,9 +12,10 @@ ghost use Rattle.operand_rules.specs.Literal.{literal_term};
 ghost use Rattle.operand_rules.specs.Rules.{Same, verdict_of};
 
 use crate::Verdict;
-use crate::bits::{get_term_bits, width_at};
+use crate::bits::get_term_bits;
 use crate::literal::Literal;
 use crate::operation::{Binary, binary_rule};
+use circuits::bits::Bits;
 use store::gates::Kept;
 use store::sorts::Sort;
 use terms::Term;
@@ -38,11 +39,8 @@ impl Binary for Comparison {
     }
 
     // The claim is the term of one bit, whether all bits are equal.
-    fn check(self, kept: &Kept, x: u32, y: u32, claim: u32) -> Verdict {
-        let w = width_at(kept, x);
-        let xs = get_term_bits(kept, x, w);
-        let ys = get_term_bits(kept, y, w);
-        let bit = circuits::compare::equality(&kept.lookup, &xs, &ys);
+    fn check(self, kept: &Kept, x: &Bits, y: &Bits, claim: u32) -> Verdict {
+        let bit = circuits::compare::equality(&kept.lookup, x, y);
         crate::compare(kept.lookup.bb_term(&[bit]), claim)
     }
 }

@@ -1,5 +1,6 @@
 // The rule of an operation of one or two bit-vectors: its literal is (= (op x ..) claim).
-ghost use Rattle.std.specs.Prelude.{◌≡◌, List, [], ◌∷◌, ℕ, T};
+ghost use Rattle.std.specs.Prelude.{◌≡◌, List, [], ◌∷◌, ℕ, T, ◌+◌, ◌<◌, ◌≤◌, length};
+ghost use Rattle.theory.specs.Limit.{first_terms};
 ghost use Rattle.theory.specs.Kind.{Op, indices, kind as kind_number};
 ghost use Rattle.theory.specs.Term.{Term as Tree};
 ghost use Rattle.theory.specs.Sort.{Sort, is_bv_sort, alike, fitting};
@@ -7,11 +8,13 @@ ghost use Rattle.theory.specs.Verdict.{Verdict as Said};
 ghost use Rattle.theory.specs.Rule.{nth};
 ghost use Rattle.store.specs.Kept.{kept_term};
 ghost use Rattle.operand_rules.specs.Literal.{literal_term};
-ghost use Rattle.operand_rules.specs.Rules.{OneFits, Two, verdict_of};
+ghost use Rattle.operand_rules.specs.Rules.{BitsOf, OneFits, verdict_of};
 ghost use Rattle.operand_rules.specs.Operations.{OperandOf, OperandsOf, by_unary, by_binary};
 
 use crate::Verdict;
+use crate::bits::{get_term_bits, width_at};
 use crate::literal::Literal;
+use circuits::bits::Bits;
 use store::gates::Kept;
 use terms::Term;
 
@@ -70,11 +73,13 @@ pub trait Binary: Copy {
     fn operands(term: Term) -> Option<(u32, u32)>
         ensures { OperandsOf kind term result };
 
-    // Whether the claim is what the rule expects of the operands x and y.
-    fn check(self, kept: &Kept, x: u32, y: u32, claim: u32) -> Verdict
-        requires { Two kept.now x y claim }
-        ensures { verdict_of result ≡ verdict self (kept_term kept.now x)
-            (kept_term kept.now y) (kept_term kept.now claim) };
+    // Whether the claim is what the rule expects of operands that have the bits x and y.
+    fn check(self, kept: &Kept, x: &Bits, y: &Bits, claim: u32) -> Verdict
+        requires some { 1 ≤ length x.now.items }
+        requires alike { length x.now.items ≡ length y.now.items }
+        requires claimed { claim < first_terms + kept.now.lookup.rows }
+        ensures { (s t : Tree) → BitsOf kept.now x.now.items s → BitsOf kept.now y.now.items t
+            → verdict_of result ≡ verdict self s t (kept_term kept.now claim) };
 
     // its operands are bit-vectors of one width
     ghost asks: { (ss : List Sort) → fitting kind ss ≡ alike ss };
@@ -92,5 +97,8 @@ pub fn binary_rule<B: Binary>(operation: B, literal: &Literal) -> Verdict
     let Some((x, y)) = B::operands(kept.term_at(l)) else {
         return Verdict::WrongForm;
     };
-    operation.check(kept, x, y, r)
+    let w = width_at(kept, x);
+    let xs = get_term_bits(kept, x, w);
+    let ys = get_term_bits(kept, y, w);
+    operation.check(kept, &xs, &ys, r)
 }

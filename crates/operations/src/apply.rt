@@ -1,7 +1,7 @@
 // One operation of a term, on the widths and the numbers of its arguments. A Bool has width 0 and
 // the number 0 or 1.
 ghost use Rattle.std.specs.Prelude.{◌≡◌, [], ◌∷◌};
-ghost use Rattle.theory.specs.Value.{Assign, meaning, bit};
+ghost use Rattle.theory.specs.Value.{Assign, meaning};
 ghost use Rattle.theory.specs.Kind.{Ite};
 ghost use Rattle.sweeps.specs.Sweep.{as_number};
 ghost use Rattle.operations.specs.Apply.{unary_op, binary_op, val_by, One, Two, Bools3};
@@ -71,13 +71,6 @@ pub struct Word {
     pub value: u64,
 }
 
-// 1 for true.
-pub fn flag(b: bool) -> u64
-    ensures { result ≡ bit b }
-{
-    u64::from(b)
-}
-
 // x with k copies of its top bit above, at width m.
 pub fn extended(m: u32, k: u32, x: u64) -> u64
     requires { One (unary_op (Unary.Extend k)) m x }
@@ -109,10 +102,10 @@ pub fn apply_one(op: Unary, m: u32, x: u64) -> u64
     ensures { (ρ : Assign) → result ≡ as_number (meaning ρ (unary_op op) (val_by m x ∷ [])) }
 {
     match op {
-        Unary::Not => flag(x == 0),
+        Unary::Not => u64::from(x == 0),
         Unary::BvNot => not_n(m, x),
         Unary::BvNeg => neg_n(m, x),
-        Unary::BitOf(i) => flag(bit(i, x)),
+        Unary::BitOf(i) => u64::from(bit(i, x)),
         Unary::Extract(i, j) => low(i - j + 1, x >> j),
         Unary::Extend(k) => extended(m, k, x),
         Unary::ZeroExtend(_) => x,
@@ -129,11 +122,11 @@ pub fn apply_two(op: Binary, m: u32, x: u64, y: u64) -> u64
         → result ≡ as_number (meaning ρ (binary_op op) (val_by m x ∷ val_by m y ∷ [])) }
 {
     match op {
-        Binary::Xor => flag(x != y),
-        Binary::Equals | Binary::Comp => flag(x == y),
+        Binary::Xor => u64::from(x != y),
+        Binary::Equals | Binary::Comp => u64::from(x == y),
         Binary::XNor => xnor_n(m, x, y),
-        Binary::ULt => flag(x < y),
-        Binary::SLt => flag(signed_less(m, x, y)),
+        Binary::ULt => u64::from(x < y),
+        Binary::SLt => u64::from(signed_less(m, x, y)),
         Binary::Shl => shl_n(m, x, y),
         Binary::LShr => lshr_n(m, x, y),
         Binary::AShr => ashr_n(m, x, y),

@@ -1,5 +1,5 @@
 // The operations on numbers of n bits, for n from 1 to 64.
-ghost use Rattle.std.specs.Prelude.{◌≡◌, ◌+◌, ◌-◌, ◌*◌, ◌%◌, ◌^◌, ◌<◌, ◌≤◌};
+ghost use Rattle.std.specs.Prelude.{◌≡◌, ◌+◌, ◌-◌, ◌%◌, ◌^◌, ◌<◌, ◌≤◌};
 ghost use Rattle.theory.specs.Value.{bit_at, not_n, neg_n, xnor_n, add_n, mul_n, shl_n, lshr_n};
 ghost use Rattle.theory.specs.Value.{ashr_n, udiv_n, urem_n, moved_n, rotate_left_n};
 ghost use Rattle.theory.specs.Value.{rotate_right_n};
@@ -10,7 +10,7 @@ pub fn ones(n: u32) -> u64
     requires { Wide n }
     ensures { result ≡ 2 ^ n - 1 }
 {
-    18446744073709551615u64 >> (64 - n)
+    u64::MAX >> (64 - n)
 }
 
 // The low n bits of x.

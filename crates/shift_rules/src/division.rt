@@ -1,19 +1,22 @@
 // The rules udiv and urem, accepted for their form only; and the two by the standard, which are
 // held.
-ghost use Rattle.std.specs.Prelude.{◌≡◌, refl};
+ghost use Rattle.std.specs.Prelude.{◌≡◌, cond, refl};
 ghost use Rattle.theory.specs.Kind.{BvUDiv, BvURem};
-ghost use Rattle.theory.specs.Bits.{literally_false};
+ghost use Rattle.theory.specs.Bits.{divided};
+ghost use Rattle.theory.specs.Verdict.{held, form_only};
 ghost use Rattle.theory.specs.Gates.{term_gates};
 ghost use Rattle.theory.specs.Circuit.{udiv, urem};
 ghost use Rattle.theory.specs.RuleTable.{by_udiv, by_urem, by_udiv_standard, by_urem_standard};
-ghost use Rattle.theory.specs.Rule.{verdict};
+ghost use Rattle.theory.specs.Rule.{compare, verdict};
 ghost use Rattle.operand_rules.specs.Literal.{literal_term};
 ghost use Rattle.operand_rules.specs.Rules.{verdict_of};
 
-use crate::operation::{Operation, rule};
+use crate::held_or_form_only;
 use circuits::bits::Bits;
 use operand_rules::Verdict;
+use operand_rules::bits::compare_bits_as;
 use operand_rules::literal::Literal;
+use operand_rules::operation::{Binary, binary_rule};
 use shift_circuits::divider;
 use store::gates::Kept;
 use terms::Term;
@@ -24,12 +27,11 @@ struct Quotient {
     standard: bool,
 }
 
-impl Operation for Quotient {
+impl Binary for Quotient {
     ghost kind = { BvUDiv };
 
-    ghost circuit = { λ a w. udiv term_gates a.standard literally_false };
-
-    ghost holds = { λ a x. a.standard };
+    ghost verdict = { λ s x y claim. compare (cond s.standard held form_only)
+        (divided (udiv term_gates s.standard) x y) claim };
 
     ghost asks = { λ ss. refl };
 
@@ -40,12 +42,10 @@ impl Operation for Quotient {
         Some((x, y))
     }
 
-    fn bits(self, kept: &Kept, x: &Bits, y: &Bits) -> Bits {
-        divider::udiv(&kept.lookup, x, y, self.standard)
-    }
-
-    fn is_held(self, x: &Bits) -> bool {
-        self.standard
+    // The claim is the term of the quotient's bits.
+    fn check(self, kept: &Kept, x: &Bits, y: &Bits, claim: u32) -> Verdict {
+        let bits = divider::udiv(&kept.lookup, x, y, self.standard);
+        compare_bits_as(held_or_form_only(self.standard), &kept.lookup, &bits, claim)
     }
 }
 
@@ -55,12 +55,11 @@ struct Remainder {
     standard: bool,
 }
 
-impl Operation for Remainder {
+impl Binary for Remainder {
     ghost kind = { BvURem };
 
-    ghost circuit = { λ a w. urem term_gates a.standard literally_false };
-
-    ghost holds = { λ a x. a.standard };
+    ghost verdict = { λ s x y claim. compare (cond s.standard held form_only)
+        (divided (urem term_gates s.standard) x y) claim };
 
     ghost asks = { λ ss. refl };
 
@@ -71,12 +70,10 @@ impl Operation for Remainder {
         Some((x, y))
     }
 
-    fn bits(self, kept: &Kept, x: &Bits, y: &Bits) -> Bits {
-        divider::urem(&kept.lookup, x, y, self.standard)
-    }
-
-    fn is_held(self, x: &Bits) -> bool {
-        self.standard
+    // The claim is the term of the remainder's bits.
+    fn check(self, kept: &Kept, x: &Bits, y: &Bits, claim: u32) -> Verdict {
+        let bits = divider::urem(&kept.lookup, x, y, self.standard);
+        compare_bits_as(held_or_form_only(self.standard), &kept.lookup, &bits, claim)
     }
 }
 
@@ -84,26 +81,26 @@ impl Operation for Remainder {
 pub fn udiv(literal: &Literal) -> Verdict
     ensures { verdict_of result ≡ verdict by_udiv (literal_term literal.now) }
 {
-    rule(Quotient { standard: false }, literal)
+    binary_rule(Quotient { standard: false }, literal)
 }
 
 // The same by the standard.
 pub fn udiv_standard(literal: &Literal) -> Verdict
     ensures { verdict_of result ≡ verdict by_udiv_standard (literal_term literal.now) }
 {
-    rule(Quotient { standard: true }, literal)
+    binary_rule(Quotient { standard: true }, literal)
 }
 
 // urem: (= (bvurem x y) claim).
 pub fn urem(literal: &Literal) -> Verdict
     ensures { verdict_of result ≡ verdict by_urem (literal_term literal.now) }
 {
-    rule(Remainder { standard: false }, literal)
+    binary_rule(Remainder { standard: false }, literal)
 }
 
 // The same by the standard.
 pub fn urem_standard(literal: &Literal) -> Verdict
     ensures { verdict_of result ≡ verdict by_urem_standard (literal_term literal.now) }
 {
-    rule(Remainder { standard: true }, literal)
+    binary_rule(Remainder { standard: true }, literal)
 }

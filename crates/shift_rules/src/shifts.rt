@@ -1,19 +1,25 @@
 // The rules shl, lshr and ashr; ashr is accepted for its form only, unless the shifted term ends in
 // `false`; by the standard it is held.
 ghost use Rattle.std.specs.Prelude.{◌≡◌, true, cond, map, length, ◌≤◌, refl};
+ghost use Rattle.theory.specs.Term.{Term as Tree};
 ghost use Rattle.theory.specs.Kind.{BvShl, BvLShr, BvAShr};
+ghost use Rattle.theory.specs.Bits.{shifted, size_bits};
+ghost use Rattle.theory.specs.Verdict.{held, form_only};
 ghost use Rattle.theory.specs.Gates.{term_gates};
 ghost use Rattle.theory.specs.Circuit.{shl, lshr, ashr};
 ghost use Rattle.theory.specs.RuleTable.{by_shl, by_lshr, by_ashr, by_ashr_standard};
-ghost use Rattle.theory.specs.Rule.{ends_in_false, verdict};
+ghost use Rattle.theory.specs.Rule.{compare, ends_in_false, verdict};
+ghost use Rattle.store.specs.declared.gates.Kept.{Kept};
 ghost use Rattle.store.specs.Kept.{kept_number};
 ghost use Rattle.operand_rules.specs.Literal.{literal_term};
-ghost use Rattle.operand_rules.specs.Rules.{width_bits, verdict_of};
+ghost use Rattle.operand_rules.specs.Rules.{BitsOf, verdict_of};
 
-use crate::operation::{Operation, rule};
+use crate::held_or_form_only;
 use circuits::bits::{Bits, select_bits};
 use operand_rules::Verdict;
+use operand_rules::bits::{compare_bits, compare_bits_as};
 use operand_rules::literal::Literal;
+use operand_rules::operation::{Binary, binary_rule};
 use shift_circuits::shift;
 use store::gates::{FALSE, Kept, TRUE};
 use terms::Term;
@@ -21,7 +27,8 @@ use terms::Term;
 // The bits of x's width, as a constant of that width.
 fn width_bits(kept: &Kept, x: &Bits) -> Bits
     requires { 1 ≤ length x.now.items }
-    ensures { result.items ≡ map (kept_number kept.now) (width_bits (length x.now.items)) }
+    ensures { (t : Tree) → BitsOf kept.now x.now.items t
+        → result.items ≡ map (kept_number kept.now) (size_bits t) }
 {
     let w = x.len();
     let size = kept.lookup.constant(w as u32, w as u64);
@@ -31,12 +38,10 @@ fn width_bits(kept: &Kept, x: &Bits) -> Bits
 #[derive(Clone, Copy)]
 struct Left;
 
-impl Operation for Left {
+impl Binary for Left {
     ghost kind = { BvShl };
 
-    ghost circuit = { λ a w. shl term_gates (width_bits w) };
-
-    ghost holds = { λ a x. true };
+    ghost verdict = { λ s x y claim. compare held (shifted (shl term_gates) x y) claim };
 
     ghost asks = { λ ss. refl };
 
@@ -47,25 +52,20 @@ impl Operation for Left {
         Some((x, y))
     }
 
-    fn bits(self, kept: &Kept, x: &Bits, y: &Bits) -> Bits {
-        let size = width_bits(kept, x);
-        shift::shl(&kept.lookup, &size, x, y)
-    }
-
-    fn is_held(self, x: &Bits) -> bool {
-        true
+    // The claim is the term of x's bits, y places up.
+    fn check(self, kept: &Kept, x: &Bits, y: &Bits, claim: u32) -> Verdict {
+        let bits = shift::shl(&kept.lookup, &width_bits(kept, x), x, y);
+        compare_bits(&kept.lookup, &bits, claim)
     }
 }
 
 #[derive(Clone, Copy)]
 struct Right;
 
-impl Operation for Right {
+impl Binary for Right {
     ghost kind = { BvLShr };
 
-    ghost circuit = { λ a w. lshr term_gates (width_bits w) };
-
-    ghost holds = { λ a x. true };
+    ghost verdict = { λ s x y claim. compare held (shifted (lshr term_gates) x y) claim };
 
     ghost asks = { λ ss. refl };
 
@@ -76,13 +76,10 @@ impl Operation for Right {
         Some((x, y))
     }
 
-    fn bits(self, kept: &Kept, x: &Bits, y: &Bits) -> Bits {
-        let size = width_bits(kept, x);
-        shift::lshr(&kept.lookup, &size, x, y)
-    }
-
-    fn is_held(self, x: &Bits) -> bool {
-        true
+    // The claim is the term of x's bits, y places down.
+    fn check(self, kept: &Kept, x: &Bits, y: &Bits, claim: u32) -> Verdict {
+        let bits = shift::lshr(&kept.lookup, &width_bits(kept, x), x, y);
+        compare_bits(&kept.lookup, &bits, claim)
     }
 }
 
@@ -91,12 +88,22 @@ struct SignedRight {
     standard: bool,
 }
 
-impl Operation for SignedRight {
+impl SignedRight {
+    // Whether a claim is held, by the bits of x. Only a BvBbTerm has the bit `false`.
+    fn is_held(self, x: &Bits) -> bool
+        ensures { (k : Kept) (t : Tree) → BitsOf k x.now.items t
+            → result ≡ cond self.standard true (ends_in_false t) }
+    {
+        self.standard || x.last().copied().unwrap_or(TRUE) == FALSE
+    }
+}
+
+impl Binary for SignedRight {
     ghost kind = { BvAShr };
 
-    ghost circuit = { λ a w. ashr term_gates a.standard (width_bits w) };
-
-    ghost holds = { λ a x. cond a.standard true (ends_in_false x) };
+    ghost verdict = { λ s x y claim.
+        compare (cond (cond s.standard true (ends_in_false x)) held form_only)
+        (shifted (ashr term_gates s.standard) x y) claim };
 
     ghost asks = { λ ss. refl };
 
@@ -107,14 +114,15 @@ impl Operation for SignedRight {
         Some((x, y))
     }
 
-    fn bits(self, kept: &Kept, x: &Bits, y: &Bits) -> Bits {
-        let size = width_bits(kept, x);
-        shift::ashr(&kept.lookup, &size, x, y, self.standard)
-    }
-
-    // Only a BvBbTerm has the bit `false`.
-    fn is_held(self, x: &Bits) -> bool {
-        self.standard || x.last().copied().unwrap_or(TRUE) == FALSE
+    // The claim is the term of x's bits, y places down.
+    fn check(self, kept: &Kept, x: &Bits, y: &Bits, claim: u32) -> Verdict {
+        let bits = shift::ashr(&kept.lookup, &width_bits(kept, x), x, y, self.standard);
+        compare_bits_as(
+            held_or_form_only(self.is_held(x)),
+            &kept.lookup,
+            &bits,
+            claim,
+        )
     }
 }
 
@@ -122,26 +130,26 @@ impl Operation for SignedRight {
 pub fn shl(literal: &Literal) -> Verdict
     ensures { verdict_of result ≡ verdict by_shl (literal_term literal.now) }
 {
-    rule(Left, literal)
+    binary_rule(Left, literal)
 }
 
 // lshr: (= (bvlshr x y) claim).
 pub fn lshr(literal: &Literal) -> Verdict
     ensures { verdict_of result ≡ verdict by_lshr (literal_term literal.now) }
 {
-    rule(Right, literal)
+    binary_rule(Right, literal)
 }
 
 // ashr: (= (bvashr x y) claim).
 pub fn ashr(literal: &Literal) -> Verdict
     ensures { verdict_of result ≡ verdict by_ashr (literal_term literal.now) }
 {
-    rule(SignedRight { standard: false }, literal)
+    binary_rule(SignedRight { standard: false }, literal)
 }
 
 // ashr by the standard: (= (bvashr x y) claim).
 pub fn ashr_standard(literal: &Literal) -> Verdict
     ensures { verdict_of result ≡ verdict by_ashr_standard (literal_term literal.now) }
 {
-    rule(SignedRight { standard: true }, literal)
+    binary_rule(SignedRight { standard: true }, literal)
 }

@@ -69,15 +69,9 @@ fn next_slice(kept: &Kept, a: u32, c: u32, done: usize, slice: u32) -> Result<u3
     ensures { Answers result (slice_verdict done
         (kept_term kept.now a) (kept_term kept.now c) (kept_term kept.now slice)) }
 {
-    let Some((p, q)) = and_pair(kept, slice) else {
-        return Err(Verdict::WrongForm);
-    };
-    let Some((left, x)) = Extraction::of(kept.term_at(p)) else {
-        return Err(Verdict::WrongForm);
-    };
-    let Some((right, y)) = Extraction::of(kept.term_at(q)) else {
-        return Err(Verdict::WrongForm);
-    };
+    let (p, q) = and_pair(kept, slice).ok_or(Verdict::WrongForm)?;
+    let (left, x) = Extraction::of(kept.term_at(p)).ok_or(Verdict::WrongForm)?;
+    let (right, y) = Extraction::of(kept.term_at(q)).ok_or(Verdict::WrongForm)?;
     slice_check(a, c, done, left, x, right, y)
 }
 

@@ -2,30 +2,23 @@
 use mathlib.Core.Path.{◌≡◌, refl, sym, ap, ◌∙◌}
 use mathlib.Core.Bool.{Bool, true, false, cond}
 use mathlib.Core.List.{List, [], ◌∷◌, map}
-use Prim.Native.Nat.{ℕ, ◌+◌, ◌<◌}
+use Prim.Native.Nat.{ℕ}
 use native.Mathlib.Omega.{arith}
-use lib.Dec.{ltb}
-use lib.ListN.{length, drop, get_or, length-map}
-use borrow.Author.Tests.{ltb-true}
-use Rattle.theory.specs.Limit.{first_terms}
+use lib.ListN.{length, get_or, length-map}
 use Rattle.theory.specs.Term.{Term}
 use Rattle.theory.specs.Verdict.{Verdict, code_of, accepted}
 use Rattle.theory.specs.RuleTable.{Rule}
 use Rattle.theory.specs.Rule.{on_sides, verdict}
 use Rattle.theory.specs.Record.{Bytes}
 use Rattle.theory.specs.Plain.{Plain}
-use Rattle.theory.specs.Codes.{all_below}
 use Rattle.theory.specs.Job.{right_depth, judged, unjudged, answer_to}
 use Rattle.theory.proofs.Places.{tree_at}
 use Rattle.theory.proofs.Bytes.{words_length}
 use Rattle.terms.specs.declared.Args.{Args}
 use Rattle.terms.specs.Decoded.{words_in}
-use Rattle.terms.proofs.Parts.{both}
 use Rattle.operand_rules.specs.Rules.{verdict_of}
 use Rattle.steps.specs.declared.answers.Reply.{Reply}
-use Rattle.store.specs.declared.gates.Kept.{Kept}
-use Rattle.store.specs.Kept.{words_of}
-use Rattle.steps.specs.Answering.{given, equation_depth, Literals, Judged}
+use Rattle.steps.specs.Answering.{given, equation_depth, Judged}
 use Rattle.steps.proofs.Equations.{accepted_depth}
 
 -- it is theory's, where an accepted literal has a right side
@@ -56,15 +49,6 @@ pub others_unjudged : (n : ℕ) (rule : Rule) (list : Plain) (job : Bytes) (a : 
     → unjudged n ≡ answer_to n rule (map (tree_at list) (words_in job a))
 others_unjudged n rule list job a h =
     not_one n rule (map (tree_at list) (words_in job a)) (λ e. h (sym (words_length a.bytes a.count _) ∙ sym (length-map (words_in job a) (tree_at list)) ∙ e))
-
--- the literal of a clause of one is below a bound of all, and so kept
-one_below : (b : ℕ) (ks : List ℕ) → length ks ≡ 1 → all_below b ks ≡ true → {x : ℕ} → x ≡ get_or ks 0 0 → x < b
-one_below b [] l h e = absurd (omega arith)
-one_below b (k ∷ ks) l h e = let g = ltb-true k b (both (ltb k b) (all_below b ks) h).0 in omega arith
-
-pub literal_below : {kept : Kept} {a : Args} → Literals kept a → a.count ≡ 1 → {x : ℕ} → x ≡ get_or (words_of kept a) 0 0 → x < first_terms + kept.lookup.rows
-literal_below {kept} {a} h e f =
-    one_below (first_terms + kept.lookup.rows) (words_of kept a) (words_length a.bytes a.count (drop a.at kept.lookup.job.now) ∙ e) h.below f
 
 -- the answer to a clause of one
 one_literal : (n : ℕ) {v : Verdict} (rule : Rule) (list : Plain) (ks : List ℕ) → length ks ≡ 1 → {x : ℕ} → x ≡ get_or ks 0 0 → v ≡ verdict rule (tree_at list x)

@@ -8,6 +8,6 @@ use Rattle.operand_rules.proofs.bitwise.EquivalenceBinary.check.Goals as goal
 pub returns : goal.returns
 returns c = let k = c.args.kept.now in
     let h = store_hom k in
-    bits_end held k c.requires.claimed _
-    (c.eqs.ensures ∙ ap₂ (zip_with _) c.get_term_bits-xs.ensures c.get_term_bits-ys.ensures ∙ sym (zip_with_hom h _ _ h.eq_hom _ _))
+    λ s t e d. bits_end held k c.requires.claimed _
+    (c.eqs.ensures ∙ ap₂ (zip_with _) e.bits d.bits ∙ sym (zip_with_hom h _ _ h.eq_hom _ _))
     c.compare_bits.ensures

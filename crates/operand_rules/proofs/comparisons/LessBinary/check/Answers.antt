@@ -6,7 +6,7 @@ use Rattle.operand_rules.proofs.Numbers.{store_hom, ends}
 use Rattle.operand_rules.proofs.comparisons.LessBinary.check.Goals as goal
 
 pub returns : goal.returns
-returns c = let s = c.requires in
-    ends held c.args.kept.now s.claimed _
-    (c.bitblast_ult.ensures ∙ ap₂ (bitblast_ult _) (c.deref.ensures.0 ∙ c.get_term_bits-xs.ensures) (c.deref-2.ensures.0 ∙ c.get_term_bits-ys.ensures) ∙ sym (ult_hom (store_hom c.args.kept.now) _ _))
+returns c = λ s t h l.
+    ends held c.args.kept.now c.requires.claimed _
+    (c.bitblast_ult.ensures ∙ ap₂ (bitblast_ult _) (c.deref.ensures.0 ∙ h.bits) (c.deref-2.ensures.0 ∙ l.bits) ∙ sym (ult_hom (store_hom c.args.kept.now) _ _))
     c.compare.ensures

@@ -18,7 +18,7 @@ use Rattle.store.proofs.Lookup.{number_exact}
 use Rattle.store.specs.Kept.{kept_number, kept_terms}
 use Rattle.circuits.proofs.AppendLaws.{top_bit}
 use Rattle.operand_rules.proofs.Numbers.{false_test, few, there}
-use Rattle.shift_rules.proofs.shifts.SignedRightOperation.is_held.Goals as goal
+use Rattle.shift_rules.proofs.shifts.SignedRight.is_held.Goals as goal
 
 -- the term `true` has the number 0
 true_kept : (k : Kept) → kept_number k (node True nil) ≡ 0
@@ -30,4 +30,4 @@ returns-else-self c = λ k t e.
     let top = c.unwrap_or.ensures ∙ ap (λ o. unwrap_or o 0) (c.copied.ensures ∙ c.last.ensures.value) ∙ unwrap_or-slice_get c.deref.result.now _ 0 ∙ top_bit 0 c.deref.result.now ∙ ap (last 0) c.deref.ensures.0 in
     sym (cond_false _ _ c.if-self.false
     ∙ ends_bits t ∙ false_test k (last (node True nil) (get_term_bits t))
-    ∙ ap is_false_number (last_map (kept_number k) (node True nil) (get_term_bits t) ∙ ap (last (kept_number k (node True nil))) (sym e) ∙ ap (λ (d : ℕ). last d c.args.x.now.items) (true_kept k) ∙ sym top))
+    ∙ ap is_false_number (last_map (kept_number k) (node True nil) (get_term_bits t) ∙ ap (last (kept_number k (node True nil))) (sym e.bits) ∙ ap (λ (d : ℕ). last d c.args.x.now.items) (true_kept k) ∙ sym top))

@@ -1,0 +1,14 @@
+use mathlib.Core.Path.{sym, ◌∙◌}
+use Rattle.theory.specs.Verdict.{held}
+use Rattle.theory.specs.Circuit.{lshr}
+use Rattle.theory.specs.Bits.{size_bits}
+use Rattle.theory.proofs.Shift.{lshr_hom}
+use Rattle.operand_rules.proofs.Numbers.{store_hom, bits_end}
+use Rattle.operand_rules.proofs.Sorts.{three}
+use Rattle.shift_rules.proofs.shifts.RightBinary.check.Goals as goal
+
+pub returns : goal.returns
+returns c = let k = c.args.kept.now in
+    λ s t e d. bits_end held k c.requires.claimed _
+    (c.lshr-bits.ensures ∙ three (lshr _) (c.width_bits.ensures s e) e.bits d.bits ∙ sym (lshr_hom (store_hom k) (size_bits s) _ _))
+    c.compare_bits.ensures
