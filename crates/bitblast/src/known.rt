@@ -5,7 +5,6 @@ ghost use Rattle.sweeps.specs.Calls.{values_after, written};
 ghost use Rattle.runs.specs.Walking.{told, job_call};
 ghost use Rattle.bitblast.specs.Asking.{known_call};
 
-use crate::count::code;
 use partial::number::known_number;
 use runs::finished::{outcome_of, run_job};
 use runs::{Outcome, lend};
@@ -50,7 +49,7 @@ pub fn bb_known(
     };
     table::wipe(work);
     Known {
-        code: code(known),
+        code: known.err().map_or(0, u32::from),
         outcome: outcome_of(s),
     }
 }

@@ -30,19 +30,16 @@ impl Swept {
         ensures numbers { as_swept result ≡ swept_by swept }
         ensures outcome { result.outcome ≡ outcome }
     {
-        match swept {
-            Ok(r) => Swept {
-                code: 0,
-                assignments: r.assignments,
-                differing: r.differing,
-                outcome,
-            },
-            Err(refusal) => Swept {
-                code: u32::from(refusal),
-                assignments: 0,
-                differing: 0,
-                outcome,
-            },
+        let none = sweeper::Swept {
+            assignments: 0,
+            differing: 0,
+        };
+        let counts = swept.unwrap_or(none);
+        Swept {
+            code: swept.err().map_or(0, u32::from),
+            assignments: counts.assignments,
+            differing: counts.differing,
+            outcome,
         }
     }
 }

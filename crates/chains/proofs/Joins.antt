@@ -329,7 +329,7 @@ module _ (p : Past) where
 
 module _ (p : Past) (premises : Args) where
   -- the arguments of two terms, as many as premises
-  module _ {xs ys : Operands} (h : Arguing p premises xs ys) where
+  module _ {xs ys : Operands} (h : Arguing p xs ys) where
     pub other_left : (count_of xs ≡ premises.count → ⊥)
         → false ≡ argued (kept_terms p.terms) (all_sides_told p premises) (numbers_of p.terms.job.now xs) (numbers_of p.terms.job.now ys)
     other_left f =
@@ -344,14 +344,14 @@ module _ (p : Past) (premises : Args) where
 
     module _ (left : count_of xs ≡ premises.count) (right : count_of ys ≡ premises.count) {i : ℕ} where
       -- the arguments at place i are kept
-      pub arguments_join : i < premises.count → {x y : ℕ} → x ≡ get_or (numbers_of p.terms.job.now xs) i 0 → y ≡ get_or (numbers_of p.terms.job.now ys) i 0
-          → Joining p premises x y
-      arguments_join t {x} {y} e f =
+      pub arguments_below : i < premises.count → {x y : ℕ} → x ≡ get_or (numbers_of p.terms.job.now xs) i 0 → y ≡ get_or (numbers_of p.terms.job.now ys) i 0
+          → (x < first_terms + p.terms.rows) × (y < first_terms + p.terms.rows)
+      arguments_below t {x} {y} e f =
           let m = count_length p.terms.job.now xs in
           let n = count_length p.terms.job.now ys in
           let a = number_below (first_terms + p.terms.rows) (numbers_of p.terms.job.now xs) i h.left_below (omega arith) in
           let b = number_below (first_terms + p.terms.rows) (numbers_of p.terms.job.now ys) i h.right_below (omega arith) in
-          record { inside = h.inside; left = omega (arith, a, e); right = omega (arith, b, f) }
+          (omega (arith, a, e), omega (arith, b, f))
 
       module _ (v : Comparing p premises (numbers_of p.terms.job.now xs) (numbers_of p.terms.job.now ys) i) where
         pub argue_end : premises.count ≤ i

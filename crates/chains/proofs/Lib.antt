@@ -1,3 +1,4 @@
 pub mod Standing
+pub mod Passing
 pub mod Joins
 pub mod Verdicts

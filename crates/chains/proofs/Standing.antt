@@ -8,14 +8,14 @@ use native.Mathlib.Omega.{arith}
 use lib.Dec.{leb, ltb, eqb}
 use lib.ListN.{length, get_or, length-map}
 use Rattle.std.specs.Prelude.{slice_get as get_elem?}
+use Rattle.std.specs.Bool.{then_some}
 use borrow.Author.Tests.{eq-eqb, ne_eqb, le-leb}
 use Rattle.theory.specs.Limit.{first_terms}
-use Rattle.theory.specs.Term.{Term}
-use Rattle.theory.specs.Optional.{either, is_some, cons_some}
+use Rattle.theory.specs.Optional.{either}
 use Rattle.theory.specs.Record.{Bytes, read, claim_of, number_length}
 use Rattle.theory.specs.Record as R
-use Rattle.theory.specs.Plain.{Plain, at_place}
-use Rattle.theory.specs.Chain.{Earlier, Sides, sides, premise_place, premise_at, premises_at}
+use Rattle.theory.specs.Plain.{at_place}
+use Rattle.theory.specs.Chain.{Earlier, Sides, sides, premise_place, premise_at}
 use Rattle.theory.proofs.Basics.{none_some, some_inj, get_elem_of, get_elem_lt}
 use Rattle.theory.proofs.Places.{tree_at, at_place_is}
 use Rattle.theory.proofs.Origins.{Mark, before, standing, all_standing}
@@ -175,10 +175,14 @@ module _ (job work memory : Bytes) (n answered : ℕ) where
         pub premise_claims_none : none ≡ claimed_at job place → none ≡ premise_place E number
         premise_claims_none f = sym (premise_left f)
 
-        pub premise_stands : {p : ℕ} → some p ≡ claimed_at job place → {b : Bool} → b ≡ origin_before job work n p place → cond b (some p) none ≡ premise_place E number
+        pub premise_stands : {p : ℕ} → some p ≡ claimed_at job place → {b : Bool} → b ≡ origin_before job work n p place → then_some b p ≡ premise_place E number
         unfolding origin_before
-        premise_stands {p} f {b} h = sym (premise_left f ∙ go (get_elem? (origins job work n) p) ∙ ap (λ (c : Bool). cond c (some p) none) (sym h))
+        premise_stands {p} f {b} h = sym (premise_left f ∙ go (get_elem? (origins job work n) p) ∙ ap (λ (c : Bool). cond c (some p) none) (sym h) ∙ kept b)
           where
+            kept : (c : Bool) → cond c (some p) none ≡ then_some c p
+            kept true = refl
+            kept false = refl
+
             go : (q : Option ℕ) → before q place p ≡ cond (either false (λ (o : ℕ). leb o place) q) (some p) none
             go none = refl
             go (some o) = refl
@@ -244,24 +248,3 @@ module _ (p : Past) (k : ℕ) where
 
   pub place_told : {c : ℕ} → c ≡ step_place p.answers.bytes p.answers.memory.now k → c ≡ step_place (number_length p.terms.job.now) p.answers.memory.now k
   place_told f = f ∙ ap (λ (b : ℕ). step_place b p.answers.memory.now k) p.depth_bytes
-
--- ---- all premises of a list: the test is that of what is left
-abbrev pub all_there : Earlier → Plain → List ℕ → Bool
-all_there earlier list ks = is_some (premises_at earlier list ks)
-
-there_cons : (earlier : Earlier) (list : Plain) (k : ℕ) (ks : List ℕ) (t : Term) → premise_at earlier list k ≡ some t → all_there earlier list (k ∷ ks) ≡ all_there earlier list ks
-there_cons earlier list k ks t e = ap (λ (q : Option Term). is_some (cons_some q (premises_at earlier list ks))) e ∙ go (premises_at earlier list ks)
-  where
-    go : (q : Option (List Term)) → is_some (cons_some (some t) q) ≡ is_some q
-    go none = refl
-    go (some ts) = refl
-
-module _ (earlier : Earlier) (list : Plain) {whole : Bool} {rest : List ℕ} (w : whole ≡ all_there earlier list rest) where
-  pub pass_turn : {k : ℕ} {others : List ℕ} → rest ≡ k ∷ others → {t : Term} → premise_at earlier list k ≡ some t → whole ≡ all_there earlier list others
-  pass_turn {k} {others} d {t} e = w ∙ ap (all_there earlier list) d ∙ there_cons earlier list k others t e
-
-  pub pass_fails : {k : ℕ} {others : List ℕ} → rest ≡ k ∷ others → premise_at earlier list k ≡ none → false ≡ whole
-  pass_fails {others = others} d e = sym (w ∙ ap (all_there earlier list) d ∙ ap (λ (q : Option Term). is_some (cons_some q (premises_at earlier list others))) e)
-
-  pub pass_end : rest ≡ [] → true ≡ whole
-  pass_end d = sym (w ∙ ap (all_there earlier list) d)

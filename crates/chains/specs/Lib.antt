@@ -2,3 +2,4 @@
 pub mod Premises
 pub mod Told
 pub mod Rules
+pub mod Claims

@@ -50,9 +50,8 @@ pub record Joining (p : Past) (premises : Args) (l r : ℕ) : Type 0 where
   pub left : l < first_terms + p.terms.rows
   pub right : r < first_terms + p.terms.rows
 
--- and the arguments of both sides
-pub record Arguing (p : Past) (premises : Args) (xs ys : Operands) : Type 0 where
-  pub inside : Inside p.terms.job.now premises
+-- the arguments of both sides
+pub record Arguing (p : Past) (xs ys : Operands) : Type 0 where
   pub left_placed : OperandsPlaced p.terms.job.now xs
   pub left_below : all_below (first_terms + p.terms.rows) (numbers_of p.terms.job.now xs) ≡ true
   pub right_placed : OperandsPlaced p.terms.job.now ys

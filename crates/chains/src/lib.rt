@@ -15,9 +15,9 @@ ghost use Rattle.terms.specs.Decoded.{Inside};
 ghost use Rattle.store.specs.KeptTerms.{kept_term};
 ghost use Rattle.operand_rules.specs.Rules.{verdict_of};
 ghost use Rattle.chains.specs.Rules.{rule_of, Decodes};
-ghost use Rattle.chains.specs.Told.{premises_told, joins_told, Joining};
+ghost use Rattle.chains.specs.Told.{premises_told};
 
-use crate::joining::{cong, symm, trans};
+use crate::joining::Claim;
 use crate::premises::Past;
 use operand_rules::Verdict;
 use rules::UnknownRule;
@@ -46,18 +46,6 @@ impl TryFrom<u32> for ChainRule {
     }
 }
 
-// Do the premises join to the claim (= l r) by that rule?
-fn joins_by(past: &Past, rule: ChainRule, premises: Args, l: u32, r: u32) -> bool
-    requires { Joining past.now premises l r }
-    ensures { result ≡ joins_told past.now (rule_of rule) premises l r }
-{
-    match rule {
-        ChainRule::Symm => symm(past, premises, l, r),
-        ChainRule::Trans => trans(past, premises, l, r),
-        ChainRule::Cong => cong(past, premises, l, r),
-    }
-}
-
 // Why a chain is not held: a premise is broken, or else its form is wrong.
 fn refused(past: &Past, premises: Args) -> Verdict
     requires { Inside past.now.terms.job.now premises }
@@ -79,10 +67,16 @@ pub fn verdict_by(past: &Past, rule: ChainRule, premises: Args, literal: u32) ->
     ensures { verdict_of result ≡ joined (rule_of rule) (premises_told past.now premises)
         (kept_term past.now.terms literal) }
 {
-    let Term::Equals(l, r) = past.terms.term_on(literal) else {
+    let Term::Equals(left, right) = past.terms.term_on(literal) else {
         return refused(past, premises);
     };
-    if joins_by(past, rule, premises, l, r) {
+    let claim = Claim {
+        past,
+        premises,
+        left,
+        right,
+    };
+    if claim.joins_by(rule) {
         return Verdict::Held;
     }
     refused(past, premises)

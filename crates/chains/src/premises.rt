@@ -10,6 +10,7 @@ ghost use Rattle.theory.proofs.Facts.{kept_facts};
 ghost use Rattle.terms.specs.Decoded.{Inside};
 ghost use Rattle.chains.specs.Premises.{claimed_at, Noted};
 
+use operand_rules::Verdict;
 use rows::{FIRST_PLACE, offset_at};
 use steps::answers::Answers;
 use store::shelf::Terms;
@@ -75,16 +76,12 @@ impl<'a, 'b> Past<'a, 'b> {
         if self.answers.count <= k {
             return None;
         }
-        if self.answers.code_at(k) != 0 {
+        if self.answers.code_at(k) != Verdict::Held as usize {
             return None;
         }
         let at = self.answers.place_at(k);
         let p = claimed(self.terms.job, at)?;
-        if self.kept_before(p, at) {
-            Some(p)
-        } else {
-            None
-        }
+        self.kept_before(p, at).then_some(p)
     }
 
     // May each of these be a premise?
@@ -92,12 +89,9 @@ impl<'a, 'b> Past<'a, 'b> {
         requires { Inside self.now.terms.job.now premises }
         ensures { result ≡ is_some (premises_told self.now premises) }
     {
-        for k in premises.numbers(self.terms.job) {
-            let Some(_) = self.premise_at(k) else {
-                return false;
-            };
-        }
-        true
+        premises
+            .numbers(self.terms.job)
+            .all(|k| self.premise_at(k).is_some())
     }
 
     // The sides of the premise with that number, where it may be one and is an equality.

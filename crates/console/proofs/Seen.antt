@@ -2,11 +2,11 @@
 use Rattle.std.proofs.Common.{◌≡◌, ◌+◌, ◌<◌, inl, inr, ℕ, [], ◌++◌, length, take, None, Some, IfSome, Option, refl, sym, ap, ◌∙◌, subst, arith, append-nil, length-append, le-leb}
 use lib.Seq.{take-append_seam}
 use Rattle.std.proofs.lemmas.Bool.Decides.{leb_tells}
-use Rattle.std.specs.Io.KnownBytes.{Appends, Consumes, IsAtEnd}
+use Rattle.std.specs.Io.KnownBytes.{Appends}
 use Rattle.theory.specs.Record.{Bytes}
 use Rattle.theory.specs.Program.{memory, bbcheck}
 use Rattle.report.specs.Text.{written}
-use Rattle.console.specs.Shown.{text_space, shown}
+use Rattle.console.specs.Shown.{text_space, shown, Checked}
 use Rattle.console.proofs.Showing.{of_long}
 
 -- what is lent holds all of the input, or only says that it is too long
@@ -17,13 +17,11 @@ by_start start rest h =
       | inr e ↦ sym (of_long (start ++ rest) (omega (arith, e.1, length-append start rest))) ∙ of_long start e.1
     ]
 
--- a text that was written is that of all that the reader had
-pub text_of_all : (a b d e : Option Bytes) (start text : Bytes) → Consumes a b start → (length start < memory + 1 → IsAtEnd b) → text ≡ bbcheck start
-    → Appends d e text → IfSome a (λ xs. Appends d e (bbcheck xs))
-text_of_all None b d e start text c q t w = tt
-text_of_all (Some xs) None d e start text c q t w = absurd c
-text_of_all (Some xs) (Some ys) d e start text c q t w =
-    subst (Appends d e) (t ∙ sym (by_start start ys q) ∙ ap bbcheck (sym c)) w
+-- what was written is the text of all that the reader had
+pub text_of_all : (a b d e : Option Bytes) {size : ℕ} → Checked a b d e size → IfSome a (λ xs. Appends d e (bbcheck xs))
+text_of_all None b d e c = tt
+text_of_all (Some xs) None d e c = absurd c.read
+text_of_all (Some xs) (Some ys) d e c = subst (Appends d e) (sym (by_start c.input ys c.whole) ∙ ap bbcheck (sym c.read)) c.wrote
 
 -- the text stands at the start of a memory that is long enough
 pub text_first : (input old : Bytes) (n : ℕ) → length old ≡ text_space → n ≡ length (shown input (length old)) → take n (written (shown input (length old)) old) ≡ bbcheck input

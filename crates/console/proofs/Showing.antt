@@ -1,7 +1,7 @@
 -- The text of a job is theory's, case by case.
 use mathlib.Core.Path.{◌≡◌, refl, sym, ap, ap₂, ◌∙◌}
 use mathlib.Core.Bool.{Bool, true, false}
-use mathlib.Core.List.{List, ◌++◌}
+use mathlib.Core.List.{List, [], ◌++◌}
 use Prim.Native.Nat.{ℕ, ◌+◌, ◌*◌, ◌/◌, ◌≤◌, ◌<◌}
 use native.Mathlib.Omega.{arith}
 use borrow.Author.Tests.{le-leb, lt-leb}
@@ -15,7 +15,7 @@ use Rattle.theory.proofs.Bounds.{run_fits}
 use Rattle.theory.proofs.Lengths.{either_length}
 use Rattle.theory.proofs.Written.{answers_read, answers_kept}
 use Rattle.report.specs.Text.{head_space, line_space, report_text, too_long, written}
-use Rattle.console.specs.Shown.{text_space, shown, Printed}
+use Rattle.console.specs.Shown.{text_space, shown}
 
 -- the two cases of `bbcheck`
 module _ (input : Bytes) where
@@ -30,6 +30,16 @@ module _ (input : Bytes) where
   unfolding bbcheck told
   of_long h = sym (ap told (lt-leb (length input) memory h))
 
+-- the two cases of `shown` that need no run
+module _ (input : Bytes) (space : ℕ) where
+  pub shown_none : space < text_space → shown input space ≡ []
+  unfolding shown
+  shown_none h = rw (lt-leb _ _ h) refl
+
+  pub shown_long : text_space ≤ space → memory < length input → shown input space ≡ too_long space
+  unfolding shown too_long
+  shown_long h l = sym (rw (le-leb text_space space h, le-leb head_space space (omega arith)) (of_long input l))
+
 module _ (input old : Bytes) where
   -- a memory is left as `bbcheck` says, and so many bytes of it are the text
   abbrev pub Showed : Bytes → ℕ → Type 0
@@ -41,14 +51,6 @@ module _ (input old : Bytes) where
       let l : length new ≡ length text + length (drop (length text) old) = ap length w.0 ∙ length-append text (drop (length text) old) in
       let q = w.1 in
       (w.0 ∙ ap (λ (t : Bytes). written t old) e, (w.1 ∙ ap length e, omega arith))
-
-  pub none_shown : length old < text_space → Showed old 0
-  unfolding shown
-  none_shown h = rw (lt-leb _ _ h) (refl, (refl, omega arith))
-
-  pub long_shown : text_space ≤ length old → memory < length input → too_long (length old) ≡ shown input (length old)
-  unfolding shown too_long
-  long_shown h l = rw (le-leb text_space (length old) h, le-leb head_space (length old) (omega arith)) (of_long input l)
 
   -- no more answers fit than short ones
   few_answers : (n : ℕ) → answer_bytes (number_length input) * n ≤ memory → n ≤ memory / answer_bytes number_bytes
@@ -88,7 +90,3 @@ unfolding shown
 all_shown input space h e =
     let whole : length (shown input space) ≡ length (bbcheck input) = rw (le-leb text_space space (omega arith)) refl in
     e ∙ whole
-
--- an input that was read, and its text in a memory that is long enough
-pub printed : (input : Bytes) (space : ℕ) {size : ℕ} → space ≡ text_space → length input ≤ memory + 1 → size ≡ length (shown input space) → Printed size
-printed input space h l e = record { input = input; short = l; size_is = all_shown input space h e }

@@ -23,6 +23,7 @@ const TEXT_SPACE: usize = HEAD_SPACE + MEMORY / ANSWER_BYTES * LINE_SPACE;
 
 // Writes what `bbcheck` prints for an input, and answers how many bytes that is. Nothing is written
 // where `out` has not the space for any such text.
+#[tactic(auto, using(crate::proofs::Showing::shown_none, crate::proofs::Showing::shown_long))]
 pub fn bbcheck_text(input: &[u8], out: &mut [u8]) -> usize
     ensures memory { out.new
         ≡ written (shown input.now (length out.old)) out.old }

@@ -1,17 +1,13 @@
 -- The tests of a step, as the code makes them one after the other.
-use mathlib.Core.Path.{◌≡◌, refl, sym, ap, subst, ◌∙◌}
+use mathlib.Core.Path.{◌≡◌, ap, ◌∙◌}
 use mathlib.Core.Bool.{Bool, true, false, cond}
 use mathlib.Core.List.{List, [], ◌∷◌}
-use Prim.Native.Nat.{ℕ, zero, suc, ◌+◌, ◌-◌, ◌*◌, ◌<◌, ◌≤◌}
+use Prim.Native.Nat.{ℕ, suc, ◌+◌, ◌-◌, ◌*◌, ◌<◌, ◌≤◌}
 use native.Mathlib.Omega.{arith}
-use native.Mathlib.Decide.{dec_le}
 use lib.Dec.{leb}
 use lib.ListN.{length, drop}
-use Rattle.std.specs.Prelude.{slice_get as get_elem?}
-use borrow.Author.Tests.{eq-eqb, ne_eqb, le-leb, lt-leb, lt-ltb, le-ltb}
+use borrow.Author.Tests.{eq-eqb, ne_eqb, lt-ltb, le-ltb}
 use Rattle.theory.specs.Limit.{answer_bytes}
-use Rattle.theory.specs.Optional.{is_some}
-use Rattle.theory.specs.RuleTable.{Rule, rules, rule_at}
 use Rattle.theory.specs.Record.{Bytes, word, whole, kind_of, body_of, long_kind}
 use Rattle.terms.specs.Framing.{record_at}
 use Rattle.terms.proofs.Parts.{length_part}
@@ -39,12 +35,6 @@ module _ (b terms space answered : ℕ) (known : Bool) (ks : List ℕ) where
   pub fault_room : all_below terms ks ≡ true → known ≡ true → {c : ℕ} → c ≡ cond (leb (answer_bytes b * suc answered) space) 0 19
       → c ≡ first_fault (step_tests b terms space answered known ks)
   fault_room a k e = e ∙ rw (a, k)
-
--- there is no room for one more answer, of so many bytes
-pub no_room : (b space answered : ℕ) {size : ℕ} → size ≡ 8 + b → space - size * answered < size → ◌≡◌ {A = ℕ} 19 (cond (leb (answer_bytes b * suc answered) space) 0 19)
-no_room b space answered {size} e h =
-    let k : space - (8 + b) * answered < 8 + b = subst (λ (z : ℕ). space - z * answered < z) e h in
-    rw (lt-leb (answer_bytes b * suc answered) space (omega arith))
 
 -- ---- a record that says no term, step, chain or back: the job's first may ask for long numbers
 module _ (place : ℕ) (r : Bytes) where

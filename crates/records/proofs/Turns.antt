@@ -40,7 +40,7 @@ use Rattle.rows.specs.Rows.{offsets}
 use Rattle.store.specs.declared.shelf.Terms.{Terms}
 use Rattle.store.specs.KeptTerms.{Holds, kept_terms, kept_term}
 use Rattle.store.specs.Store.{Store, listed}
-use Rattle.intern.specs.Interning.{CutBack, Offered, Taken, with_term, answer_for}
+use Rattle.intern.specs.Interning.{CutBack, Taken, with_term, answer_for}
 use Rattle.intern.specs.declared.Interned.{Interned}
 use Rattle.intern.specs.declared.Interned.TheVariants as N
 use Rattle.steps.specs.declared.answers.Reply.{Reply}
@@ -182,16 +182,6 @@ abbrev pub kept_turn : ℕ → Result Interned Stop → Result Turn Stop
 kept_turn answered (Err s) = Err s
 kept_turn answered (Ok (N.Found n)) = Ok (turn answered n 1)
 kept_turn answered (Ok (N.New n)) = Ok (turn answered n 0)
-
--- what `intern` asks of a term that it is offered
-pub offered : {job work : Bytes} {rows at : ℕ} {t : Term} → Reading job work rows at (I.Term t) → all_below (rows + first_terms) (arguments_of job t) ≡ true → Offered job work rows at t
-offered {job} {work} {rows} {at} {t} g e =
-    let same : first_terms + rows ≡ rows + first_terms = omega arith in
-    record {
-      arguments = record { store = g.store; placed = g.placed; below = ap (λ (n : ℕ). all_below n (arguments_of job t)) same ∙ e };
-      stands = g.stands;
-      says = g.says;
-    }
 
 module _ (limits : Limits) (place : ℕ) {job work : Bytes} {rows at : ℕ} {t : Term} (g : Reading job work rows at (I.Term t)) (answers : Bytes) (answered : ℕ) where
   -- as many terms are kept as the code counts

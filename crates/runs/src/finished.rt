@@ -2,7 +2,7 @@
 ghost use Rattle.std.specs.Prelude.{◌≡◌};
 ghost use Rattle.theory.specs.Limit.{rack};
 ghost use Rattle.intern.specs.Interning.{limits_of};
-ghost use Rattle.runs.specs.Walking.{stop_number, told, reached};
+ghost use Rattle.runs.specs.Walking.{told, reached};
 ghost use Rattle.runs.specs.Finished.{Finished, Small};
 
 use crate::walk::{State, walk};
@@ -42,23 +42,13 @@ pub fn run_job(job: &[u8], work: &mut [u8], answers: &mut [u8]) -> State
     run_within(job, work, answers, rack)
 }
 
-// The code of what stopped a job, 0 of nothing.
-fn code(stop: Option<Stop>) -> u32
-    ensures { result ≡ stop_number stop }
-{
-    match stop {
-        None => 0,
-        Some(s) => u32::from(s),
-    }
-}
-
 // What the host is told of a job that ended so.
 pub fn outcome_of(s: State) -> Outcome
     requires { Small s }
     ensures { told result ≡ reached s }
 {
     Outcome {
-        stop: code(s.stop),
+        stop: s.stop.map_or(0, u32::from),
         records: s.records as u32,
         answers: s.answers as u32,
         terms: (s.rows + FIRST_PLACE) as u32,

@@ -53,9 +53,7 @@ fn next(
         work.new answers.new (stood s.new result) }
     ensures stays { (stop : Stop) → result ≡ Err stop → s.new ≡ s.old }
 {
-    let Some(size) = Term::frame(job, s.at) else {
-        return Err(Stop::Cut);
-    };
+    let size = Term::frame(job, s.at).ok_or(Stop::Cut)?;
     let t = take_record(
         job, work, answers, limits, s.rows, s.answers, s.records, s.at,
     )?;

@@ -48,7 +48,7 @@ impl Tally {
         ensures { as_tally self.new
             ≡ tally_after (as_tally self.old) (answers_in count answers.now) }
     {
-        let counted = Answers::whole(answers, count);
+        let counted = WholeAnswers::new(answers, count);
         self.jobs = self.jobs.saturating_add(1);
         self.held = self.held.saturating_add(counted.of(Class::Held));
         self.form_only = self.form_only.saturating_add(counted.of(Class::FormOnly));
@@ -82,7 +82,7 @@ fn one_if(code: u32, class: Class) -> u64
 
 // So many answers, which the memory has whole, each with a depth of so many bytes.
 #[derive(Clone, Copy)]
-struct Answers<'a> {
+struct WholeAnswers<'a> {
     memory: &'a [u8],
     bytes: usize,
     count: usize,
@@ -90,16 +90,16 @@ struct Answers<'a> {
     ghost room: { count * answer_bytes bytes ≤ length memory.now } by { Prim.hlevel kept_facts },
 }
 
-impl<'a> Answers<'a> {
+impl<'a> WholeAnswers<'a> {
     ghost use Rattle.tally.specs.Listed.{listed};
 
     // The first `count`, or the whole ones where the memory is shorter.
-    fn whole(memory: &'a [u8], count: u32) -> Answers<'a>
+    fn new(memory: &'a [u8], count: u32) -> WholeAnswers<'a>
         ensures { listed result ≡ answers_in count memory.now }
     {
         let bytes = depth_length(memory);
         let count = (count as usize).min(memory.len() / (DEPTH_AT + bytes));
-        Answers {
+        WholeAnswers {
             memory,
             bytes,
             count,

@@ -15,8 +15,9 @@ pub returns-clause-code : goal.returns-clause-code
 returns-clause-code c =
     let a = c.args in
     let f = c.run_job-s.ensures in
+    let coded : c.map_or.result ≡ code_of c.match-s.known = search rules in
     let code = λ (x : Derived). x.code in
-    lent_known _ _ _ _ _ c.lend-n.ensures.part (search rules) code (length a.values.now) a.number a.inputs.now (length a.outputs.now) (c.code.ensures ∙ elim c.match-s.branch [
+    lent_known _ _ _ _ _ c.lend-n.ensures.part (search rules) code (length a.values.now) a.number a.inputs.now (length a.outputs.now) (coded ∙ elim c.match-s.branch [
       | in-None w ↦ ap code_of w.known-is ∙ w.known_number-known.ensures.code ∙ ap code (known_went f w.in-None.is (length a.values.now) a.number a.inputs.now (length a.outputs.now))
       | in-Some w ↦ ap code_of w.known-is ∙ ap code (sym (known_stopped f (was_stopped w.in-Some.is) (length a.values.now) a.number a.inputs.now (length a.outputs.now)))
     ])

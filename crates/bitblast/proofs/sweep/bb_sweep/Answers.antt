@@ -1,5 +1,5 @@
 -- `bb_sweep`: the equality that is asked is that of the run's final store, in the part of the memory that the job is given.
-use mathlib.Core.Path.{◌≡◌, ap, ◌∙◌}
+use mathlib.Core.Path.{ap, ◌∙◌}
 use lib.ListN.{length}
 use borrow.Author.Rules.{rules}
 use Rattle.sweeper.specs.Sweeping.{as_swept}

@@ -13,5 +13,5 @@ returns c = rw (
   c.of.ensures,
   c.of-2.ensures,
   c.of-3.ensures,
-  c.whole-counted.ensures,
+  c.new-counted.ensures,
 ) refl

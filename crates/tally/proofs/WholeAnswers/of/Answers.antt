@@ -1,5 +1,5 @@
 use Rattle.tally.proofs.Counting.{counted_turn, counted_end}
-use Rattle.tally.proofs.Answers.of.Goals as goal
+use Rattle.tally.proofs.WholeAnswers.of.Goals as goal
 
 pub loop-answer-preserved : goal.loop-answer-preserved
 loop-answer-preserved c = let h = c.in-Some.ensures.steps in

@@ -5,7 +5,7 @@ use Rattle.theory.specs.Tally.{how_many}
 use Rattle.tally.specs.Counted.{belongs}
 use Rattle.tally.specs.Listed.{listed}
 use Rattle.tally.proofs.Counting.{Counted}
-use Rattle.tally.proofs.Answers.of.Given as goal
+use Rattle.tally.proofs.WholeAnswers.of.Given as goal
 
 abbrev pub invariant-loop-answer : goal.invariant-loop-answer
 invariant-loop-answer l =
