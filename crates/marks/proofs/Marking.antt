@@ -2,63 +2,33 @@
 use mathlib.Core.Path.{◌≡◌, refl, sym, ap, subst, ◌∙◌}
 use mathlib.Core.Bool.{Bool, true, false, ◌||◌}
 use mathlib.Core.List.{List, [], ◌∷◌, map}
-use Prim.Native.Nat.{ℕ, ◌+◌, ◌-◌, ◌*◌, ◌≤◌, ◌<◌}
+use Prim.Native.Nat.{ℕ, ◌+◌, ◌-◌, ◌≤◌, ◌<◌}
 use native.Mathlib.Omega.{arith}
 use lib.Dec.{T, ltb, eqb, ltb→lt, eqb→eq}
 use lib.Ieee.Fits.{and_l, and_r}
 use lib.ListN.{length}
 use borrow.Author.Tests.{eq-eqb, eqb-true, eqb-false}
-use Rattle.rows.specs.Layout.{row_size, link_bytes, link_size}
+use Rattle.rows.specs.Layout.{link_bytes}
 use Rattle.theory.specs.Limit.{first_terms}
 use Rattle.theory.specs.Term.{Term, Terms, node, nil, cons, from_list}
-use Rattle.theory.specs.Record.{Bytes, number_length}
+use Rattle.theory.specs.Record.{Bytes}
 use Rattle.theory.specs.Plain.{Plain}
 use Rattle.theory.specs.Claim.{element}
 use Rattle.theory.specs.Codes.{all_below}
 use Rattle.theory.proofs.Basics.{T_same, true_T, or_left, or_right}
 use Rattle.theory.proofs.Places.{tree_at, more_below}
-use Rattle.theory.specs.Listed.{AllGood}
 use Rattle.theory.proofs.Distinct.{WellKept, kept_at, trees_distinct}
-use Rattle.terms.specs.Framing.{record_at}
-use Rattle.rows.specs.Rows.{kept, kept_as}
-use Rattle.rows.proofs.RowLaws.{column_same}
-use Rattle.store.specs.Store.{stored, listed, records}
 use Rattle.terms.specs.declared.Term.{Term as Decoded}
 use Rattle.terms.specs.declared.Operands.{Operands}
 use Rattle.terms.specs.Decoded.{OperandsPlaced, operands_of, arguments_of, numbers_of}
-use Rattle.store.specs.Measure.{measure}
-use Rattle.store.specs.Shelf.{Shelf, item_args, args_at, TermOn}
+use Rattle.store.specs.Shelf.{item_args, args_at, TermOn}
 use Rattle.sweeps.specs.Variables.{stands, stands_any}
 use Rattle.sweeps.proofs.Standing.{stands_self, stands_in, stands_first, stands_rest, stands_cases, any_cases}
 use Rattle.sweeps.proofs.Placing.{placed}
-use Rattle.marks.specs.Marks.{mark_of, Room, Rooms, Kept, Cleared, Set, SetAll, SetTerm, Reaches}
-use Rattle.marks.proofs.MarkLaws.{kept_self, kept_more, room_kept, room_in, rooms_in}
-
--- ---- the same list
-kept_same : (job : Bytes) {work now : Bytes} (n : ℕ) → Kept job work now → kept job now n ≡ kept job work n
-unfolding kept_as
-kept_same job n e = column_same _ _ n (λ k h. ap (record_at job) (e.offset k))
-
-pub listed_same : (job : Bytes) {work now : Bytes} (n : ℕ) → Kept job work now → listed job now n ≡ listed job work n
-listed_same job n e = ap (stored (number_length job)) (kept_same job n e)
-
-pub shelf_kept : {job work now : Bytes} {n : ℕ} → Shelf job work n → Kept job work now → Shelf job now n
-shelf_kept {job} {work} {now} {n} s e =
-    let l = listed_same job n e in
-    record {
-      rows = record {
-        link_length = s.rows.link_length;
-        short = s.rows.short;
-        few = s.rows.few;
-        room = subst (λ (z : ℕ). n * row_size (link_size job) ≤ z) (sym e.length_is) s.rows.room;
-        inside = λ k h. rw (e.offset k) (s.rows.inside k h);
-      };
-      well = subst (WellKept (number_length job)) (sym l) s.well;
-      sorted = subst AllGood (sym l) s.sorted;
-      count = ap length l ∙ s.count;
-      records_are = ap records l ∙ s.records_are ∙ sym (kept_same job n e);
-      measures_are = λ k h. e.measure k ∙ s.measures_are k h ∙ ap (λ (list : Plain). measure (tree_at list (first_terms + k))) (sym l);
-    }
+use Rattle.marks.specs.Marks.{mark_of}
+use Rattle.marks.specs.Links.{is_marked, list_of, args_of, Kept, Cleared, Set, SetAll, SetTerm, Reaches}
+use Rattle.marks.specs.declared.links.Links.{Links}
+use Rattle.marks.proofs.LinkLaws.{kept_self, kept_more, args_same, low_kept}
 
 -- ---- what stands in a term that stands in another stands in that
 mutual
@@ -120,73 +90,70 @@ module _ {b : ℕ} (list : Plain) (w : WellKept b list) where
         subst (λ (z : ℕ). T (mark_of job work z)) (trees_distinct list w a.place p (omega (arith, a.low)) h a.is) a.has
 
 -- ---- on the way: the marked terms from k on have their arguments marked
-pub record Marking (job work : Bytes) (n asked : ℕ) (now : Bytes) (k : ℕ) : Type 0 where
-  pub shelf : Shelf job work n
-  pub low : asked < first_terms + n
+pub record Marking (start : Links) (asked : ℕ) (now : Links) (k : ℕ) : Type 0 where
+  pub low : asked < first_terms + start.rows
   pub most : k ≤ asked
-  pub kept : Kept job work now
-  pub top : T (mark_of job now asked)
-  pub last : (p : ℕ) → first_terms ≤ p → asked < p → p < first_terms + n → mark_of job now p ≡ false
-  pub sound : (p : ℕ) → first_terms ≤ p → p < first_terms + n → T (mark_of job now p) → T (stands (tree_at (listed job work n) p) (tree_at (listed job work n) asked))
-  pub closed : (p : ℕ) → k < p → first_terms ≤ p → p < first_terms + n → T (mark_of job now p) → (j : ℕ) → T (element j (args_at (number_length job) (listed job work n) p)) → T (mark_of job now j)
+  pub kept : Kept start now
+  pub top : T (is_marked now asked)
+  pub last : (p : ℕ) → first_terms ≤ p → asked < p → p < first_terms + start.rows → is_marked now p ≡ false
+  pub sound : (p : ℕ) → first_terms ≤ p → p < first_terms + start.rows → T (is_marked now p) → T (stands (tree_at (list_of start) p) (tree_at (list_of start) asked))
+  pub closed : (p : ℕ) → k < p → first_terms ≤ p → p < first_terms + start.rows → T (is_marked now p) → (j : ℕ) → T (element j (args_of start p)) → T (is_marked now j)
 
-pub T_none : (b : Bool) → (T b → ⊥) → b ≡ false
+T_none : (b : Bool) → (T b → ⊥) → b ≡ false
 T_none true f = absurd (f tt)
 T_none false f = refl
 
-in_list : {job work : Bytes} {n : ℕ} → Shelf job work n → {p : ℕ} → p < first_terms + n → p < length (listed job work n)
-in_list s h = omega (arith, s.count)
+in_list : (l : Links) {p : ℕ} → p < first_terms + l.rows → p < length (list_of l)
+in_list l h = omega (arith, l.shelf.count)
 
 or_cases : (P : Type 0) (a b : Bool) → T (a || b) → (T a → P) → (T b → P) → P
 or_cases P true b h f g = f tt
 or_cases P false b h f g = g h
 
-module _ {job work : Bytes} {n asked : ℕ} where
+module _ {start : Links} {asked : ℕ} where
   -- the arguments of a marked term are marked
-  pub marking_term : {now after : Bytes} {k : ℕ} → Marking job work n asked now k → first_terms ≤ k → T (mark_of job now k) → SetTerm job now n k after → Marking job work n asked after (k - 1)
+  pub marking_term : {now after : Links} {k : ℕ} → Marking start asked now k → first_terms ≤ k → T (is_marked now k) → SetTerm now k after → Marking start asked after (k - 1)
   marking_term {now} {after} {k} m h t r = record {
-    shelf = m.shelf;
     low = m.low;
     most = omega (arith, m.most);
     kept = kept_more m.kept r.kept;
     top = old asked m.top;
-    last = λ p a l b. last_after p a l b (element p (args_at (number_length job) (listed job work n) k)) refl;
-    sound = λ p a b z. or_cases _ (element p (args_at (number_length job) (listed job work n) k)) (mark_of job now p) (subst T (marks p) z)
-        (λ e. stands_trans _ _ _ (arg_stands (listed job work n) m.shelf.well k p h (in_list m.shelf k_low) e) (m.sound k h k_low t)) (m.sound p a b);
+    last = λ p a l b. last_after p a l b (element p (args_of start k)) refl;
+    sound = λ p a b z. or_cases _ (element p (args_of start k)) (is_marked now p) (subst T (marks p) z)
+        (λ e. stands_trans _ _ _ (arg_stands (list_of start) start.shelf.well k p h (in_list start k_low) e) (m.sound k h k_low t)) (m.sound p a b);
     closed = λ p l a b z j e. go p a b (subst T (marks p) z) j e (eqb p k) (eqb-true p k) (eqb-false p k) l;
   }
     where
-      k_low : k < first_terms + n
+      k_low : k < first_terms + start.rows
       k_low = omega (arith, m.most, m.low)
 
-      marks : (p : ℕ) → mark_of job after p ≡ element p (args_at (number_length job) (listed job work n) k) || mark_of job now p
-      marks p = r.marks_are p ∙ ap (λ (list : Plain). element p (args_at (number_length job) list k) || mark_of job now p) (listed_same job n m.kept)
+      marks : (p : ℕ) → is_marked after p ≡ element p (args_of start k) || is_marked now p
+      marks p = r.marks_are p ∙ ap (λ (ks : List ℕ). element p ks || is_marked now p) (args_same m.kept k)
 
-      old : (p : ℕ) → T (mark_of job now p) → T (mark_of job after p)
-      old p z = subst T (sym (marks p)) (or_right (element p (args_at (number_length job) (listed job work n) k)) (mark_of job now p) z)
+      old : (p : ℕ) → T (is_marked now p) → T (is_marked after p)
+      old p z = subst T (sym (marks p)) (or_right (element p (args_of start k)) (is_marked now p) z)
 
-      far : (p : ℕ) → k ≤ p → T (element p (args_at (number_length job) (listed job work n) k) || mark_of job now p) → T (mark_of job now p)
+      far : (p : ℕ) → k ≤ p → T (element p (args_of start k) || is_marked now p) → T (is_marked now p)
       far p l z =
-          or_cases _ (element p (args_at (number_length job) (listed job work n) k)) (mark_of job now p) z
-          (λ e. let b = arg_below (listed job work n) m.shelf.well k p h (in_list m.shelf k_low) e in absurd (omega arith)) (λ y. y)
+          or_cases _ (element p (args_of start k)) (is_marked now p) z
+          (λ e. let b = arg_below (list_of start) start.shelf.well k p h (in_list start k_low) e in absurd (omega arith)) (λ y. y)
 
-      last_after : (p : ℕ) → first_terms ≤ p → asked < p → p < first_terms + n → (b : Bool) → element p (args_at (number_length job) (listed job work n) k) ≡ b → mark_of job after p ≡ false
-      last_after p a l b true e = let q = arg_below (listed job work n) m.shelf.well k p h (in_list m.shelf k_low) (true_T _ e) in absurd (omega (arith, m.most))
-      last_after p a l b false e = marks p ∙ ap (λ (c : Bool). c || mark_of job now p) e ∙ m.last p a l b
+      last_after : (p : ℕ) → first_terms ≤ p → asked < p → p < first_terms + start.rows → (b : Bool) → element p (args_of start k) ≡ b → is_marked after p ≡ false
+      last_after p a l b true e = let q = arg_below (list_of start) start.shelf.well k p h (in_list start k_low) (true_T _ e) in absurd (omega (arith, m.most))
+      last_after p a l b false e = marks p ∙ ap (λ (c : Bool). c || is_marked now p) e ∙ m.last p a l b
 
       above : (p : ℕ) → k - 1 < p → (p ≡ k → ⊥) → k < p
       above p l f = omega arith
 
-      go : (p : ℕ) → first_terms ≤ p → p < first_terms + n → T (element p (args_at (number_length job) (listed job work n) k) || mark_of job now p) → (j : ℕ) → T (element j (args_at (number_length job) (listed job work n) p))
-          → (b : Bool) → (b ≡ true → p ≡ k) → (b ≡ false → p ≡ k → ⊥) → k - 1 < p → T (mark_of job after j)
+      go : (p : ℕ) → first_terms ≤ p → p < first_terms + start.rows → T (element p (args_of start k) || is_marked now p) → (j : ℕ) → T (element j (args_of start p))
+          → (b : Bool) → (b ≡ true → p ≡ k) → (b ≡ false → p ≡ k → ⊥) → k - 1 < p → T (is_marked after j)
       go p a b z j e true f g l =
-          subst T (sym (marks j)) (or_left (element j (args_at (number_length job) (listed job work n) k)) (mark_of job now j) (subst (λ (q : ℕ). T (element j (args_at (number_length job) (listed job work n) q))) (f refl) e))
+          subst T (sym (marks j)) (or_left (element j (args_of start k)) (is_marked now j) (subst (λ (q : ℕ). T (element j (args_of start q))) (f refl) e))
       go p a b z j e false f g l = let u = above p l (g refl) in old j (m.closed p u a b (far p (omega arith) z) j e)
 
   -- an unmarked term is passed by
-  pub marking_pass : {now : Bytes} {k : ℕ} → Marking job work n asked now k → first_terms ≤ k → mark_of job now k ≡ false → Marking job work n asked now (k - 1)
+  pub marking_pass : {now : Links} {k : ℕ} → Marking start asked now k → first_terms ≤ k → is_marked now k ≡ false → Marking start asked now (k - 1)
   marking_pass {now} {k} m h t = record {
-    shelf = m.shelf;
     low = m.low;
     most = omega (arith, m.most);
     kept = m.kept;
@@ -199,67 +166,54 @@ module _ {job work : Bytes} {n asked : ℕ} where
       above : (p : ℕ) → k - 1 < p → (p ≡ k → ⊥) → k < p
       above p l f = omega arith
 
-      go : (p : ℕ) → k - 1 < p → first_terms ≤ p → p < first_terms + n → T (mark_of job now p) → (j : ℕ) → T (element j (args_at (number_length job) (listed job work n) p))
-          → (b : Bool) → (b ≡ true → p ≡ k) → (b ≡ false → p ≡ k → ⊥) → T (mark_of job now j)
-      go p l a b z j e true f g = absurd (subst T (ap (mark_of job now) (f refl) ∙ t) z)
+      go : (p : ℕ) → k - 1 < p → first_terms ≤ p → p < first_terms + start.rows → T (is_marked now p) → (j : ℕ) → T (element j (args_of start p))
+          → (b : Bool) → (b ≡ true → p ≡ k) → (b ≡ false → p ≡ k → ⊥) → T (is_marked now j)
+      go p l a b z j e true f g = absurd (subst T (ap (is_marked now) (f refl) ∙ t) z)
       go p l a b z j e false f g = m.closed p (above p l (g refl)) a b z j e
 
-  -- at the end exactly what stands in the asked term is marked
-  pub marking_done : {now : Bytes} {k : ℕ} → Marking job work n asked now k → k < first_terms → Reaches job work n asked now
-  marking_done {now} {k} m h = record {
-    shelf = shelf_kept m.shelf m.kept;
-    list_is = listed_same job n m.kept;
-    length_is = m.kept.length_is;
-    marks_are = λ p a b. T_same (mark_of job now p) (stands (tree_at (listed job work n) p) (tree_at (listed job work n) asked)) (m.sound p a b)
-        (complete (listed job work n) m.shelf.well job now (λ q c d. m.closed q (omega arith) c (omega (arith, m.shelf.count))) asked (in_list m.shelf m.low) m.top p (in_list m.shelf b));
-    last = m.last;
+  -- at the end exactly what stands in the asked term is marked; the rows say what they said before the marks were taken off
+  pub marking_done : {old now : Links} {k : ℕ} → Kept old start → Marking start asked now k → k < first_terms → Reaches old asked now
+  marking_done {old} {now} {k} e m h = record {
+    kept = kept_more e m.kept;
+    marks_are = λ p a b. marks p a (low_kept e b) ∙ ap (λ (list : Plain). stands (tree_at list p) (tree_at list asked)) e.list_is;
+    last = λ p a l b. m.last p a l (low_kept e b);
   }
+    where
+      marks : (p : ℕ) → first_terms ≤ p → p < first_terms + start.rows → is_marked now p ≡ stands (tree_at (list_of start) p) (tree_at (list_of start) asked)
+      marks p a b = T_same (is_marked now p) (stands (tree_at (list_of start) p) (tree_at (list_of start) asked)) (m.sound p a b)
+          (complete (list_of start) start.shelf.well now.job.now now.work.now (λ q c d. m.closed q (omega arith) c (omega (arith, start.shelf.count))) asked (in_list start m.low) m.top p (in_list start b))
 
-  -- the same, if the rows were as before at the start
-  pub marks_moved : {mid now : Bytes} → Kept job work mid → Reaches job mid n asked now → Reaches job work n asked now
-  marks_moved {mid} e m = record {
-    shelf = m.shelf;
-    list_is = m.list_is ∙ listed_same job n e;
-    length_is = m.length_is ∙ e.length_is;
-    marks_are = λ p a b. m.marks_are p a b ∙ ap (λ (list : Plain). stands (tree_at list p) (tree_at list asked)) (listed_same job n e);
-    last = m.last;
-  }
+  pub marking_same : {now after : Links} {k : ℕ} → after ≡ now → Marking start asked now k → Marking start asked after k
+  marking_same {k = k} e m = subst (λ (l : Links). Marking start asked l k) (sym e) m
 
-  pub marking_same : {now after : Bytes} {k : ℕ} → after ≡ now → Marking job work n asked now k → Marking job work n asked after k
-  marking_same {k = k} e m = subst (λ (z : Bytes). Marking job work n asked z k) (sym e) m
-
-  pub marking_room : {now : Bytes} {k : ℕ} → Marking job work n asked now k → Room job now k
-  marking_room {now} {k} m = room_kept m.kept (room_in job work n m.shelf.rows.room k (omega (arith, m.most, m.low)))
-
-  pub marking_shelf : {now : Bytes} {k : ℕ} → Marking job work n asked now k → record { shelf : Shelf job now n; low : k < first_terms + n }
-  marking_shelf m = record { shelf = shelf_kept m.shelf m.kept; low = omega (arith, m.most, m.low) }
+  pub marking_low : {now : Links} {k : ℕ} → Marking start asked now k → k < first_terms + now.rows
+  marking_low m = omega (arith, m.most, m.low, m.kept.rows_are)
 
 -- only the asked term is marked at first
-pub marking_start : {job work : Bytes} {n asked : ℕ} → Shelf job work n → asked < first_terms + n → {mid now : Bytes} → Cleared job work n mid → Set job mid asked now → Marking job now n asked now asked
-marking_start {job} {work} {n} {asked} s l {mid} {now} c t = record {
-  shelf = shelf_kept s (kept_more c.kept t.kept);
-  low = l;
+pub marking_start : {old mid start : Links} {asked : ℕ} → asked < first_terms + old.rows → Cleared old mid → Set mid asked start → Marking start asked start asked
+marking_start {old} {mid} {start} {asked} l c t = record {
+  low = low_kept (kept_more c.kept t.kept) l;
   most = omega arith;
-  kept = kept_self job now;
-  top = true_T _ (t.marks_are asked ∙ ap (λ (b : Bool). b || mark_of job mid asked) (eq-eqb asked asked refl));
-  last = λ p a l b. T_none (mark_of job now p) (λ z. let e = only p a b z in absurd (omega arith));
-  sound = λ p a b m. subst (λ (z : ℕ). T (stands (tree_at (listed job now n) z) (tree_at (listed job now n) asked))) (sym (only p a b m)) (stands_self (tree_at (listed job now n) asked));
+  kept = kept_self start;
+  top = true_T _ (t.marks_are asked ∙ ap (λ (b : Bool). b || is_marked mid asked) (eq-eqb asked asked refl));
+  last = λ p a l b. T_none (is_marked start p) (λ z. let e = only p a b z in absurd (omega arith));
+  sound = λ p a b m. subst (λ (z : ℕ). T (stands (tree_at (list_of start) z) (tree_at (list_of start) asked))) (sym (only p a b m)) (stands_self (tree_at (list_of start) asked));
   closed = λ p k a b m. let e = only p a b m in absurd (omega arith);
 }
   where
-    only : (p : ℕ) → first_terms ≤ p → p < first_terms + n → T (mark_of job now p) → p ≡ asked
+    only : (p : ℕ) → first_terms ≤ p → p < first_terms + start.rows → T (is_marked start p) → p ≡ asked
     only p a b m =
-        or_cases (p ≡ asked) (eqb p asked) (mark_of job mid p) (subst T (t.marks_are p) m) (eqb→eq p asked) (λ z. absurd (subst T (c.clear p a b) z))
+        or_cases (p ≡ asked) (eqb p asked) (is_marked mid p) (subst T (t.marks_are p) m) (eqb→eq p asked) (λ z. absurd (subst T (c.clear p a (omega (arith, c.kept.rows_are, t.kept.rows_are))) z))
 
 -- ---- one term
 module _ {job work : Bytes} {n place : ℕ} {t : Decoded} {ops : Operands} (h : TermOn job work n place t) (e : ops ≡ operands_of t) where
-  pub term_ready : Shelf job work n → place < first_terms + n → record { placed : OperandsPlaced job ops; rooms : Rooms job work (numbers_of job ops) }
+  pub term_ready : place < first_terms + n → record { placed : OperandsPlaced job ops; low : T (all_below (first_terms + n) (numbers_of job ops)) }
   unfolding link_bytes
-  term_ready s l = record {
+  term_ready l = record {
     placed = subst (OperandsPlaced job) (sym e) h.term_at.placed;
-    rooms = subst (λ (o : Operands). Rooms job work (numbers_of job o)) (sym e)
-        (rooms_in job work n s.rows.room (arguments_of job t) (more_below place (first_terms + n) (omega arith) (arguments_of job t) (true_T _ h.term_at.below)));
+    low = subst (λ (o : Operands). T (all_below (first_terms + n) (numbers_of job o))) (sym e) (more_below place (first_terms + n) (omega arith) (arguments_of job t) (true_T _ h.term_at.below));
   }
 
-  pub term_done : {after : Bytes} → SetAll job work (numbers_of job ops) after → SetTerm job work n place after
-  term_done {after} r = subst (λ (ks : List ℕ). SetAll job work ks after) (ap (numbers_of job) e ∙ h.args_are) r
+-- what was marked are its arguments
+pub term_done : {old new : Links} {place : ℕ} {t : Decoded} {ops : Operands} → TermOn old.job.now old.work.now old.rows place t → ops ≡ operands_of t → SetAll old (numbers_of old.job.now ops) new → SetTerm old place new
+term_done {old} {new} h e r = subst (λ (ks : List ℕ). SetAll old ks new) (ap (numbers_of old.job.now) e ∙ h.args_are) r

@@ -1,9 +1,9 @@
 -- The laws that goals of this crate want.
-use Rattle.marks.proofs.MarkLaws.{listing_room, listing_done, row_room, set_row, set_low, clearing_start, clearing_room, clearing_turn, clearing_done, room_kept, room_in}
-use Rattle.marks.proofs.Marking.{term_ready, term_done, marking_room}
-use Rattle.marks.proofs.Threading.{threading_start, threading_room, following_last, following_true, following_false, following_row, link_row, link_none}
+use Rattle.marks.proofs.LinkLaws.{room_in, link_row}
+use Rattle.marks.proofs.MarkLaws.{mark_fits, set_one, clearing_turn, clearing_done, listing_start, listing_low, listing_done}
+use Rattle.marks.proofs.Marking.{term_ready, term_done, marking_low}
+use Rattle.marks.proofs.Threading.{threading_low, threading_small, marks_top, marks_threaded, following_last, following_true, following_false, following_row}
 use Rattle.rows.proofs.RowLaws.{link_whole, short_link, long_link}
-use Rattle.store.proofs.Keeping.{same_on}
 use Rattle.terms.proofs.Numbers.{length_of, place_small}
 
-pub ruleset laws = (listing_room, listing_done, row_room, set_row, set_low, clearing_start, clearing_room, clearing_turn, clearing_done, room_kept, room_in, term_ready, term_done, marking_room, threading_start, threading_room, following_last, following_true, following_false, following_row, link_row, link_none, link_whole, short_link, long_link, same_on, length_of, place_small)
+pub ruleset laws = (room_in, link_row, mark_fits, set_one, clearing_turn, clearing_done, listing_start, listing_low, listing_done, term_ready, term_done, marking_low, threading_low, threading_small, marks_top, marks_threaded, following_last, following_true, following_false, following_row, link_whole, short_link, long_link, length_of, place_small)

@@ -15,10 +15,11 @@ ghost use Rattle.std.proofs.Math.Bool.{Bool-set};
 ghost use Rattle.std.proofs.Math.Dec.{T_prop};
 ghost use Rattle.theory.proofs.Facts.{kept_facts};
 
-use crate::links::linked;
-use crate::marked::mark_down;
-use crate::threaded::thread;
+use crate::links::{Links, linked};
+use rows::link_bytes;
+use store::gates::{FALSE, TRUE};
 use store::shelf::Terms;
+use terms::Term;
 
 mod links;
 mod marked;
@@ -35,10 +36,10 @@ pub fn next_marked(job: &[u8], work: &[u8], asked: u32, place: u32) -> u32
     if place == asked {
         return asked + 1;
     }
-    if place == 0 {
-        return 1;
+    if place == TRUE {
+        return FALSE;
     }
-    if place == 1 {
+    if place == FALSE {
         return linked(job, work, asked);
     }
     linked(job, work, place)
@@ -50,8 +51,14 @@ pub fn mark_from(job: &[u8], work: &mut [u8], n: usize, asked: u32)
     requires low { asked < first_terms + n }
     ensures { Marks job.now work.old n asked work.new }
 {
-    mark_down(job, work, n, asked);
-    thread(job, work, asked);
+    let mut links = Links {
+        job,
+        work,
+        rows: n,
+        link_bytes: link_bytes(Term::number_length(job)),
+    };
+    links.down(asked);
+    links.thread(asked);
 }
 
 // The asked term of a job, by its place, where the terms that stand in it, and no others, are

@@ -10,7 +10,7 @@ use lib.Dec.{T, leb, ltb, eqb, eqb→eq, leb→le}
 use lib.Ieee.Fits.{and_l, and_r}
 use lib.ListN.{length, take, drop, get_or, replicate, length-map, length-drop}
 use lib.Seq.{length-take-le}
-use borrow.Author.Tests.{eq-eqb, le-leb, lt-leb, ltb-true, ltb-false}
+use borrow.Author.Tests.{eq-eqb, ltb-true, ltb-false}
 use Rattle.theory.specs.Limit.{first_terms}
 use Rattle.theory.specs.Term.{Term}
 use Rattle.theory.specs.Record.{Bytes}
@@ -21,20 +21,23 @@ use Rattle.theory.proofs.Basics.{true_T}
 use Rattle.theory.proofs.Distinct.{tree_0, tree_1}
 use Rattle.theory.proofs.Places.{at_place_is}
 use Rattle.theory.proofs.Run.{good_at}
+use Rattle.terms.specs.Numbered.{refusal_code}
+use Rattle.terms.specs.declared.refusal.Refusal.{Refusal}
+use Rattle.terms.specs.declared.refusal.Refusal.TheVariants as F
 use Rattle.store.specs.Store.{listed}
+use Rattle.store.specs.Shelf.{Shelf}
 use Rattle.table.specs.Promise.{Wiped}
 use Rattle.sweeps.specs.Variables.{is_variable, stands, bits_in, variables, total_bits}
 use Rattle.sweeps.specs.Sweep.{upward}
 use Rattle.sweeps.specs.Known.{Known, unknown, known_byte, of_byte, known, bit_level, input_of}
-use Rattle.sweeps.specs.Calls.{enough, cell_bytes, derivable, Derived, derived, known_tests, values_after, written}
+use Rattle.sweeps.specs.Calls.{enough, cell_bytes, derivable, Derived, derived, known_tests, written}
 use Rattle.sweeps.proofs.Standing.{stands_self}
 use Rattle.marks.specs.Marks.{mark_of, Marks}
 use Rattle.marks.proofs.MarkLaws.{mark_low}
 use Rattle.digits.specs.Digits.{Few}
-use Rattle.marks.proofs.Threading.{marks_marked}
 use Rattle.marks.specs.declared.Asked.{Asked}
 use Rattle.store.specs.KeptTerms.{Holds, kept_terms}
-use Rattle.sweeper.proofs.NumberLaws.{none_at}
+use Rattle.sweeper.proofs.NumberLaws.{none_at, none_low, list_same}
 use Rattle.counter.proofs.CountLaws.{holds_written}
 use Rattle.evaluation.specs.Cells.{cell_at}
 use Rattle.ternary.specs.Bits.{Closed, Offset}
@@ -162,61 +165,51 @@ module _ (list : Plain) (number values : ℕ) (inputs : Bytes) (output : ℕ) wh
     unfolding derived_number
     tests_are = ap (λ (q : Option Term). derived list q inputs (first_fault (known_tests list q values inputs output))) (at_place_is list number l)
 
-    pub way_room : values < cell_bytes * length list → derived_number list number values inputs output ≡ no_bytes 21
-    way_room r = tests_are ∙ ap (λ (a : Bool). by_codes a (derivable list (tree_at list number) inputs output)) (lt-leb (cell_bytes * length list) values r)
+    pub way_room : enough list values ≡ false → derived_number list number values inputs output ≡ no_bytes 21
+    way_room r = tests_are ∙ ap (λ (a : Bool). by_codes a (derivable list (tree_at list number) inputs output)) r
 
-    module _ (r : cell_bytes * length list ≤ values) where
-      pub way_refused : false ≡ derivable list (tree_at list number) inputs output → derived_number list number values inputs output ≡ no_bytes 23
-      way_refused e = tests_are ∙ ap₂ by_codes (le-leb (cell_bytes * length list) values r) (sym e)
+    module _ (r : enough list values ≡ true) where
+      pub way_refused : derivable list (tree_at list number) inputs output ≡ false → derived_number list number values inputs output ≡ no_bytes 23
+      way_refused e = tests_are ∙ ap₂ by_codes r e
 
-      pub way_done : true ≡ derivable list (tree_at list number) inputs output
+      pub way_done : derivable list (tree_at list number) inputs output ≡ true
           → derived_number list number values inputs output ≡ record { code = 0; bytes = bits_of list number inputs }
-      way_done e = tests_are ∙ ap₂ by_codes (le-leb (cell_bytes * length list) values r) (sym e)
+      way_done e = tests_are ∙ ap₂ by_codes r e
+
+-- no term has that number
+pub way_unasked : {job work after : Bytes} {n number : ℕ} (x : Refusal) (values : ℕ) (inputs : Bytes) (output : ℕ) → Shelf job work n → (x ≡ F.NotAsked) × (first_terms + n ≤ number) × (after ≡ work)
+    → derived_number (listed job work n) number values inputs output ≡ no_bytes (refusal_code x)
+way_unasked x values inputs output s h = way_none _ _ _ _ _ (none_low s h.1) ∙ ap (λ (y : Refusal). no_bytes (refusal_code y)) (sym h.0)
 
 -- ---- what is left in the memories
--- a refusal writes no byte and leaves the value buffer
-pub refused : (code : ℕ) (values old : Bytes) {c : Derived} → c ≡ no_bytes (suc code) → (suc code ≡ c.code) × ((old ≡ written c.bytes old) × (values ≡ values_after (suc code) values))
-refused code values old e = (ap (λ (x : Derived). x.code) (sym e), (ap (λ (x : Derived). written x.bytes old) (sym e), refl))
+-- a refusal writes no byte
+pub refused_code : {code : ℕ} {c : Derived} → c ≡ no_bytes code → code ≡ c.code
+refused_code e = ap (λ (x : Derived). x.code) (sym e)
+
+pub refused_bytes : (old : Bytes) {code : ℕ} {c : Derived} → c ≡ no_bytes code → old ≡ written c.bytes old
+refused_bytes old e = ap (λ (x : Derived). written x.bytes old) (sym e)
 
 -- an accepted call
-pub done : (values : Bytes) {after : Bytes} (old : Bytes) {now : Bytes} {c : Derived} (new : Bytes) → c ≡ record { code = 0; bytes = new } → now ≡ written new old → after ≡ replicate (length values) 0
-    → (0 ≡ c.code) × ((now ≡ written c.bytes old) × (after ≡ values_after 0 values))
-done values old new e f z = (ap (λ (x : Derived). x.code) (sym e), (f ∙ ap (λ (x : Derived). written x.bytes old) (sym e), z))
+pub done : (old : Bytes) {now : Bytes} {c : Derived} (new : Bytes) → c ≡ record { code = 0; bytes = new } → now ≡ written new old → (0 ≡ c.code) × (now ≡ written c.bytes old)
+done old new e f = (ap (λ (x : Derived). x.code) (sym e), f ∙ ap (λ (x : Derived). written x.bytes old) (sym e))
 
 -- ---- after the marks
-module _ {job work after : Bytes} {n asked : ℕ} (m : Marks job work n asked after) where
-  pub derivable_moved : {inputs : Bytes} {output : ℕ} {r b : Bool} → Derivable (listed job after n) job after n asked inputs output r → r ≡ b → b ≡ derivable (listed job work n) (tree_at (listed job work n) asked) inputs output
-  derivable_moved {inputs} {output} d e = sym e ∙ d.is ∙ ap (λ (list : Plain). derivable list (tree_at list asked) inputs output) m.list_is
+-- the asked term's bits are given, and there is room
+pub accepted_of : (k : Asked) {values inputs outputs : Bytes} {b c : Bool} → IsDerivable k inputs (length outputs) b → b ≡ true → c ≡ enough (kept_terms k.terms) (length values) → c ≡ true → IsAccepted k values inputs outputs
+accepted_of k {values} {inputs} {outputs} d e f g =
+    let list = kept_terms k.terms in
+    let t = tree_at list k.place in
+    let a = and_r (bit_level t) (eqb (length inputs) (total_bits (variables list t)) && (all_below 3 inputs && leb (bits_in t) (length outputs))) (true_T _ (sym d.is ∙ e)) in
+    let b = and_r (eqb (length inputs) (total_bits (variables list t))) (all_below 3 inputs && leb (bits_in t) (length outputs)) a in
+    record {
+      marked = k.marks;
+      level = d.level e;
+      inputs_are = eqb→eq (length inputs) (total_bits (variables list t)) (and_l (eqb (length inputs) (total_bits (variables list t))) (all_below 3 inputs && leb (bits_in t) (length outputs)) a);
+      room = leb→le (cell_bytes * length list) (length values) (true_T _ (sym f ∙ g));
+      output_room = leb→le (bits_in t) (length outputs) (and_r (all_below 3 inputs) (leb (bits_in t) (length outputs)) b);
+    }
 
-  pub accepted_of : {values inputs outputs : Bytes} {r : Bool} → asked < first_terms + n → Derivable (listed job after n) job after n asked inputs (length outputs) r → r ≡ true → 8 * (n + 2) ≤ length values
-      → Accepted job after n values asked inputs outputs
-  accepted_of {values} {inputs} {outputs} l d e r =
-      let list = listed job after n in
-      let t = tree_at list asked in
-      let a = and_r (bit_level t) (eqb (length inputs) (total_bits (variables list t)) && (all_below 3 inputs && leb (bits_in t) (length outputs))) (true_T _ (sym d.is ∙ e)) in
-      let b = and_r (eqb (length inputs) (total_bits (variables list t))) (all_below 3 inputs && leb (bits_in t) (length outputs)) a in
-      record {
-        marked = marks_marked l m;
-        level = d.level e;
-        inputs_are = eqb→eq (length inputs) (total_bits (variables list t)) (and_l (eqb (length inputs) (total_bits (variables list t))) (all_below 3 inputs && leb (bits_in t) (length outputs)) a);
-        room = omega (arith, m.shelf.count);
-        output_room = leb→le (bits_in t) (length outputs) (and_r (all_below 3 inputs) (leb (bits_in t) (length outputs)) b);
-      }
-
-  pub bits_moved : (inputs : Bytes) → bits_of (listed job after n) asked inputs ≡ bits_of (listed job work n) asked inputs
-  bits_moved inputs = ap (λ (list : Plain). bits_of list asked inputs) m.list_is
-
--- by the asked term, which holds the rows
-module _ (k : Asked) {job work : Bytes} {n place : ℕ} (h : Holds k.terms job work n) (p : k.place ≡ place) where
-  pub derivable_here : {inputs : Bytes} {room : ℕ} {b : Bool} → IsDerivable k inputs room b → Derivable (listed job work n) job work n place inputs room b
-  derivable_here d = rw (h.job_is, h.work_is, h.rows_are, p) at d
-
-  pub accepted_here : {values inputs outputs : Bytes} → Accepted job work n values place inputs outputs → IsAccepted k values inputs outputs
-  accepted_here a = rw (h.job_is, h.work_is, h.rows_are, p) a
-
-  pub bits_here : (inputs : Bytes) → bits_of (kept_terms k.terms) k.place inputs ≡ bits_of (listed job work n) place inputs
-  bits_here inputs = rw (h.job_is, h.work_is, h.rows_are, p) refl
-
--- what is promised of the result and two memories, and of the work memory
-pub with_work : {A B C D : Type 0} → A × (B × C) → D → record { code : A; outputs : B; values : C; work : D }
-with_work q d = record { code = q.0; outputs = q.1.0; values = q.1.1; work = d }
+-- the asked term is that of the number, in the same list
+module _ {job work after : Bytes} {n number : ℕ} (m : Marks job work n number after) (k : Asked) (h : Holds k.terms job after n) (p : k.place ≡ number) (values : ℕ) (inputs : Bytes) (output : ℕ) where
+  pub derived_same : derived_number (kept_terms k.terms) k.place values inputs output ≡ derived_number (listed job work n) number values inputs output
+  derived_same = ap₂ (λ (list : Plain) (x : ℕ). derived_number list x values inputs output) (list_same m k h p) p

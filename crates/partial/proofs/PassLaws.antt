@@ -1,19 +1,25 @@
 -- The pass, upwards: the cells so far are sound, and those above are as they were.
 use mathlib.Core.Path.{◌≡◌, refl, sym, ap, subst, ◌∙◌}
-use mathlib.Core.Bool.{Bool, true, false}
+use mathlib.Core.Bool.{Bool, true, false, true≢false}
 use mathlib.Core.List.{List, map}
 use Prim.Native.Nat.{ℕ, suc, ◌+◌, ◌-◌, ◌*◌, ◌≤◌, ◌<◌}
 use native.Mathlib.Omega.{arith}
-use lib.Dec.{T, eqb}
+use lib.Dec.{T, eqb, leb, leb→le}
+use lib.Ieee.Fits.{and_l}
 use lib.ListN.{length, take, drop}
 use borrow.Author.Tests.{eqb-true, eqb-false}
 use Rattle.theory.specs.Limit.{first_terms}
 use Rattle.theory.specs.Term.{Term}
-use Rattle.theory.specs.Sort.{sort_of, sort_width}
+use Rattle.theory.specs.Sort.{Sort, sort_of, sort_width}
 use Rattle.theory.specs.Record.{Bytes}
 use Rattle.theory.specs.Plain.{Plain}
 use Rattle.theory.specs.Places.{tree_at}
+use Rattle.theory.proofs.Sorts.{sized, sorts_sized}
 use Rattle.store.specs.Store.{listed}
+use Rattle.store.specs.Sorts.{sort_read}
+use Rattle.store.specs.declared.sorts.Sort.{Sort as Read}
+use Rattle.store.specs.declared.sorts.Sort.TheVariants as R
+use Rattle.store.specs.contracts.sorts.SortPartialEq.TheImpl as Derived
 use Rattle.sweeps.specs.Variables.{bits_in}
 use Rattle.sweeps.specs.Known.{Known, known_byte, of_byte}
 use Rattle.sweeps.specs.Calls.{cell_bytes}
@@ -34,6 +40,25 @@ module _ {input : Term → List Known} {list : Plain} {inputs values now : Bytes
 
   tells_moved : Tells input list inputs values p → Tells input list inputs now p
   tells_moved t = record { bool_is = λ z. e ∙ t.bool_is z; variable_is = λ z v. offset_moved (t.variable_is z v) }
+
+-- ---- is it a Bool?
+bool_has : (r : Read) {s : Sort} → sort_read r ≡ s → (Derived.ghosts).eq r R.Bool ≡ true → sort_width s ≡ 0
+bool_has R.Bool e f = sym (ap sort_width e)
+bool_has (R.Bv w) e f = absurd (true≢false (sym f))
+
+other_has : (r : Read) {s : Sort} → sort_read r ≡ s → T (sized s) → (Derived.ghosts).eq r R.Bool ≡ false → sort_width s ≡ 0 → ⊥
+other_has R.Bool e z f h = absurd (true≢false f)
+other_has (R.Bv w) {s} e z f h =
+    let a = leb→le 1 w (and_l (leb 1 w) (leb w 64) (subst (λ (x : Sort). T (sized x)) (sym e) z)) in
+    let b = ap sort_width e in
+    omega (arith, a, b, h)
+
+module _ (r : Read) (t : Term) (e : sort_read r ≡ sort_of t) {b : Bool} (g : b ≡ (Derived.ghosts).eq r R.Bool) where
+  pub bool_width : b ≡ true → sort_width (sort_of t) ≡ 0
+  bool_width f = bool_has r e (sym g ∙ f)
+
+  pub other_width : b ≡ false → sort_width (sort_of t) ≡ 0 → ⊥
+  other_width f = other_has r e (sorts_sized t) (sym g ∙ f)
 
 -- ---- the loop
 pub record Knowing (job work : Bytes) (n : ℕ) (inputs : Bytes) (asked : ℕ) (values now : Bytes) (k : ℕ) : Type 0 where
@@ -68,9 +93,9 @@ module _ {job work : Bytes} {n : ℕ} {inputs : Bytes} {asked : ℕ} {values : B
         to false y u = w p (u refl)
 
     -- a Bool's bit is stored
-    pub know_turn : T (mark_of job work k) → {w : ℕ} → w ≡ sort_width (sort_of (tree_at (listed job work n) k)) → w ≡ 0 → {b : Known} {v : ℕ} {after : Bytes} → v < 18446744073709551616
+    pub know_turn : T (mark_of job work k) → sort_width (sort_of (tree_at (listed job work n) k)) ≡ 0 → {b : Known} {v : ℕ} {after : Bytes} → v < 18446744073709551616
         → KnownOn (listed job work n) job work inputs now k b → v ≡ known_byte b → after ≡ stored_cell now k v → Knowing job work n inputs asked values after (k + 1)
-    know_turn t d y {b} {v} {after} f g said e = subst (λ (m : Bytes). Knowing job work n inputs asked values m (k + 1)) (sym e) (record {
+    know_turn t d {b} {v} {after} f g said e = subst (λ (m : Bytes). Knowing job work n inputs asked values m (k + 1)) (sym e) (record {
       ready = s.ready;
       most = omega arith;
       length_is = length_cell now k v know_cell ∙ s.length_is;
@@ -78,7 +103,7 @@ module _ {job work : Bytes} {n : ℕ} {inputs : Bytes} {asked : ℕ} {values : B
       sound = λ input o. by_place (λ p. p < k + 1 → T (mark_of job work p) → Tells input (listed job work n) inputs (stored_cell now k v) p)
           (λ h m. record {
             bool_is = λ z. cell_here now k v know_cell f ∙ said ∙ ap known_byte (g input (s.sound input o) (λ i. offset_moved (s.above k (omega arith)) (o k list_low m i)));
-            variable_is = λ z. absurd (z (sym d ∙ y));
+            variable_is = λ z. absurd (z d);
           })
           (λ p q h m. tells_moved (cell_other now k v know_cell p q) (s.sound input o p (lower p h q) m));
     })

@@ -3,6 +3,7 @@ ghost use Rattle.partial.specs.Passing.{ReadyIn, PassedIn};
 
 use evaluation::cells::put_cell;
 use marks::Asked;
+use store::sorts::Sort;
 use ternary::bits::KnownBits;
 use ternary::codes::bit_byte;
 
@@ -13,7 +14,7 @@ pub fn known_all(asked: &Asked, values: &mut [u8], inputs: &[u8])
     ensures { PassedIn asked.now inputs.now values.old values.new }
 {
     for k in asked.places() {
-        if asked.terms.width_on(k) == 0 {
+        if asked.terms.sort_on(k) == Sort::Bool {
             let known = KnownBits {
                 terms: asked.terms,
                 values,

@@ -1,6 +1,6 @@
 -- The bits of a term, by its kind.
 use mathlib.Core.Path.{◌≡◌, refl, sym, ap, ap₂, subst, ◌∙◌}
-use mathlib.Core.Bool.{Bool, true, false, not, ◌||◌, cond}
+use mathlib.Core.Bool.{Bool, true, false, true≢false, not, ◌&&◌, ◌||◌, cond}
 use mathlib.Core.List.{List, [], ◌∷◌, ◌++◌, map, append-nil}
 use Prim.Native.Nat.{ℕ, zero, suc, ◌+◌, ◌≤◌, ◌<◌}
 use native.Mathlib.Omega.{arith}
@@ -30,6 +30,10 @@ use Rattle.terms.specs.declared.Args.{Args}
 use Rattle.terms.specs.declared.Term.{Term as Decoded}
 use Rattle.terms.specs.declared.Term.TheVariants as D
 use Rattle.terms.specs.Decoded.{Inside, OperandsPlaced, op_of, operands_of, arguments_of, words_in}
+use Rattle.store.specs.contracts.sorts.SortPartialEq.TheImpl as Derived
+use Rattle.store.specs.declared.sorts.Sort.{Sort as Read}
+use Rattle.store.specs.declared.sorts.Sort.TheVariants as S
+use Rattle.store.specs.Sorts.{sort_read}
 use Rattle.store.specs.Store.{listed}
 use Rattle.store.specs.Shelf.{TermOn, args_at}
 use Rattle.sweeps.specs.Variables.{is_variable, sort_bits, bits_in}
@@ -164,6 +168,15 @@ only_bool bool g z e = refl
 only_bool (bv m) g z e = let a = leb→le 1 m (and_l (leb 1 m) _ z) in absurd (omega arith)
 only_bool bad g z e = elim g [ ]
 
+-- a term whose sort is not Bool has a width
+pub has_width : (s : Read) (t : Term) → sort_read s ≡ sort_of t → {b : Bool} → b ≡ (Derived.ghosts).eq s S.Bool → b ≡ false → sort_width (sort_of t) ≡ 0 → ⊥
+has_width S.Bool t e f g z = true≢false (sym f ∙ g)
+has_width (S.Bv n) t e f g z =
+    let q : T (leb 1 n && leb n 64) = subst (λ (r : Sort). T (sized r)) (sym e) (sorts_sized t) in
+    let a = leb→le 1 n (and_l (leb 1 n) _ q) in
+    let d : n ≡ 0 = ap sort_width e ∙ z in
+    omega arith
+
 pub bv_bool : (m : ℕ) → bv m ≡ bool → ⊥
 bv_bool m e = let z : ◌≡◌ {A = ℕ} 0 1 = ap tag (sym e) in omega arith
   where
@@ -225,9 +238,6 @@ module _ {job work : Bytes} {n x i : ℕ} (s : BitAsked job work n x i) where
   place_low : x < length list
   place_low = omega (arith, s.closed.shelf.count, s.low)
 
-  place_good : T (good (sort_of (tree_at list x)))
-  place_good = good_at list x s.closed.shelf.sorted place_low
-
   -- a Bool
   pub bit_bool : {inputs values : Bytes} {w : ℕ} {r : Known} → w ≡ sort_width (sort_of (tree_at list x)) → w ≡ 0 → r ≡ cell_bit values x → BitOn list job work inputs values x i r
   bit_bool e z f input sound =
@@ -238,10 +248,10 @@ module _ {job work : Bytes} {n x i : ℕ} (s : BitAsked job work n x i) where
       ∙ sym (first_bit (known input (tree_at list x))) ∙ ap (λ (j : ℕ). get_or (known input (tree_at list x)) j unknown) k
 
   -- a bit-vector variable
-  pub bit_variable : {inputs values : Bytes} {w c : ℕ} {r : Known} → w ≡ sort_width (sort_of (tree_at list x)) → (w ≡ 0 → ⊥) → T (is_variable (tree_at list x)) → c ≡ cell_at values x
+  pub bit_variable : {inputs values : Bytes} {c : ℕ} {r : Known} → (sort_width (sort_of (tree_at list x)) ≡ 0 → ⊥) → T (is_variable (tree_at list x)) → c ≡ cell_at values x
       → r ≡ of_byte (get_or (drop c inputs) i 2) → BitOn list job work inputs values x i r
-  bit_variable {inputs} {values} e z v d g input sound =
-      let o = (sound x (omega arith) s.marked).variable_is (λ q. z (e ∙ q)) v in
+  bit_variable {inputs} {values} z v d g input sound =
+      let o = (sound x (omega arith) s.marked).variable_is z v in
       g ∙ ap (λ (j : ℕ). of_byte (get_or (drop j inputs) i 2)) d ∙ offset_bit o i s.bit_low
 
   -- at most 64 bits
@@ -329,10 +339,10 @@ not_row : (t : Decoded) → ((a : Args) → t ≡ D.BvBbTerm a → ⊥) → eqb 
 not_row (D.BvBbTerm a) h = absurd (h a refl)
 not_row t h = refl
 
-pub bit_never : {job work : Bytes} {n x i : ℕ} → BitAsked job work n x i → {t : Decoded} → TermOn job work n x t → {w : ℕ} → w ≡ sort_width (sort_of (tree_at (listed job work n) x)) → (w ≡ 0 → ⊥)
+pub bit_never : {job work : Bytes} {n x i : ℕ} → BitAsked job work n x i → {t : Decoded} → TermOn job work n x t → (sort_width (sort_of (tree_at (listed job work n) x)) ≡ 0 → ⊥)
     → ((m v : ℕ) → t ≡ D.BvVar m v → ⊥) → ((m v : ℕ) → t ≡ D.Const m v → ⊥) → ((a : Args) → t ≡ D.BvBbTerm a → ⊥) → ⊥
-bit_never {job} {work} {n} {x} s {t} h e z a b c =
-    no_more (tree_of (listed job work n) (op_of t) (arguments_of job t)) (kind_made s.closed s.low s.marked h t refl) (λ q. z (e ∙ ap (λ (y : Term). sort_width (sort_of y)) (made s.closed s.low s.marked h t refl) ∙ q))
+bit_never {job} {work} {n} {x} s {t} h z a b c =
+    no_more (tree_of (listed job work n) (op_of t) (arguments_of job t)) (kind_made s.closed s.low s.marked h t refl) (λ q. z (ap (λ (y : Term). sort_width (sort_of y)) (made s.closed s.low s.marked h t refl) ∙ q))
     (not_variable t a) (not_const t b) (not_row t c)
 
 -- a variable, by its decoded term

@@ -17,6 +17,7 @@ use crate::gates::{equal_bit, ite_bit, join, not_bit, xor_bit};
 use evaluation::cells::cell;
 use operations::words::bit;
 use store::shelf::Terms;
+use store::sorts::Sort;
 use terms::{Args, Term};
 
 // The bit that byte i after the place `at` of the inputs says: none is known past their end.
@@ -67,7 +68,7 @@ impl<'a> KnownBits<'a> {
         requires bit { i < bits_in (kept_term self.now.terms x) }
         ensures { IsBitOf self.now x i (bit_of result) }
     {
-        if self.terms.width_on(x) == 0 {
+        if self.terms.sort_on(x) == Sort::Bool {
             return bit_in(self.values, x);
         }
         match self.terms.term_on(x) {

@@ -18,8 +18,5 @@ pub fn read_bit(x: u64) -> Option<bool>
 pub fn bit_byte(x: Option<bool>) -> u8
     ensures { result ≡ known_byte (bit_of x) }
 {
-    match x {
-        Some(b) => u8::from(b),
-        None => 2,
-    }
+    x.map_or(2, u8::from)
 }

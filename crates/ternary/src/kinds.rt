@@ -6,6 +6,7 @@ ghost use Rattle.store.specs.KeptTerms.{kept_term};
 ghost use Rattle.ternary.specs.Bits.{bit_kind_in};
 
 use store::shelf::Terms;
+use store::sorts::Sort;
 use terms::Term;
 
 // Is the kind of the term at a place bit-level? An Equals is where its sides are Bools.
@@ -14,7 +15,7 @@ pub fn is_bit_kind(terms: &Terms, place: u32) -> bool
     ensures { result ≡ bit_kind_in (kept_term terms.now place) }
 {
     match terms.term_on(place) {
-        Term::Equals(x, _) => terms.width_on(x) == 0,
+        Term::Equals(x, _) => terms.sort_on(x) == Sort::Bool,
         Term::True
         | Term::False
         | Term::BoolVar(_)
