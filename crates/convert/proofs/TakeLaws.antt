@@ -3,28 +3,26 @@ use mathlib.Core.Path.{◌≡◌, refl, sym, ap, ◌∙◌}
 use mathlib.Core.Bool.{Bool, true, false}
 use mathlib.Core.List.{List, [], ◌∷◌, ◌++◌}
 use Rattle.std.specs.Prelude.{Option, None as none, Some as some}
-use Prim.Native.Nat.{ℕ, ◌+◌, ◌≤◌, ◌<◌}
+use Rattle.std.specs.Borrow.{Bor}
+use Prim.Native.Nat.{ℕ, ◌+◌}
 use native.Mathlib.Omega.{arith}
-use lib.ListN.{length, take, length-append}
+use lib.ListN.{length, length-append}
 use Rattle.theory.specs.Optional.{either}
 use Rattle.theory.specs.Record.{Bytes}
 use Rattle.text.specs.Tokens.{ascii, left, word, after}
 use Rattle.text.specs.Reading.{bind, Declared, declaration}
-use Rattle.text.specs.Convert.{State, state, declare, take_step, take_line}
+use Rattle.text.specs.Convert.{lines, State, state, declare, take_step, take_line}
 use Rattle.text.specs.Claim.{declared_by}
 use Rattle.theory.proofs.Basics.{none_some}
-use Rattle.words.specs.Words.{piece}
 use Rattle.words.proofs.ReadLaws.{told_some, reads_some}
-use Rattle.names.specs.Kinds.{declared_in}
-use Rattle.names.specs.Lines.{Ended, Beyond}
-use Rattle.names.proofs.LineLaws.{further}
+use Rattle.names.specs.Kinds.{declarations, declared_in}
 use Rattle.writer.specs.declared.places.Writer.{Writer}
 use Rattle.writer.specs.Written.{job_of, room}
 use Rattle.entries.specs.Steps.{told_step}
 use Rattle.entries.specs.Declarations.{and_declared, told_declared}
 use Rattle.convert.specs.declared.line.State as code
-use Rattle.convert.specs.Line.{Cut, told_state, Between, Lined}
-use Rattle.convert.proofs.CutLaws.{cut_next, declared_next}
+use Rattle.convert.specs.Line.{told_state, Lined}
+use Rattle.convert.proofs.CutLaws.{declared_more}
 
 abbrev kind_of_line : ℕ → State → Bytes → Option Bytes → Option State
 kind_of_line room s a q = either (bind (after (word (ascii "step")) a) (take_step room s)) (λ b. bind (declaration b) (declare room s)) q
@@ -73,61 +71,42 @@ never : {A : Type 0} → false ≡ true → A
 never e = absurd (let z : ◌≡◌ {A = ℕ} 0 1 = cc in omega arith)
 
 -- ---- a line that is taken
-module _ {text : Bytes} {at end next : ℕ} (old new : Writer) {s : code.State} (h : at < length text) (e : Ended text at end) (b : Beyond text end next) (g : Between text at s) where
-  cut : Cut text at
-  cut = g.cut (λ q. omega arith)
-
-  declared_few : s.declared + 1 ≤ next
-  declared_few = let f = g.few in let m = further h e b in omega arith
-
+module _ (line : Bytes) (through : Bor Bytes) (old new : Writer) (s : code.State) (g : s.declared ≡ length (declared_in s.declarations.now)) where
   -- a step
   pub lined_step : (r : Option (Unit {0})) {x : Unit {0}} {q : Option State}
-      → told_step (declared_in (take s.declarations text)) new r ≡ q → r ≡ some x
-      → {p : Option State} → p ≡ q → Lined text next new p (some (record { declarations = s.declarations; declared = s.declared; begun = true }))
-  lined_step r d f l =
-      let m = declared_few in
-      reads_some (l ∙ told_some _ r d f) (record {
-        within = g.within;
-        counted = g.counted;
-        few = omega arith;
-        level = λ y. never (sym y);
-        cut = cut_next h e b cut;
-      })
+      → told_step (declared_in s.declarations.now) new r ≡ q → r ≡ some x
+      → {p : Option State} → p ≡ q → Lined through.now new p (some (record { declarations = s.declarations; declared = s.declared; begun = true }))
+  lined_step r d f l = reads_some (l ∙ told_some _ r d f) (record { counted = g; level = λ y. never (sym y) })
 
   -- a declaration
-  pub lined_declared : (r : Option (Unit {0})) {x : Unit {0}} → s.begun ≡ false
-      → told_declared (piece at end text) (declared_in (take s.declarations text)) new r
-      ≡ bind (declared_by (piece at end text)) (declare (room old) (state (declared_in (take s.declarations text)) false (job_of old)))
+  pub lined_declared : (s.begun ≡ false → lines through.now ≡ lines s.declarations.now ++ (line ∷ [])) → (r : Option (Unit {0})) {x : Unit {0}} → s.begun ≡ false
+      → told_declared line (declared_in s.declarations.now) new r
+      ≡ bind (declared_by line) (declare (room old) (state (declared_in s.declarations.now) false (job_of old)))
       → r ≡ some x → {p : Option State}
-      → p ≡ bind (declared_by (piece at end text)) (declare (room old) (told_state text old s))
-      → Lined text next new p (some (record { declarations = next; declared = s.declared + 1; begun = false }))
-  lined_declared r n d f {p} l = go (declared_by (piece at end text)) refl
+      → p ≡ bind (declared_by line) (declare (room old) (told_state old s))
+      → Lined through.now new p (some (record { declarations = through; declared = s.declared + 1; begun = false }))
+  lined_declared t r n d f {p} l = go (declared_by line) refl
     where
-      so : p ≡ some (state (and_declared (piece at end text) (declared_in (take s.declarations text))) false (job_of new))
+      so : p ≡ some (state (and_declared line (declared_in s.declarations.now)) false (job_of new))
       so =
-          l ∙ ap (λ (x : Bool). bind (declared_by (piece at end text)) (declare (room old) (state (declared_in (take s.declarations text)) x (job_of old)))) n
+          l ∙ ap (λ (x : Bool). bind (declared_by line) (declare (room old) (state (declared_in s.declarations.now) x (job_of old)))) n
           ∙ told_some _ r d f
 
-      go : (q : Option Declared) → declared_by (piece at end text) ≡ q
-          → Lined text next new p (some (record { declarations = next; declared = s.declared + 1; begun = false }))
+      go : (q : Option Declared) → declared_by line ≡ q
+          → Lined through.now new p (some (record { declarations = through; declared = s.declared + 1; begun = false }))
       go none y =
-          absurd (let z : p ≡ none = l ∙ ap (λ (x : Option Declared). bind x (declare (room old) (told_state text old s))) y in
-          none_some (state (and_declared (piece at end text) (declared_in (take s.declarations text))) false (job_of new)) (sym z ∙ so))
+          absurd (let z : p ≡ none = l ∙ ap (λ (x : Option Declared). bind x (declare (room old) (told_state old s))) y in
+          none_some (state (and_declared line (declared_in s.declarations.now)) false (job_of new)) (sym z ∙ so))
       go (some v) y =
-          let lv : s.declarations ≡ at = g.level n in
-          let nd : declared_in (take next text) ≡ declared_in (take s.declarations text) ++ (v ∷ [])
-          = declared_next h e b cut y ∙ ap (λ (j : ℕ). declared_in (take j text) ++ (v ∷ [])) (sym lv) in
-          let ad : and_declared (piece at end text) (declared_in (take s.declarations text)) ≡ declared_in (take s.declarations text) ++ (v ∷ [])
-          = ap (λ (x : Option Declared). either (declared_in (take s.declarations text)) (λ w. declared_in (take s.declarations text) ++ (w ∷ [])) x) y in
-          let c = g.counted in
-          let len : length (declared_in (take s.declarations text) ++ (v ∷ [])) ≡ length (declared_in (take s.declarations text)) + 1 = length-append (declared_in (take s.declarations text)) (v ∷ []) in
-          let all : length (declared_in (take next text)) ≡ length (declared_in (take s.declarations text) ++ (v ∷ [])) = ap length nd in
+          let nd : declared_in through.now ≡ declared_in s.declarations.now ++ (v ∷ [])
+          = ap declarations (t n) ∙ declared_more (lines s.declarations.now) line y in
+          let ad : and_declared line (declared_in s.declarations.now) ≡ declared_in s.declarations.now ++ (v ∷ [])
+          = ap (λ (x : Option Declared). either (declared_in s.declarations.now) (λ w. declared_in s.declarations.now ++ (w ∷ [])) x) y in
+          let len : length (declared_in s.declarations.now ++ (v ∷ [])) ≡ length (declared_in s.declarations.now) + 1 = length-append (declared_in s.declarations.now) (v ∷ []) in
+          let all : length (declared_in through.now) ≡ length (declared_in s.declarations.now ++ (v ∷ [])) = ap length nd in
           reads_some (so ∙ ap (λ (x : List Declared). some (state x false (job_of new))) (ad ∙ sym nd)) (record {
-            within = b.inside;
             counted = omega arith;
-            few = declared_few;
             level = λ z. refl;
-            cut = cut_next h e b cut;
           })
 
 -- a declaration after a step is refused

@@ -11,7 +11,7 @@ ghost use Rattle.writer.specs.Written.{Moved};
 ghost use Rattle.convert.specs.Text.{told, text_call, Taken};
 
 use crate::line::{State, take_line};
-use names::lines::{line_after, line_end};
+use names::lines::Lines;
 use table::{clear, wipe};
 use text::REFUSED;
 use writer::places::{Spot, Writer};
@@ -34,21 +34,15 @@ fn take_lines(text: &[u8], writer: &mut Writer<'_>) -> Result<usize, u64>
     ensures takes { Taken text.now writer.old.out.now writer.new.out.now result }
 {
     let mut s = State {
-        declarations: 0,
+        declarations: &text[..0],
         declared: 0,
         begun: false,
     };
-    let mut at: usize = 0;
-    let mut place: u64 = 1;
-    while at < text.len() {
-        let end = line_end(text, at);
-        let next = line_after(text, end);
-        let Some(after) = take_line(text, at, end, next, s, writer) else {
-            return Err(place);
-        };
-        s = after;
-        at = next;
-        place += 1;
+    let mut next = 0;
+    for (k, line) in Lines::new(text).enumerate() {
+        // The last line may lack its newline.
+        next = text.len().min(next + line.len() + 1);
+        s = take_line(line, &text[..next], s, writer).ok_or(k as u64 + 1)?;
     }
     Ok(writer.spot.done)
 }

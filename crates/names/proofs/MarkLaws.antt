@@ -2,6 +2,7 @@
 use mathlib.Core.Path.{◌≡◌, refl, sym, ap, ◌∙◌}
 use mathlib.Core.Bool.{Bool, true, false, cond}
 use Rattle.std.specs.Prelude.{Option, None as none, Some as some}
+use Rattle.std.specs.Bool.{then_some}
 use Rattle.std.specs.Borrow.{Bor}
 use Prim.Native.Nat.{ℕ}
 use native.Mathlib.Omega.{arith}
@@ -104,11 +105,10 @@ module _ (w bs : Bytes) where
     word_by : after (word w) bs ≡ cond (same_numbers f.name w) (some f.rest) none
     word_by = word_first w bs ∙ ap (λ (q : Option Word). bind q (λ f. cond (same_numbers f.name w) (some f.rest) none)) e
 
-    pub word_is : same_numbers f.name w ≡ true → some f.rest ≡ after (word w) bs
-    word_is t = sym (word_by ∙ ap (λ (b : Bool). cond b (some f.rest) none) t)
-
-    pub word_other : same_numbers f.name w ≡ false → none ≡ after (word w) bs
-    word_other t = sym (word_by ∙ ap (λ (b : Bool). cond b (some f.rest) none) t)
+    -- what follows, where the test finds that word
+    pub word_tested : (x : Bor Bytes) → x.now ≡ f.rest → (b : Bool) → same_numbers f.name w ≡ b → {r : Option (Bor Bytes)} → r ≡ then_some b x → rest_of r ≡ after (word w) bs
+    word_tested x d true t h = ap rest_of h ∙ ap some d ∙ sym (word_by ∙ ap (λ (b : Bool). cond b (some f.rest) none) t)
+    word_tested x d false t h = ap rest_of h ∙ sym (word_by ∙ ap (λ (b : Bool). cond b (some f.rest) none) t)
 
 -- ---- what a function of this crate said
 module _ {q : Option Bytes} where

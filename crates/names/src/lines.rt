@@ -1,27 +1,5 @@
 // The lines of a text.
-ghost use Rattle.std.specs.Prelude.{◌≡◌, ◌≤◌, length};
-ghost use Rattle.names.specs.Lines.{Ended, Beyond};
-
-// The place of the newline that ends the line at `at`, or of the text's end.
-pub fn line_end(text: &[u8], at: usize) -> usize
-    requires { at ≤ length text.now }
-    ensures { Ended text.now at result }
-{
-    let rest = &text[at..];
-    let length = rest.iter().position(|&b| b == b'\n');
-    at + length.unwrap_or(rest.len())
-}
-
-// Where the line after the newline at `end` starts.
-pub fn line_after(text: &[u8], end: usize) -> usize
-    requires { end ≤ length text.now }
-    ensures { Beyond text.now end result }
-{
-    if end < text.len() {
-        return end + 1;
-    }
-    end
-}
+ghost use Rattle.std.specs.Prelude.{◌≡◌};
 
 // The lines that are still to come, each without its newline.
 #[derive(Drop)]
@@ -53,9 +31,9 @@ impl<'a> Iterator for Lines<'a> {
         if text.is_empty() {
             return None;
         }
-        let end = line_end(text, 0);
-        let next = line_after(text, end);
-        self.rest = &text[next..];
+        let newline = text.iter().position(|&b| b == b'\n');
+        let end = newline.unwrap_or(text.len());
+        self.rest = &text[text.len().min(end + 1)..];
         Some(&text[..end])
     }
 }

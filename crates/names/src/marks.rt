@@ -45,7 +45,7 @@ pub fn word_after<'a>(line: &'a [u8], wanted: &[u8]) -> Option<&'a [u8]>
     ensures { rest_of result ≡ after (word wanted.now) line.now }
 {
     let (word, rest) = first_word(line)?;
-    if word == wanted { Some(rest) } else { None }
+    (word == wanted).then_some(rest)
 }
 
 // Is nothing left of the line?

@@ -33,9 +33,6 @@ module _ (k : ℕ) (body : Bytes) where
   pub record_length : length (record_of k body) ≡ 4 + length body
   record_length = omega arith
 
-  pub record_body : body_of (record_of k body) ≡ body
-  record_body = refl
-
   pub record_kind : k < number_end → kind_of (record_of k body) ≡ k
   record_kind h = word_back k body h
 

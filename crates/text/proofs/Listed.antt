@@ -20,7 +20,7 @@ use Rattle.theory.proofs.Basics.{none_some, some_inj, foldl_append, get_elem_of,
 use Rattle.theory.proofs.Same.{same_numbers_refl}
 use Rattle.theory.specs.Listed.{Sound, WellKept}
 use Rattle.theory.specs.Places.{tree_at, tree_of}
-use Rattle.theory.proofs.Places.{term_of_is, tree_at_old, trees_old}
+use Rattle.theory.proofs.Places.{term_of_is, tree_at_old}
 use Rattle.theory.proofs.Distinct.{snoc_well}
 use Rattle.text.specs.Reading.{bind, number_end}
 use Rattle.text.specs.Writing.{Clean, Lone, kept, place_from, append, value_last, Placed, placed, keep, record_of, words_bytes, front_bytes}
@@ -65,9 +65,6 @@ extends_length {a} {b} p = let e : length b ≡ length a + length p.more = ap le
 
 pub extends_tree : {a b : Plain} → Extends a b → (k : ℕ) → k < length a → tree_at b k ≡ tree_at a k
 extends_tree {a} {b} p k h = ap (λ (l : Plain). tree_at l k) p.is ∙ tree_at_old a p.more k h
-
-pub extends_trees : {a b : Plain} → Extends a b → (ks : List ℕ) → T (all_below (length a) ks) → map (tree_at b) ks ≡ map (tree_at a) ks
-extends_trees {a} {b} p ks h = ap (λ (l : Plain). map (tree_at l) ks) p.is ∙ trees_old a p.more (length a) (omega arith) ks h
 
 -- ---- a record's place
 record At (es : Plain) (r : Bytes) (p k : ℕ) : Type 0 where

@@ -20,9 +20,6 @@ module _ {A B : Type 0} {tell : A → B} {Fits : A → Type 0} {q : Option B} wh
   pub reads_some : {a : A} → q ≡ some (tell a) → Fits a → Reads tell Fits q (some a)
   reads_some {a} e h = record { is = sym e; fits = λ b f. let g : a ≡ b = cc in subst Fits g h }
 
-  pub reads_as : {p : Option B} {r : Option A} → Reads tell Fits q r → p ≡ q → Reads tell Fits p r
-  reads_as h e = record { is = h.is ∙ sym e; fits = h.fits }
-
 -- the same of an equation alone
 pub told_none : {A B : Type 0} (tell : A → B) (r : Option A) {q : Option B} → option_map tell r ≡ q → r ≡ none → q ≡ none
 told_none tell r h e = sym h ∙ ap (option_map tell) e

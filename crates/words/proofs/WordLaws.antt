@@ -10,7 +10,6 @@ use lib.Dec.{eqb, leb}
 use lib.Dec as dec
 use lib.Ieee.Fits.{and_l, and_r}
 use lib.ListN.{length, take, drop, get_or, length-take, length-drop}
-use lib.Seq.{take-suc, get_or-drop}
 use borrow.Author.Tests.{eq-eqb, ne_eqb, eqb-true}
 use Rattle.std.specs.Borrow.{Bor}
 use Rattle.std.specs.Prelude.{Option, None as none, Some as some, MatchOption, option_map}
@@ -148,14 +147,6 @@ module _ (line : Bytes) (r : Option ℕ) (first : FirstPlace in_word line r) (i 
   word_rest = ap (λ (n : ℕ). drop n line) (sym word_long)
 
 -- ---- pieces
-pub piece_more : (line : Bytes) (at i : ℕ) → at ≤ i → i < length line → piece at (i + 1) line ≡ piece at i line ++ (get_or line i 0 ∷ [])
-piece_more line at i h k =
-    let e : i + 1 - at ≡ suc (i - at) = omega arith in
-    let f : at + (i - at) ≡ i = omega arith in
-    ap (λ (n : ℕ). take n (drop at line)) e
-    ∙ take-suc (drop at line) (i - at) 0 (rw length-drop (omega arith))
-    ∙ ap (λ (b : ℕ). piece at i line ++ (b ∷ [])) (get_or-drop at line (i - at) 0 ∙ ap (λ (j : ℕ). get_or line j 0) f)
-
 pub piece_length : (line : Bytes) (s e : ℕ) → s ≤ e → e ≤ length line → length (piece s e line) ≡ e - s
 piece_length line s e h k = length-take (e - s) (drop s line) ∙ rw length-drop (omega arith)
 

@@ -1,10 +1,14 @@
 -- Laws of the places in a job: the walk over its records, and a record put at its end.
 use mathlib.Core.Path.{◌≡◌, refl, sym, ap, ap₂, subst, ◌∙◌}
 use mathlib.Core.Bool.{Bool, cond}
-use mathlib.Core.List.{List, [], ◌∷◌, ◌++◌, append_assoc}
+use mathlib.Core.List.{List, [], ◌∷◌, ◌++◌, append_assoc, append-nil}
 use Rattle.std.specs.Prelude.{Option, None as none, Some as some}
-use Prim.Native.Nat.{ℕ, ◌+◌, ◌-◌, ◌*◌, ◌<◌, ◌≤◌}
+use Rattle.std.specs.Int.{to_le_bytes, bytes_low_first, byte_at}
+use Rattle.std.proofs.Math.Nat.{div-div-eq-div-mul}
+use mir.Syntax.{w64}
+use Prim.Native.Nat.{ℕ, zero, suc, ◌+◌, ◌-◌, ◌*◌, ◌/◌, ◌%◌, ◌^◌, ◌<◌, ◌≤◌}
 use native.Mathlib.Omega.{arith}
+use native.Mathlib.Nat.{pow-succ'}
 use native.Mathlib.Numerals.{add-one}
 use lib.ListN.{length, take, drop, get_or, length-append}
 use lib.Seq.{sets, sets-eq, length-sets, take_at, drop_at, take-suc, take-take, take-add, length-take-le, take_all}
@@ -16,13 +20,11 @@ use Rattle.terms.specs.declared.kind.Kind.{Kind}
 use Rattle.terms.specs.declared.kind.Kind.TheVariants as D
 use Rattle.terms.specs.Numbered.{shape, number_of}
 use borrow.Rule.Slice.PartMut.{put_mid, Post-is}
-use Rattle.rows.proofs.RowLaws.{sets_append}
 use Rattle.text.specs.Reading.{bind}
-use Rattle.text.specs.Writing.{Clean, Lone, kept, place_from, append, Placed, placed, keep, record_of, words_bytes, front_bytes, term_record}
+use Rattle.text.specs.Writing.{Clean, Lone, kept, place_from, append, Placed, placed, keep, words_bytes, front_bytes, term_record}
 use Rattle.text.proofs.Records.{stands, clean_more, kept_more}
-use Rattle.text.proofs.Encoding.{words_length, record_length}
+use Rattle.text.proofs.Encoding.{words_length}
 use Rattle.text.proofs.Placed.{small}
-use Rattle.rows.specs.Layout.{link_bytes}
 use Rattle.rows.specs.Rows as R
 use Rattle.table.specs.Buckets.{TableAs, unless_missing}
 use Rattle.table.specs.Promise.{Grown}
@@ -36,7 +38,7 @@ use Rattle.writer.specs.Written.{room}
 use Rattle.names.specs.declared.kinds.Indices.{Indices}
 use Rattle.names.specs.declared.kinds.Indices.TheVariants as F
 use Rattle.names.specs.Kinds.{shaped, family_of}
-use Rattle.writer.specs.Places.{so_far, row_records, Covered, Ready, Longer, Grows, key_bytes, Encoded}
+use Rattle.writer.specs.Places.{so_far, row_records, Covered, Ready, Longer, Grows, key_bytes}
 use Rattle.writer.proofs.CoverLaws.{part_is, covered_more, covered_table, record_ends, covered_row, found_row, found_rest}
 
 -- ---- bytes put at the end
@@ -237,10 +239,6 @@ module _ {out work : Bytes} {s : Spot} (g : Ready out work s) where
   covered_is : take s.covered (so_far out s) ≡ take s.covered out
   covered_is = take-take s.covered s.done out covered_on
 
-  pub find_bounds : (s.covered ≤ s.done) × (s.done ≤ length out) × (first_terms + s.rows < 65536)
-  unfolding link_bytes
-  find_bounds = (covered_on, g.within, g.rows.table.rows.few)
-
   module _ (w : Bytes) {r : Option ℕ} (told : r ≡ unless_missing (R.place_of w (row_records (take s.covered out) work s.rows))) where
     told_here : r ≡ unless_missing (R.place_of w (row_records (take s.covered (so_far out s)) work s.rows))
     told_here = told ∙ ap (λ (x : Bytes). unless_missing (R.place_of w (row_records x work s.rows))) (sym covered_is)
@@ -255,7 +253,7 @@ module _ {out work : Bytes} {s : Spot} (g : Ready out work s) where
 
 -- ---- a kind with numbers in it
 -- their bytes by the family
-abbrev by_family : Indices → ℕ → ℕ → Bytes
+abbrev pub by_family : Indices → ℕ → ℕ → Bytes
 by_family F.Plain x y = []
 by_family F.Indexed x y = word_bytes x
 by_family F.TwiceIndexed x y = word_bytes x ++ word_bytes y
@@ -319,40 +317,34 @@ front_long k x y = ap length (numbered k x y).front_is ∙ go (shape k)
     go (twice_indexed f) = refl
     go (valued f) = refl
 
-module _ (k : Kind) (x y : ℕ) {q : Indices} (e : q ≡ family_of (shape k)) where
-  front_by : {p : Indices} → q ≡ p → front_bytes (shaped (shape k) x y) ≡ by_family p x y
-  front_by f = (numbered k x y).front_is ∙ ap (λ (p : Indices). by_family p x y) (sym e ∙ f)
+-- the numbers in a kind after what is there
+module _ (k : Kind) (x y : ℕ) {q p : Indices} (e : q ≡ family_of (shape k)) (f : q ≡ p) where
+  front_by : front_bytes (shaped (shape k) x y) ≡ by_family p x y
+  front_by = (numbered k x y).front_is ∙ ap (λ (p : Indices). by_family p x y) (sym e ∙ f)
 
-  pub plain_front : q ≡ F.Plain → front_bytes (shaped (shape k) x y) ≡ []
-  plain_front f = front_by f
+  pub fronted : (key : Bytes) {new : Bytes} → new ≡ key ++ by_family p x y → new ≡ key ++ front_bytes (shaped (shape k) x y)
+  fronted key h = h ∙ ap (λ (bs : Bytes). key ++ bs) (sym front_by)
 
-  pub one_front : q ≡ F.Indexed → front_bytes (shaped (shape k) x y) ≡ word_bytes x
-  one_front f = front_by f
+-- ---- a record, number by number
+-- the first bytes of a number
+low_first : (i k x : ℕ) → bytes_low_first i k x ≡ bytes_of k (x / 256 ^ i)
+low_first i zero x = refl
+low_first i (suc k) x = ap₂ (λ (b : ℕ) (bs : Bytes). b ∷ bs) (here i) (low_first (suc i) k x ∙ ap (bytes_of k) further)
+  where
+    here : (i : ℕ) → byte_at i x ≡ x / 256 ^ i % 256
+    here zero = omega arith
+    here (suc i) = refl
 
-  pub two_front : q ≡ F.TwiceIndexed → front_bytes (shaped (shape k) x y) ≡ word_bytes x ++ word_bytes y
-  two_front f = front_by f
+    further : x / 256 ^ suc i ≡ x / 256 ^ i / 256
+    further = ap (λ (n : ℕ). x / n) (let e : 256 ^ suc i ≡ 256 ^ i * 256 = rw pow-succ' (omega arith) in e) ∙ sym (div-div-eq-div-mul x (256 ^ i) 256)
 
-  pub value_front : q ≡ F.Valued → front_bytes (shaped (shape k) x y) ≡ word_bytes x ++ bytes_of value_bytes y
-  value_front f = front_by f
+take_low : (i k m x : ℕ) → k ≤ m → take k (bytes_low_first i m x) ≡ bytes_low_first i k x
+take_low i zero m x h = refl
+take_low i (suc k) zero x h = absurd (omega arith)
+take_low i (suc k) (suc m) x h = ap (λ (bs : Bytes). byte_at i x ∷ bs) (take_low (suc i) k m x (omega arith))
 
--- ---- a record built in the array
--- the array begins with these bytes
-pub record Built (old key : Bytes) (prefix : Bytes) : Type 0 where
-  pub is : key ≡ sets old 0 prefix
-
-pub built_none : (old : Bytes) → Built old old []
-built_none old = record { is = refl }
-
-pub built_more : {old key : Bytes} {prefix : Bytes} → Built old key prefix → {key' : Bytes} (at : ℕ) (bs : Bytes) → at ≡ length prefix → key' ≡ sets key at bs → Built old key' (prefix ++ bs)
-built_more {old} {key} {prefix} b {key'} at bs e f =
-    let q : at ≡ 0 + length prefix = omega arith in
-    record { is = f ∙ ap₂ (λ (x : Bytes) (j : ℕ). sets x j bs) b.is q ∙ sym (sets_append old 0 prefix bs) }
-
-pub built_read : {old key : Bytes} {prefix : Bytes} → Built old key prefix → length prefix ≤ length old → take (length prefix) key ≡ prefix
-built_read {old} {key} {prefix} b h =
-    let z : 0 + length prefix ≡ length prefix = omega arith in
-    let q : 0 + length prefix ≤ length old = omega arith in
-    ap (take (length prefix)) b.is ∙ ap (λ (n : ℕ). take n (sets old 0 prefix)) (sym z) ∙ put_front old 0 prefix q
+pub low_bytes : (n x : ℕ) → n ≤ 8 → take n (to_le_bytes w64 x) ≡ bytes_of n x
+low_bytes n x h = take_low 0 n 8 x h ∙ low_first 0 n x ∙ ap (bytes_of n) (let e : x / 256 ^ 0 ≡ x = omega arith in e)
 
 words_more : (numbers : List ℕ) (i : ℕ) → i < length numbers → words_bytes (take (i + 1) numbers) ≡ words_bytes (take i numbers) ++ word_bytes (get_or numbers i 0)
 words_more numbers i h = ap words_bytes (ap (λ (j : ℕ). take j numbers) (add-one i) ∙ take-suc numbers i 0 h) ∙ append_words (take i numbers) (get_or numbers i 0)
@@ -364,58 +356,45 @@ words_more numbers i h = ap words_bytes (ap (λ (j : ℕ). take j numbers) (add-
 pub front_few : (o : Op) → length (front_bytes o) ≤ 10
 front_few o = (small o).1
 
--- before argument i: those before it stand after the head, which ends at `start`
-pub record Filled (old key : Bytes) (start : ℕ) (numbers : List ℕ) (i at : ℕ) : Type 0 where
-  pub is : key ≡ sets old start (words_bytes (take i numbers))
-  pub at_is : at ≡ start + 2 * i
-  pub long : length key ≡ key_bytes
-  pub low : start ≤ 14
+-- before argument i: those before it stand after the head
+pub record Filled (head now : Bytes) (numbers : List ℕ) (i : ℕ) : Type 0 where
+  pub is : now ≡ head ++ words_bytes (take i numbers)
+  pub low : length head ≤ 14
   pub on : i ≤ length numbers
   pub few : length numbers ≤ max_arguments
 
-pub fill_start : {key : Bytes} {start : ℕ} {numbers : List ℕ} → length key ≡ key_bytes → start ≤ 14 → length numbers ≤ max_arguments → Filled key key start numbers 0 start
-fill_start l h f = record { is = refl; at_is = omega arith; long = l; low = h; on = omega arith; few = f }
+pub fill_start : {head now : Bytes} {numbers : List ℕ} → now ≡ head → length head ≤ 14 → length numbers ≤ max_arguments → Filled head now numbers 0
+fill_start {head} e h f = record { is = e ∙ sym (append-nil head); low = h; on = omega arith; few = f }
 
-pub fill_turn : {old key : Bytes} {start : ℕ} {numbers : List ℕ} {i at : ℕ} → Filled old key start numbers i at → i < length numbers → {key' : Bytes} → length key' ≡ length key
-    → key' ≡ sets key at (bytes_of 2 (get_or numbers i 0)) → Filled old key' start numbers (i + 1) (at + 2)
-fill_turn {old} {key} {start} {numbers} {i} {at} g h {key'} l e =
+pub fill_room : {head now : Bytes} {numbers : List ℕ} {i : ℕ} → Filled head now numbers i → i < length numbers → length now + 2 ≤ key_bytes
+fill_room {head} {now} {numbers} {i} g h =
+    let l = ap length g.is in
+    let a : length (head ++ words_bytes (take i numbers)) ≡ length head + length (words_bytes (take i numbers)) = length-append head (words_bytes (take i numbers)) in
     let w : length (words_bytes (take i numbers)) ≡ 2 * i = words_length (take i numbers) ∙ ap (λ (n : ℕ). 2 * n) (length-take-le i numbers (omega arith)) in
-    let a = g.at_is in
-    let q : at ≡ start + length (words_bytes (take i numbers)) = omega arith in
-    record {
-      is = e ∙ ap₂ (λ (x : Bytes) (j : ℕ). sets x j (bytes_of 2 (get_or numbers i 0))) g.is q
-          ∙ sym (sets_append old start (words_bytes (take i numbers)) (word_bytes (get_or numbers i 0)))
-          ∙ ap (sets old start) (sym (words_more numbers i h));
-      at_is = omega arith;
-      long = l ∙ g.long;
-      low = g.low;
-      on = omega arith;
-      few = g.few;
-    }
-
--- all of it is the record of the term
-pub fill_end : (old key₁ key₂ : Bytes) {key₃ key : Bytes} (o : Op) (k size : ℕ) {start : ℕ} {ks : List ℕ} {i at : ℕ} → kind o ≡ k
-    → key₁ ≡ sets old 0 (bytes_of 2 (size - 2)) → key₂ ≡ sets key₁ 2 (bytes_of 2 k) → key₃ ≡ sets key₂ 4 (front_bytes o)
-    → start ≡ 4 + length (front_bytes o) → Filled key₃ key start ks i at → length ks ≤ i → length old ≡ key_bytes
-    → size ≡ start + 2 * length ks → Encoded key o ks size
-unfolding term_record
-fill_end old key₁ key₂ {key₃} {key} o k size {start} {ks} {i} {at} ke e₁ e₂ e₃ se g ce lo sz =
     let few = g.few in
     let low = g.low in
+    omega arith
+
+pub fill_turn : {head now next : Bytes} {numbers : List ℕ} {i : ℕ} → Filled head now numbers i → i < length numbers → next ≡ now ++ bytes_of 2 (get_or numbers i 0) → Filled head next numbers (i + 1)
+fill_turn {head} {now} {next} {numbers} {i} g h e = record {
+  is = e ∙ ap (λ (x : Bytes). x ++ word_bytes (get_or numbers i 0)) g.is
+      ∙ append_assoc head (words_bytes (take i numbers)) (word_bytes (get_or numbers i 0))
+      ∙ ap (λ (x : Bytes). head ++ x) (sym (words_more numbers i h));
+  low = g.low;
+  on = omega arith;
+  few = g.few;
+}
+
+-- all of it is the record of the term
+pub fill_end : {now key₀ key₁ key₂ key₃ : Bytes} (o : Op) (k size : ℕ) {ks : List ℕ} {i : ℕ} → kind o ≡ k → key₀ ≡ [] → key₁ ≡ key₀ ++ bytes_of 2 (2 + size) → key₂ ≡ key₁ ++ bytes_of 2 k → key₃ ≡ key₂ ++ front_bytes o
+    → size ≡ length (front_bytes o) + 2 * length ks → Filled key₃ now ks i → length ks ≤ i → now ≡ term_record o ks
+unfolding term_record
+fill_end {now} {key₀} {key₁} {key₂} {key₃} o k size {ks} {i} ke e₀ e₁ e₂ e₃ sz g ce =
     let front = front_bytes o in
     let w : length (words_bytes ks) ≡ 2 * length ks = words_length ks in
     let body : length (front ++ words_bytes ks) ≡ length front + length (words_bytes ks) = length-append front (words_bytes ks) in
-    let b₁ = built_more (built_none old) 0 (bytes_of 2 (size - 2)) refl e₁ in
-    let b₂ = built_more b₁ 2 (bytes_of 2 k) refl e₂ in
-    let b₃ = built_more b₂ 4 front refl e₃ in
-    let hl : length ((word_bytes (size - 2) ++ word_bytes k) ++ front) ≡ 4 + length front = length-append (word_bytes (size - 2) ++ word_bytes k) front in
-    let all : key ≡ sets key₃ start (words_bytes ks) = g.is ∙ ap (λ (x : List ℕ). sets key₃ start (words_bytes x)) (take_all i ks ce) in
-    let b₄ = built_more b₃ start (words_bytes ks) (omega arith) all in
-    let s2 : size - 2 ≡ 2 + length (front ++ words_bytes ks) = omega arith in
-    let whole : ((word_bytes (size - 2) ++ word_bytes k) ++ front) ++ words_bytes ks ≡ record_of (kind o) (front ++ words_bytes ks)
-    = append_assoc (word_bytes (size - 2) ++ word_bytes k) front (words_bytes ks)
-    ∙ ap₂ (λ (m n : ℕ). (word_bytes m ++ word_bytes n) ++ (front ++ words_bytes ks)) s2 (sym ke) in
-    let b : Built old key (record_of (kind o) (front ++ words_bytes ks)) = subst (Built old key) whole b₄ in
-    let l : length (record_of (kind o) (front ++ words_bytes ks)) ≡ 4 + length (front ++ words_bytes ks) = record_length (kind o) (front ++ words_bytes ks) in
-    let rl : size ≡ length (record_of (kind o) (front ++ words_bytes ks)) = omega arith in
-    record { short = omega arith; is = ap (λ (n : ℕ). take n key) rl ∙ built_read b (omega arith) }
+    let long : 2 + size ≡ 2 + length (front ++ words_bytes ks) = omega arith in
+    g.is ∙ ap (λ (x : List ℕ). key₃ ++ words_bytes x) (take_all i ks ce)
+    ∙ ap (λ (x : Bytes). x ++ words_bytes ks) (e₃ ∙ ap (λ (x : Bytes). x ++ front) (e₂ ∙ ap (λ (x : Bytes). x ++ bytes_of 2 k) (e₁ ∙ ap (λ (x : Bytes). x ++ bytes_of 2 (2 + size)) e₀)))
+    ∙ append_assoc (word_bytes (2 + size) ++ word_bytes k) front (words_bytes ks)
+    ∙ ap₂ (λ (m n : ℕ). (word_bytes m ++ word_bytes n) ++ (front ++ words_bytes ks)) long (sym ke)

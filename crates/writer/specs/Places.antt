@@ -2,8 +2,7 @@
 use Rattle.std.specs.Prelude.{◌≡◌, List, ◌++◌, ℕ, ◌≤◌, ◌<◌, length, take, drop}
 use Rattle.theory.specs.Limit.{number_bytes}
 use Rattle.theory.specs.Record.{Bytes, kind_of, step_kind}
-use Rattle.theory.specs.Kind.{Op}
-use Rattle.text.specs.Writing.{Lone, Clean, kept, term_record}
+use Rattle.text.specs.Writing.{Lone, Clean, kept}
 use Rattle.rows.specs.Layout.{link_bytes}
 use Rattle.rows.specs.Rows.{kept_as}
 use Rattle.table.specs.Buckets.{TableAs}
@@ -47,12 +46,6 @@ pub record Grows (out work : Bytes) (end : ℕ) (s : Spot) : Type 0 where
   pub done_is : s.done ≡ end
   pub ready : Ready out work s
 
--- ---- a record, built in an array
 -- the most bytes of a term's record: its length, its kind, the numbers in the kind, its arguments
 abbrev pub key_bytes : ℕ
 key_bytes = 142
-
--- the record of a term stands at the start of the array
-pub record Encoded (key : Bytes) (o : Op) (ks : List ℕ) (size : ℕ) : Type 0 where
-  pub short : size ≤ key_bytes
-  pub is : take size key ≡ term_record o ks

@@ -1,23 +1,27 @@
-// The record of a term, built in an array, and that of a step.
-ghost use Rattle.std.specs.Prelude.{◌≡◌, ◌+◌, ◌≤◌, length};
+// The record of a term, built number by number, and that of a step.
+ghost use Rattle.std.specs.Prelude.{◌≡◌, ◌+◌, ◌≤◌, ◌++◌, length};
 ghost use Rattle.std.proofs.lemmas.List.Edits.{sets};
 ghost use Rattle.theory.specs.Limit.{max_arguments};
+ghost use Rattle.theory.specs.Record.{bytes_of};
 ghost use Rattle.terms.specs.Numbered.{shape};
-ghost use Rattle.text.specs.Writing.{front_bytes, step_record};
+ghost use Rattle.text.specs.Writing.{front_bytes, step_record, term_record};
 ghost use Rattle.names.specs.Kinds.{shaped};
-ghost use Rattle.writer.specs.Places.{Encoded, key_bytes};
+ghost use Rattle.writer.specs.Places.{key_bytes};
 
+use arrayvec::ArrayVec;
 use names::kinds::{Indices, family};
 use rows::bytes::put_number_of;
 use terms::Term;
 use terms::kind::Kind;
 
-// The bytes of an array that is long enough for any term's record: a constant's kind has the
-// most bytes of numbers.
-pub const KEY_BYTES: usize = Term::BODY_AT
+// The bytes of the longest record of a term: a constant's kind has the most bytes of numbers.
+const KEY_BYTES: usize = Term::BODY_AT
     + Term::NUMBER_BYTES
     + Term::VALUE_BYTES
     + Term::NUMBER_BYTES * Term::MAX_ARGUMENTS;
+
+// A term's record.
+pub type Key = ArrayVec<u8, KEY_BYTES>;
 
 // A step's body is the rule's number and the literals, here one ..
 const LITERAL_AT: usize = Term::BODY_AT + Term::NUMBER_BYTES;
@@ -25,45 +29,48 @@ const LITERAL_AT: usize = Term::BODY_AT + Term::NUMBER_BYTES;
 // .. so that it has so many bytes.
 pub const STEP_BYTES: usize = LITERAL_AT + Term::NUMBER_BYTES;
 
-// Stores the numbers in a kind.
-fn put_front(kind: Kind, x: u64, y: u64, key: &mut [u8])
-    requires sized { length key.old ≡ key_bytes }
-    ensures { key.new ≡ sets key.old 4 (front_bytes (shaped (shape kind) x y)) }
+// Appends N bytes of a number.
+fn put<const N: usize>(key: &mut Key, x: u64)
+    requires few { N ≤ 8 }
+    requires room { length key.old.items + N ≤ key_bytes }
+    ensures { key.new.items ≡ key.old.items ++ bytes_of N x }
 {
-    let x = x as usize;
-    let y = y as usize;
-    let second = Term::BODY_AT + Term::NUMBER_BYTES;
+    key.try_extend_from_slice(&x.to_le_bytes()[..N]).unwrap();
+}
+
+// Appends the numbers in a kind.
+fn put_front(kind: Kind, x: u64, y: u64, key: &mut Key)
+    requires room { length key.old.items + 10 ≤ key_bytes }
+    ensures { key.new.items ≡ key.old.items ++ front_bytes (shaped (shape kind) x y) }
+{
     match family(kind) {
         Indices::Plain => {}
-        Indices::Indexed => put_number_of::<{ Term::NUMBER_BYTES }>(key, Term::BODY_AT, x),
+        Indices::Indexed => put::<{ Term::NUMBER_BYTES }>(key, x),
         Indices::TwiceIndexed => {
-            put_number_of::<{ Term::NUMBER_BYTES }>(key, Term::BODY_AT, x);
-            put_number_of::<{ Term::NUMBER_BYTES }>(key, second, y);
+            put::<{ Term::NUMBER_BYTES }>(key, x);
+            put::<{ Term::NUMBER_BYTES }>(key, y);
         }
         Indices::Valued => {
-            put_number_of::<{ Term::NUMBER_BYTES }>(key, Term::BODY_AT, x);
-            put_number_of::<{ Term::VALUE_BYTES }>(key, second, y);
+            put::<{ Term::NUMBER_BYTES }>(key, x);
+            put::<{ Term::VALUE_BYTES }>(key, y);
         }
     }
 }
 
-// Stores the record of a term of a kind with the numbers x and y in it, and returns its size.
-pub fn encode(kind: Kind, x: u64, y: u64, numbers: &[u16], key: &mut [u8]) -> usize
-    requires sized { length key.old ≡ key_bytes }
+// The record of a term of a kind with the numbers x and y in it.
+pub fn encode(kind: Kind, x: u64, y: u64, numbers: &[u16]) -> Key
     requires few { length numbers.now ≤ max_arguments }
-    ensures { Encoded key.new (shaped (shape kind) x y) numbers.now result }
+    ensures { result.items ≡ term_record (shaped (shape kind) x y) numbers.now }
 {
-    let front = kind.form().front;
-    let size = Term::BODY_AT + front + Term::NUMBER_BYTES * numbers.len();
-    put_number_of::<{ Term::NUMBER_BYTES }>(key, 0, size - Term::NUMBER_BYTES);
-    put_number_of::<{ Term::NUMBER_BYTES }>(key, Term::KIND_AT, u32::from(kind) as usize);
-    put_front(kind, x, y, key);
-    let mut at = Term::BODY_AT + front;
+    let body = kind.form().front + Term::NUMBER_BYTES * numbers.len();
+    let mut key = Key::new();
+    put::<{ Term::NUMBER_BYTES }>(&mut key, (Term::NUMBER_BYTES + body) as u64);
+    put::<{ Term::NUMBER_BYTES }>(&mut key, u64::from(u32::from(kind)));
+    put_front(kind, x, y, &mut key);
     for &number in numbers {
-        put_number_of::<{ Term::NUMBER_BYTES }>(key, at, usize::from(number));
-        at += Term::NUMBER_BYTES;
+        put::<{ Term::NUMBER_BYTES }>(&mut key, u64::from(number));
     }
-    size
+    key
 }
 
 // Stores the record of a step with one literal.

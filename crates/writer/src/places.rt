@@ -10,7 +10,7 @@ ghost use Rattle.text.proofs.Facts.{Clean-prop};
 ghost use Rattle.names.specs.Kinds.{op_of};
 ghost use Rattle.writer.specs.Places.{Ready, Longer, Grows};
 
-use super::encode::{KEY_BYTES, STEP_BYTES, encode, store_step};
+use super::encode::{STEP_BYTES, encode, store_step};
 use super::records::Records;
 use names::kinds::Operator;
 use rows::FIRST_PLACE;
@@ -167,9 +167,7 @@ impl<'a> Writer<'a> {
             Operator::False => return Some(1),
             Operator::Of(kind, x, y) => (kind, x, y),
         };
-        let mut key = [0u8; KEY_BYTES];
-        let size = encode(kind, x, y, numbers, &mut key);
-        self.keep(&key[..size])
+        self.keep(encode(kind, x, y, numbers).as_slice())
     }
 
     // Puts a step with one literal; none where it does not fit, or where the literal's number has

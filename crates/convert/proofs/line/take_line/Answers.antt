@@ -2,6 +2,8 @@ use mathlib.Core.Path.{◌∙◌}
 use Rattle.words.proofs.ReadLaws.{told_none, reads_none, is_there, is_absent}
 use Rattle.names.proofs.MarkLaws.{rest_none, rest_some}
 use Rattle.convert.proofs.TakeLaws.{line_1, line_2, line_3, line_4, line_begun, line_undeclared, lined_step, lined_declared}
+use borrow.Author.Rules.{rules}
+use Rattle.convert.proofs.CutLaws.{declared_few}
 use Rattle.convert.proofs.line.take_line.Goals as goal
 
 pub returns-in_err-a-clause-takes : goal.returns-in_err-a-clause-takes
@@ -15,7 +17,7 @@ returns-in_err-declare-clause-takes c = rw c.from_residual-in_err-declare.ensure
 
 pub returns-then-is_some-clause-takes : goal.returns-then-is_some-clause-takes
 returns-then-is_some-clause-takes c =
-    lined_declared c.args.writer.now c.declare.new.writer c.requires.inside c.requires.ends c.requires.goes_on c.requires.between c.declare.result c.if-s.false c.declare.ensures.declares c.in_ok-declare.was
+    lined_declared c.args.line.now c.args.through c.args.writer.now c.declare.new.writer c.args.s c.requires.counted c.requires.follows c.declare.result c.if-s.false c.declare.ensures.declares c.in_ok-declare.was
     (line_4 _ _ _ (rest_some _ c.left_after.ensures c.in_ok-a.was) (rest_some _ c.word_after.ensures (is_there c.word_after.result c.is_some.ensures c.if-is_some.true).1))
 
 pub returns-in_err-b-clause-takes : goal.returns-in_err-b-clause-takes
@@ -30,5 +32,11 @@ returns-in_err-take_step-clause-takes c =
 
 pub returns-clause-takes : goal.returns-clause-takes
 returns-clause-takes c =
-    lined_step c.args.writer.now c.take_step.new.writer c.requires.inside c.requires.ends c.requires.goes_on c.requires.between c.take_step.result (c.take_step.ensures.takes c.args.s.begun) c.in_ok-take_step.was
+    lined_step c.args.line.now c.args.through c.args.writer.now c.take_step.new.writer c.args.s c.requires.counted c.take_step.result (c.take_step.ensures.takes c.args.s.begun) c.in_ok-take_step.was
     (line_3 _ _ _ (rest_some _ c.left_after.ensures c.in_ok-a.was) (rest_none _ c.word_after.ensures (is_absent c.word_after.result c.is_some.ensures c.if-is_some.false)) (rest_some _ c.word_after-2.ensures c.in_ok-b.was))
+
+pub overflow_add-result : goal.overflow_add-result
+overflow_add-result c =
+    let f = declared_few c.args.s.declarations.now in
+    let n = c.requires.counted in
+    search rules
