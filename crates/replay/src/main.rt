@@ -3,11 +3,11 @@
 // A line of the file is five numbers of eight hexadecimal digits, the bytes of work memory lent, of
 // answers lent, and of the job, the width limit and the term limit, and then the job's bytes. What
 // is printed for it: stop code, records done, answers written, terms kept, repeats, and the bytes
-// of the answers. Both lent memories are full of other bytes before. A character that is no digit
-// ends it with an error.
+// of the answers. Both lent memories are full of other bytes before. No character is refused: each
+// is read as a digit, as `digit` says.
 #![tactic(auto)]
 
-ghost use Rattle.std.specs.Prelude.{◌≡◌, ◌≤◌, ◌<◌, IfOk, length};
+ghost use Rattle.std.specs.Prelude.{◌≡◌, ◌≤◌, ◌<◌, length};
 
 use bitblast::bb_job_within;
 use std::io::Read;
@@ -43,29 +43,43 @@ struct Lent {
     answers: [u8; LENT],
 }
 
+// The value of a hexadecimal digit. Any other character has a value too, below 16.
+fn digit(character: u8) -> u8
+    ensures { result < 16 }
+{
+    match character {
+        b'a'.. => (character - b'a') % 6 + 10,
+        b'0'.. => (character - b'0') % 10,
+        _ => 0,
+    }
+}
+
 // Stores the bytes of the digits, two each.
-fn decode(text: &[u8], bytes: &mut [u8]) -> io::Result<()>
+fn decode(text: &[u8], bytes: &mut [u8])
     ensures { length bytes.new ≡ length bytes.old }
 {
-    hex::decode_to_slice(text, bytes).map_err(|_| io::Error::from(io::ErrorKind::InvalidData))
+    for (byte, digits) in bytes.iter_mut().zip(text.chunks_exact(2)) {
+        *byte = digit(digits[0]) * 16 + digit(digits[1]);
+    }
 }
 
 // The number of field k.
-fn field(head: &[u8; HEAD], k: usize) -> io::Result<u32>
+fn field(head: &[u8; HEAD], k: usize) -> u32
     requires { k < 5 }
+    ensures { result < 4294967296 }
 {
     let at = FIELD * k;
     let mut number = [0u8; DIGITS / 2];
-    decode(&head[at..at + DIGITS], &mut number)?;
-    Ok(u32::from_be_bytes(number))
+    decode(&head[at..at + DIGITS], &mut number);
+    u32::from_be_bytes(number)
 }
 
 // The same, but no more than `most`.
-fn capped(head: &[u8; HEAD], k: usize, most: usize) -> io::Result<usize>
+fn capped(head: &[u8; HEAD], k: usize, most: usize) -> usize
     requires { k < 5 }
-    ensures { IfOk result (λ n. n ≤ most) }
+    ensures { result ≤ most }
 {
-    Ok((field(head, k)? as usize).min(most))
+    (field(head, k) as usize).min(most)
 }
 
 // Prints the first n bytes in two hexadecimal digits each, and ends the line.
@@ -107,11 +121,11 @@ fn line<P: Print, R: Read>(rt: &P, file: &mut R, lent: &mut Lent) -> io::Result<
     if read_full(file, &mut head)? < HEAD {
         return Ok(false);
     }
-    let room = capped(&head, 0, LENT)?;
-    let answered = capped(&head, 1, LENT)?;
-    let size = capped(&head, 2, LENT)?;
-    let width = field(&head, 3)?;
-    let terms = field(&head, 4)?;
+    let room = capped(&head, 0, LENT);
+    let answered = capped(&head, 1, LENT);
+    let size = capped(&head, 2, LENT);
+    let width = field(&head, 3);
+    let terms = field(&head, 4);
     if LENT <= 2 * size {
         return Ok(false);
     }
@@ -120,7 +134,7 @@ fn line<P: Print, R: Read>(rt: &P, file: &mut R, lent: &mut Lent) -> io::Result<
     let work = &mut lent.work[..];
     let answers = &mut lent.answers[..];
     read_full(file, &mut text[..2 * size + 1])?;
-    decode(&text[..2 * size], &mut job[..size])?;
+    decode(&text[..2 * size], &mut job[..size]);
     run(
         rt,
         &job[..size],
