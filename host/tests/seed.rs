@@ -101,14 +101,16 @@ fn crafted_terms() {
         let random = time(&job, 100, |work| Seeds::default().put(work));
         assert!(random * 20 < known, "{format:?}: with a seed {random:?}, without {known:?}");
 
-        let mut service = Service::new(WORK, 0);
-        let mut served = || {
+        // The first check of a service, the middle one of five: what else the machine does falls on some of them only.
+        let first_check = |_| {
+            let mut service = Service::new(WORK, 0);
             let begun = Instant::now();
             assert_eq!(service.check(&job).outcome().stop, 0);
             begun.elapsed()
         };
-        let served = (0..10).map(|_| served()).min().unwrap();
-        assert!(served * 10 < known, "{format:?}: in a service {served:?}, without a seed {known:?}");
+        let mut served: Vec<_> = (0..5).map(first_check).collect();
+        served.sort();
+        assert!(served[2] * 10 < known, "{format:?}: in services {served:?}, without a seed {known:?}");
     }
 }
 
