@@ -5,9 +5,11 @@ use mathlib.Core.List.{List, [], ◌∷◌, ◌++◌, append_assoc, append-nil}
 use Rattle.std.specs.Prelude.{Option, None as none, Some as some}
 use Prim.Native.Nat.{ℕ, suc, ◌+◌, ◌-◌, ◌<◌, ◌≤◌}
 use native.Mathlib.Omega.{arith}
+use native.Mathlib.Numerals.{add-one}
 use lib.Dec.{ltb}
 use borrow.Author.Tests.{lt-ltb, le-ltb}
-use lib.ListN.{length, length-append}
+use lib.ListN.{length, length-append, take, set}
+use lib.Seq.{take-suc-set}
 use Rattle.theory.specs.Limit.{max_arguments}
 use Rattle.theory.specs.Record.{Bytes}
 use Rattle.text.specs.Tokens.{right, after}
@@ -18,6 +20,7 @@ use Rattle.writer.specs.declared.places.Writer.{Writer}
 use Rattle.writer.specs.Written.{job_of, room, Moved}
 use Rattle.writer.proofs.Moves.{moved_none, moved_on}
 use Rattle.reader.specs.declared.reading.Read.{Read}
+use Rattle.reader.specs.declared.reading.List as list
 use Rattle.reader.specs.Reader.{Got, GotAll, got_all, read_write, read_write_all, fitting, before, told_read}
 use Rattle.reader.proofs.ReaderLaws.{none_more, too_many, one_more}
 
@@ -129,3 +132,28 @@ module _ {bs : Bytes} {old now : Writer} {vars : List Declared} {n : ℕ} {numbe
       sym (ap fitting
       (g.leads ∙ ap (λ (z : ℕ). before numbers (read_write_all n vars (room old) z rest (job_of now))) m
       ∙ ap (before numbers) (too_many vars (room old) n rest (job_of now) c)))
+
+-- ---- the list that is filled
+-- before an argument: the list has those before it
+pub record Filling (from : list.List) (old : Writer) (l : list.List) (now : Writer) (vars : List Declared) (n count : ℕ) : Type 0 where
+  pub long : length l.numbers ≡ max_arguments
+  pub filled : l.count ≡ count
+  pub going : Going from.rest.now old now vars n (take l.count l.numbers) count l.rest.now
+
+pub fills : {l : list.List} (w : Writer) {vars : List Declared} {n : ℕ} → length l.numbers ≡ max_arguments → l.count ≡ 0 → Filling l w l w vars n 0
+fills {l} w {vars} {n} long e = record {
+  long = long;
+  filled = e;
+  going = goes w (ap (λ (c : ℕ). take c l.numbers) e);
+}
+
+-- one more number
+pub one_longer : (ks : List ℕ) {c count : ℕ} → length ks ≡ max_arguments → c ≡ count → count < max_arguments → (k : ℕ) → take (count + 1) (set ks count k) ≡ take c ks ++ (k ∷ [])
+one_longer ks {c} {count} long e h k =
+    ap (λ (j : ℕ). take j (set ks count k)) (add-one count) ∙ take-suc-set ks count k (omega arith) ∙ ap (λ (j : ℕ). take j ks ++ (k ∷ [])) (sym e)
+
+pub fills_few : {from l : list.List} {old now : Writer} {vars : List Declared} {n count : ℕ} → Filling from old l now vars n count → l.count ≤ max_arguments
+fills_few f =
+    let few = f.going.few in
+    let filled = f.filled in
+    omega arith

@@ -51,14 +51,14 @@ module _ (vars : List Declared) (room : ℕ) (n : ℕ) (bs job : Bytes) (o : Op)
   at_none f h e = at_more f h ∙ ap (λ (q : Option GotAll). bind q (finish room o)) e
 
 -- a term whose arguments were read and written
-pub branch_reads : (vars : List Declared) (n : ℕ) (bs : Bytes) (o : Op) (rest : Bytes) (old mid new : Writer) {p : Option list.List} {l : list.List} (r : Option Read)
+pub branch_reads : (vars : List Declared) (n : ℕ) (bs : Bytes) (o : Op) (rest : Bytes) (old mid new : Writer) {p : Option (Unit {0})} {u : Unit {0}} (l : list.List) (r : Option Read)
     → ((n ≡ 0) → ⊥) → head vars bs ≡ some (branch o rest) → Moved old mid
-    → told_list mid p ≡ fitting (read_write_all (n - 1) vars (room old) max_arguments rest (job_of old)) → p ≡ some l
+    → told_list mid l p ≡ fitting (read_write_all (n - 1) vars (room old) max_arguments rest (job_of old)) → p ≡ some u
     → told_read new r ≡ finish (room mid) o (got_list mid l)
     → told_read new r ≡ read_write n vars (room old) bs (job_of old)
-branch_reads vars n bs o rest old mid new {p} {l} r f h m g w d =
+branch_reads vars n bs o rest old mid new {p} {u} l r f h m g w d =
     d
     ∙ ap (λ (z : ℕ). finish z o (got_list mid l)) m.memory.out_size
-    ∙ ap (λ (q : Option list.List). bind (told_list mid q) (finish (room old) o)) (sym w)
+    ∙ ap (λ (q : Option (Unit {0})). bind (told_list mid l q) (finish (room old) o)) (sym w)
     ∙ ap (λ (q : Option GotAll). bind q (finish (room old) o)) g
     ∙ sym (at_more vars (room old) n bs (job_of old) o rest f h)

@@ -1,5 +1,5 @@
 -- A term that is read and written at one time; its arguments.
-use Rattle.std.specs.Prelude.{◌≡◌, Bool, true, false, cond, List, [], ◌++◌, ℕ, length}
+use Rattle.std.specs.Prelude.{◌≡◌, Bool, true, false, cond, List, [], ◌++◌, ℕ, length, take}
 use Rattle.std.specs.Prelude as rust
 use Rattle.std.specs.Prelude.{Option, None as none, Some as some}
 use Rattle.theory.specs.Kind.{Op, arity, takes}
@@ -68,8 +68,8 @@ told_read w r = rust.option_map (λ t. got t.number t.rest.now (job_of w)) r
 
 -- arguments that were read and written
 abbrev pub got_list : Writer → list.List → GotAll
-got_list w l = got_all l.numbers.items l.rest.now (job_of w)
+got_list w l = got_all (take l.count l.numbers) l.rest.now (job_of w)
 
--- the same, where there are any
-abbrev pub told_list : Writer → rust.Option list.List → Option GotAll
-told_list w r = rust.option_map (got_list w) r
+-- the same, where they were not refused
+abbrev pub told_list : Writer → list.List → rust.Option (Unit {0}) → Option GotAll
+told_list w l r = rust.option_map (λ u. got_list w l) r
