@@ -1,4 +1,5 @@
 pub mod DigitLaws
 pub mod VariableLaws
 pub mod AssignLaws
+pub mod AskLaws
 pub mod Sets

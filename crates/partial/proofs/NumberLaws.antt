@@ -21,11 +21,7 @@ use Rattle.theory.proofs.Basics.{true_T}
 use Rattle.theory.proofs.Distinct.{tree_0, tree_1}
 use Rattle.theory.proofs.Places.{at_place_is}
 use Rattle.theory.proofs.Run.{good_at}
-use Rattle.terms.specs.Numbered.{refusal_code}
-use Rattle.terms.specs.declared.refusal.Refusal.{Refusal}
-use Rattle.terms.specs.declared.refusal.Refusal.TheVariants as F
 use Rattle.store.specs.Store.{listed}
-use Rattle.store.specs.Shelf.{Shelf}
 use Rattle.table.specs.Promise.{Wiped}
 use Rattle.sweeps.specs.Variables.{is_variable, stands, bits_in, variables, total_bits}
 use Rattle.sweeps.specs.Sweep.{upward}
@@ -35,9 +31,10 @@ use Rattle.sweeps.proofs.Standing.{stands_self}
 use Rattle.marks.specs.Marks.{mark_of, Marks}
 use Rattle.marks.proofs.MarkLaws.{mark_low}
 use Rattle.digits.specs.Digits.{Few}
+use Rattle.store.specs.declared.shelf.Terms.{Terms}
 use Rattle.marks.specs.declared.Asked.{Asked}
 use Rattle.store.specs.KeptTerms.{Holds, kept_terms}
-use Rattle.sweeper.proofs.NumberLaws.{none_at, none_low, list_same}
+use Rattle.sweeper.proofs.NumberLaws.{none_at, list_here, list_same, kept_same}
 use Rattle.counter.proofs.CountLaws.{holds_written}
 use Rattle.evaluation.specs.Cells.{cell_at}
 use Rattle.ternary.specs.Bits.{Closed, Offset}
@@ -176,10 +173,9 @@ module _ (list : Plain) (number values : ℕ) (inputs : Bytes) (output : ℕ) wh
           → derived_number list number values inputs output ≡ record { code = 0; bytes = bits_of list number inputs }
       way_done e = tests_are ∙ ap₂ by_codes r e
 
--- no term has that number
-pub way_unasked : {job work after : Bytes} {n number : ℕ} (x : Refusal) (values : ℕ) (inputs : Bytes) (output : ℕ) → Shelf job work n → (x ≡ F.NotAsked) × (first_terms + n ≤ number) × (after ≡ work)
-    → derived_number (listed job work n) number values inputs output ≡ no_bytes (refusal_code x)
-way_unasked x values inputs output s h = way_none _ _ _ _ _ (none_low s h.1) ∙ ap (λ (y : Refusal). no_bytes (refusal_code y)) (sym h.0)
+-- the terms before they are marked
+pub derived_here : {t : Terms} {job work : Bytes} {n : ℕ} → Holds t job work n → (number values : ℕ) (inputs : Bytes) (output : ℕ) → derived_number (listed job work n) number values inputs output ≡ derived_number (kept_terms t) number values inputs output
+derived_here h number values inputs output = ap (λ (list : Plain). derived_number list number values inputs output) (sym (list_here h))
 
 -- ---- what is left in the memories
 -- a refusal writes no byte
@@ -210,6 +206,10 @@ accepted_of k {values} {inputs} {outputs} d e f g =
     }
 
 -- the asked term is that of the number, in the same list
-module _ {job work after : Bytes} {n number : ℕ} (m : Marks job work n number after) (k : Asked) (h : Holds k.terms job after n) (p : k.place ≡ number) (values : ℕ) (inputs : Bytes) (output : ℕ) where
-  pub derived_same : derived_number (kept_terms k.terms) k.place values inputs output ≡ derived_number (listed job work n) number values inputs output
-  derived_same = ap₂ (λ (list : Plain) (x : ℕ). derived_number list x values inputs output) (list_same m k h p) p
+module _ {job work after : Bytes} {n number : ℕ} (m : Marks job work n number after) (k : Asked) (h : Holds k.terms job after n) (p : k.place ≡ number) where
+  -- and has the cells that it had before
+  pub cells_same : {t : Terms} → Holds t job work n → (values : ℕ) {b : Bool} → b ≡ enough (kept_terms t) values → b ≡ enough (kept_terms k.terms) values
+  cells_same g values e = e ∙ ap (λ (list : Plain). enough list values) (sym (kept_same m k h p g))
+
+  pub derived_same : (values : ℕ) (inputs : Bytes) (output : ℕ) → derived_number (kept_terms k.terms) k.place values inputs output ≡ derived_number (listed job work n) number values inputs output
+  derived_same values inputs output = ap₂ (λ (list : Plain) (x : ℕ). derived_number list x values inputs output) (list_same m k h p) p
