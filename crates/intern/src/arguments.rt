@@ -105,11 +105,11 @@ impl<'a> Arguments<'a> {
         Some(self.sort(0))
     }
 
-    // Have all arguments this sort?
-    pub fn all_are(&self, s: Sort) -> bool
-        ensures { result ≡ all_are (sort_read s) (argument_sorts self.now) }
+    // Have all arguments this sort? `None` is the sort of what has none, as no argument is.
+    pub fn all_are(&self, s: Option<Sort>) -> bool
+        ensures { result ≡ all_are (sort_or_bad s) (argument_sorts self.now) }
     {
-        (0..self.count()).all(|i| self.sort(i) == s)
+        (0..self.count()).all(|i| Some(self.sort(i)) == s)
     }
 
     // Have all arguments one sort, the first's?
@@ -120,7 +120,7 @@ impl<'a> Arguments<'a> {
         let Some(one) = self.first_sort() else {
             return false;
         };
-        self.all_are(one)
+        self.all_are(Some(one))
     }
 
     // Are all arguments bit-vectors of one width?
@@ -133,7 +133,7 @@ impl<'a> Arguments<'a> {
         let Sort::Bv(_) = s else {
             return false;
         };
-        self.all_are(s)
+        self.all_are(Some(s))
     }
 
     // The sort of all arguments joined: bit-vectors whose widths sum to a width.

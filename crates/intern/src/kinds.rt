@@ -91,11 +91,11 @@ pub fn asked_sort(args: &Arguments, asks: Asks) -> Option<Sort>
         Asks::Nothing => Some(Sort::Bool),
         Asks::Width(w) => of_width(w),
         Asks::Value(w, x) => of_value(w, x),
-        Asks::Bools => args.all_are(Sort::Bool).then_some(Sort::Bool),
+        Asks::Bools => args.all_are(Some(Sort::Bool)).then_some(Sort::Bool),
         Asks::Same => args.one_sort().then_some(Sort::Bool),
         Asks::Bit(i) => of_bit(args.first_sort()?, i),
         Asks::Bits => args
-            .all_are(Sort::Bool)
+            .all_are(Some(Sort::Bool))
             .then_some(Sort::Bv(args.count() as u32)),
         Asks::Alike => {
             let s = args.first_sort()?;
