@@ -6,7 +6,7 @@ ghost use Rattle.runs.specs.Walking.{told, job_call};
 ghost use Rattle.bitblast.specs.Asking.{known_call};
 
 use partial::number::known_number;
-use runs::finished::{outcome_of, run_job};
+use runs::finished::run_job;
 use runs::{Outcome, lend};
 use terms::refusal::Refusal;
 
@@ -50,6 +50,6 @@ pub fn bb_known(
     table::wipe(work);
     Known {
         code: known.err().map_or(0, u32::from),
-        outcome: outcome_of(s),
+        outcome: s.outcome(),
     }
 }

@@ -6,7 +6,7 @@ ghost use Rattle.runs.specs.Walking.{told, job_call};
 ghost use Rattle.sweeper.specs.Sweeping.{as_swept as swept_by};
 ghost use Rattle.bitblast.specs.Asking.{as_swept, sweep_call};
 
-use runs::finished::{outcome_of, run_job};
+use runs::finished::run_job;
 use runs::{Outcome, lend};
 use sweeper::sweep_number;
 use terms::refusal::Refusal;
@@ -68,5 +68,5 @@ pub fn bb_sweep(
         Some(_) => Err(Refusal::NotAsked),
     };
     table::wipe(work);
-    Swept::new(swept, outcome_of(s))
+    Swept::new(swept, s.outcome())
 }

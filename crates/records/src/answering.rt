@@ -42,7 +42,16 @@ fn answered_turn(here: &Position, answers: &mut [u8], rule: u32, reply: Reply) -
     ensures turned { result ≡ turn (here.now.answered + 1) here.now.rows 0 }
 {
     let bytes = Term::number_length(here.job);
-    put_answer(answers, bytes, here.answered, here.at, rule, reply);
+    let code = u32::from(reply.verdict);
+    put_answer(
+        answers,
+        bytes,
+        here.answered,
+        here.at,
+        rule,
+        code,
+        reply.depth,
+    );
     Turn {
         answers: here.answered + 1,
         rows: here.rows,

@@ -38,9 +38,14 @@ abbrev pub stop_number : Option Stop → ℕ
 stop_number None = 0
 stop_number (Some s) = stop_code s
 
+-- what the host is told of a job by its numbers: the code that stopped it or 0, the records done, the answers written, the rows kept, the repeats
+abbrev pub returned_of : ℕ → ℕ → ℕ → ℕ → ℕ → Returned
+returned_of stop records answers rows repeats =
+    record { stop = stop; records = records; answers = answers; terms = rows + first_terms; repeats = repeats }
+
 -- what the host would be told if the job ended here
 abbrev pub reached : State → Returned
-reached s = record { stop = stop_number s.stop; records = s.records; answers = s.answers; terms = s.rows + first_terms; repeats = s.repeats }
+reached s = returned_of (stop_number s.stop) s.records s.answers s.rows s.repeats
 
 -- the terms are kept, the answers have room and hold the places of their steps' records, no more records are done than bytes passed, and
 -- no more repeats met than records

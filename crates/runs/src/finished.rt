@@ -1,8 +1,9 @@
 // A job run to its end, for a host or for what is asked of its final store afterwards.
-ghost use Rattle.std.specs.Prelude.{◌≡◌};
-ghost use Rattle.theory.specs.Limit.{rack};
+ghost use Rattle.std.specs.Prelude.{◌≡◌, ◌+◌, ◌<◌, ◌≤◌};
+ghost use Rattle.theory.specs.Limit.{rack, first_terms, max_job};
+ghost use Rattle.rows.specs.Layout.{place_end};
 ghost use Rattle.intern.specs.Interning.{limits_of};
-ghost use Rattle.runs.specs.Walking.{told, reached};
+ghost use Rattle.runs.specs.Walking.{told, returned_of, reached};
 ghost use Rattle.runs.specs.Finished.{Finished, Small};
 
 use crate::walk::{State, walk};
@@ -42,16 +43,31 @@ pub fn run_job(job: &[u8], work: &mut [u8], answers: &mut [u8]) -> State
     run_within(job, work, answers, rack)
 }
 
-// What the host is told of a job that ended so.
-pub fn outcome_of(s: State) -> Outcome
-    requires { Small s }
-    ensures { told result ≡ reached s }
+// What the host is told of a job by its numbers: any code, the records done, the answers written,
+// the rows kept, the repeats.
+pub fn outcome_of(stop: u32, records: usize, answers: usize, rows: usize, repeats: usize) -> Outcome
+    requires few_records { records ≤ max_job }
+    requires few_answers { answers ≤ max_job }
+    requires few_terms { rows + first_terms < place_end }
+    requires few_repeats { repeats ≤ max_job }
+    ensures { told result ≡ returned_of stop records answers rows repeats }
 {
     Outcome {
-        stop: s.stop.map_or(0, u32::from),
-        records: s.records as u32,
-        answers: s.answers as u32,
-        terms: (s.rows + FIRST_PLACE) as u32,
-        repeats: s.repeats as u32,
+        stop,
+        records: records as u32,
+        answers: answers as u32,
+        terms: (rows + FIRST_PLACE) as u32,
+        repeats: repeats as u32,
+    }
+}
+
+impl State {
+    // What the host is told of a job that ended so.
+    pub fn outcome(self) -> Outcome
+        requires { Small self }
+        ensures { told result ≡ reached self }
+    {
+        let stop = self.stop.map_or(0, u32::from);
+        outcome_of(stop, self.records, self.answers, self.rows, self.repeats)
     }
 }

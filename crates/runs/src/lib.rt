@@ -10,7 +10,7 @@ ghost use Rattle.table.specs.Promise.{carried};
 ghost use Rattle.intern.specs.Interning.{limits_of};
 ghost use Rattle.runs.specs.Walking.{told, job_call, Enough, memory_left};
 
-use crate::finished::{outcome_of, run_within};
+use crate::finished::run_within;
 use intern::Limits;
 
 // The longest job, in bytes.
@@ -36,7 +36,7 @@ pub fn check_job(job: &[u8], work: &mut [u8], answers: &mut [u8], limits: Limits
     ensures work { work.new
         ≡ memory_left (limits_of limits) job.now work.old (length answers.old) }
 {
-    outcome_of(run_within(job, work, answers, limits))
+    run_within(job, work, answers, limits).outcome()
 }
 
 // The bytes of work memory that a job of `size` bytes is given of those lent: four for each of its

@@ -21,9 +21,13 @@ use Rattle.steps.specs.declared.answers.Reply.{Reply}
 abbrev pub equation_depth : Term → ℕ
 equation_depth t = either 0 (λ p. depth p.1) (sides t)
 
+-- an answer of three numbers: its rule, its code and its depth
+abbrev pub noted : ℕ → ℕ → ℕ → Answer
+noted rule code depth = record { rule = rule; code = code; depth = depth }
+
 -- a reply with its rule
 abbrev pub given : ℕ → Reply → Answer
-given rule r = record { rule = rule; code = code_of (verdict_of r.verdict); depth = r.depth }
+given rule r = noted rule (code_of (verdict_of r.verdict)) r.depth
 
 -- ---- the answers' memory while the job runs; a depth has b bytes, as many as a term's number
 -- the bytes of an answer before its rule

@@ -7,7 +7,7 @@ ghost use Rattle.theory.specs.Limit.{answer_bytes, max_job};
 ghost use Rattle.theory.proofs.Facts.{kept_facts};
 ghost use Rattle.terms.specs.Bodies.{Length};
 ghost use Rattle.rows.specs.Layout.{Bounded, number_end};
-ghost use Rattle.steps.specs.Answering.{given, step_place, step_code, with_notes, sealed};
+ghost use Rattle.steps.specs.Answering.{noted, step_place, step_code, with_notes, sealed};
 
 use operand_rules::Verdict;
 use rows::bytes::{number, put_number};
@@ -26,17 +26,24 @@ const ANSWER_KIND: usize = 200;
 
 // Stores answer k while the job runs: the place of the step's record, the rule, the code and the
 // depth.
-pub fn put_answer(d: &mut [u8], bytes: usize, k: usize, place: usize, rule: u32, reply: Reply)
+pub fn put_answer(
+    d: &mut [u8],
+    bytes: usize,
+    k: usize,
+    place: usize,
+    rule: u32,
+    code: u32,
+    depth: usize,
+)
     requires sized { Length bytes }
     requires room { answer_bytes bytes * suc k ≤ length d.old }
-    ensures { d.new ≡ with_notes bytes d.old k place (given rule reply ∷ []) }
+    ensures { d.new ≡ with_notes bytes d.old k place (noted rule code depth ∷ []) }
 {
     let at = (DEPTH_AT + bytes) * k;
-    let code = u32::from(reply.verdict);
     put_number(d, at, RULE_AT, place);
     put_number(d, at + RULE_AT, Term::NUMBER_BYTES, rule as usize);
     put_number(d, at + CODE_AT, Term::NUMBER_BYTES, code as usize);
-    put_number(d, at + DEPTH_AT, bytes, reply.depth);
+    put_number(d, at + DEPTH_AT, bytes, depth);
 }
 
 // The answers so far, as they stand while the job runs, each with a depth of so many bytes.
