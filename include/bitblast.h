@@ -10,8 +10,9 @@
  * Pointers are not NULL, also where their length is 0, and the lent memories do not overlap. The library has no memory of its
  * own: calls on different memories may run at the same time.
  *
- * Stack: BB_STACK_BYTES are enough for any job and any text. Most of it is used by a text whose terms are nested 200 deep (some
- * 205 KiB), and of jobs by a division of width 64 (some 164 KiB), for which a default thread of some C libraries has no room.
+ * Stack: BB_STACK_BYTES are enough for any job and any text. Most of it is used by a division of width 64 (some 164 KiB), for which
+ * a default thread of some C libraries has no room; a text whose terms are nested 200 deep takes some 83 KiB. From outside the
+ * archive wants memcpy and memset, and nothing else.
  *
  * Time: every call ends, but nothing interrupts it. A job may repeat its longest step, a division of width 64, in eight bytes for
  * each answer that has room; such a step took up to twelve milliseconds (docs/PERFORMANCE.md). So the time is bounded by the

@@ -10,7 +10,7 @@ use Prim.Native.Nat.{ℕ, zero, suc, ◌+◌, ◌-◌, ◌*◌, ◌/◌, ◌%◌
 use native.Mathlib.Omega.{arith}
 use native.Mathlib.Nat.{pow-succ'}
 use native.Mathlib.Numerals.{add-one}
-use lib.ListN.{length, take, drop, get_or, length-append}
+use lib.ListN.{length, take, drop, get_or, set, length-append}
 use lib.Seq.{sets, sets-eq, length-sets, take_at, drop_at, take-suc, take-take, take-add, length-take-le, take_all}
 use borrow.Author.Tests.{le-leb, lt-leb}
 use Rattle.theory.specs.Limit.{first_terms, number_bytes, max_arguments, max_job, value_bytes}
@@ -26,6 +26,7 @@ use Rattle.text.proofs.Records.{stands, clean_more, kept_more}
 use Rattle.text.proofs.Encoding.{words_length}
 use Rattle.text.proofs.Placed.{small}
 use Rattle.rows.specs.Rows as R
+use Rattle.rows.proofs.RowLaws.{sets_append}
 use Rattle.table.specs.Buckets.{TableAs, unless_missing}
 use Rattle.table.specs.Promise.{Grown}
 use Rattle.table.specs.declared.kept.Added.{Added}
@@ -398,3 +399,14 @@ fill_end {now} {key₀} {key₁} {key₂} {key₃} o k size {ks} {i} ke e₀ e�
     ∙ ap (λ (x : Bytes). x ++ words_bytes ks) (e₃ ∙ ap (λ (x : Bytes). x ++ front) (e₂ ∙ ap (λ (x : Bytes). x ++ bytes_of 2 k) (e₁ ∙ ap (λ (x : Bytes). x ++ bytes_of 2 (2 + size)) e₀)))
     ∙ append_assoc (word_bytes (2 + size) ++ word_bytes k) front (words_bytes ks)
     ∙ ap₂ (λ (m n : ℕ). (word_bytes m ++ word_bytes n) ++ (front ++ words_bytes ks)) long (sym ke)
+
+-- ---- a copy
+pub copy_turn : (old bs : Bytes) (at i : ℕ) → i < length bs → set (sets old at (take i bs)) (at + i) (get_or bs i 0) ≡ sets old at (take (i + 1) bs)
+copy_turn old bs at i h =
+    let l : length (take i bs) ≡ i = length-take-le i bs (omega arith) in
+    ap (λ (j : ℕ). set (sets old at (take i bs)) (at + j) (get_or bs i 0)) (sym l)
+    ∙ sym (sets_append old at (take i bs) (get_or bs i 0 ∷ []))
+    ∙ ap (sets old at) (sym (ap (λ (j : ℕ). take j bs) (add-one i) ∙ take-suc bs i 0 h))
+
+pub copy_end : (old bs : Bytes) (at i : ℕ) → length bs ≤ i → sets old at (take i bs) ≡ sets old at bs
+copy_end old bs at i h = ap (sets old at) (take_all i bs h)

@@ -94,6 +94,20 @@ fn cover(out: &[u8], work: &mut [u8], spot: Spot, end: usize) -> Spot
     }
 }
 
+// Copies bytes to `at`. It is a loop of its own: the kit's copy of a slice would have the archive
+// want memmove from outside.
+#[tactic(auto, using(crate::proofs::PlaceLaws::copy_turn, crate::proofs::PlaceLaws::copy_end))]
+fn copy(out: &mut [u8], at: usize, bytes: &[u8])
+    requires { at + length bytes.now ≤ length out.old }
+    ensures { out.new ≡ sets out.old at bytes.now }
+{
+    let mut i = 0;
+    while i < bytes.len() {
+        out[at + i] = bytes[i];
+        i += 1;
+    }
+}
+
 // Puts a term's record at the end of the job, and returns where the job stands then.
 fn append(bytes: &[u8], out: &mut [u8], work: &mut [u8], spot: Spot) -> Spot
     requires ready { Ready out.old work.old spot }
@@ -105,7 +119,7 @@ fn append(bytes: &[u8], out: &mut [u8], work: &mut [u8], spot: Spot) -> Spot
 {
     let done = spot.done;
     let end = done + bytes.len();
-    out[done..end].copy_from_slice(bytes);
+    copy(out, done, bytes);
     cover(out, work, spot, end)
 }
 

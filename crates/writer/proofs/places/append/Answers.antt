@@ -1,6 +1,6 @@
 use mathlib.Core.Path.{refl}
-use Rattle.writer.proofs.PlaceLaws.{part_set}
+use Rattle.writer.proofs.PlaceLaws.{put_longer}
 use Rattle.writer.proofs.places.append.Goals as goal
 
-pub returns-clause-put : goal.returns-clause-put
-returns-clause-put c = part_set _ _ _ _ c.requires.fits refl c.copy_from_slice.ensures.after
+pub cover-requires : goal.cover-requires
+cover-requires c = put_longer c.requires.ready _ c.requires.fits c.copy.ensures refl c.requires.lone c.requires.low
